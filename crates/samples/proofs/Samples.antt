@@ -3,8 +3,14 @@
 use mathlib.Core.Path.{_≡_, refl}
 use mathlib.Core.List.{map}
 use Rattle.colour.specs.Rop.{ropBit, ropBits}
+use Rattle.surface.specs.Place.{rowBytes, byteAt, monoBit, rowPixels, firstByte, byteCount, inMemory, onSurface}
+use Rattle.surface.specs.Pixels.{across}
+use Rattle.surface.specs.Span.{allOn}
+use Rattle.surface.specs.Format.{targetOf}
+use Rattle.surface.specs.Step.{rowLength, stepOf, dataBytes, dataWords}
+use Rattle.surface.specs.View.{viewAnswer}
 use Rattle.samples.specs.Sheet.{sheet}
 
 pub samples : map (λ line. line .given) sheet ≡ map (λ line. line .said) sheet
-unfolding ropBit ropBits
+unfolding ropBit ropBits rowBytes byteAt monoBit rowPixels firstByte byteCount inMemory onSurface across allOn targetOf rowLength stepOf dataBytes dataWords viewAnswer
 samples = refl

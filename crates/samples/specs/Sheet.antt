@@ -1,9 +1,14 @@
 -- The marked lines of the sample sheet of document 01, as a list: what the definitions give beside what the sheet says.
 -- Assumes nothing.
 use mathlib.Core.List.{List, [], _∷_, map}
-use Prim.Native.Nat.{ℕ}
+use mathlib.Core.Bool.{cond}
+use Prim.Native.Nat.{ℕ, zero, suc, _/_, _%_}
+use lib.Dec.{eqb}
 use Rattle.colour.specs.Convert.{repeated, narrowed}
 use Rattle.colour.specs.Rop.{ropBits}
+use Rattle.surface.specs.Place.{surface, monoBit}
+use Rattle.surface.specs.Step.{stepOf, dataWords}
+use Rattle.surface.specs.View.{viewAnswer}
 
 -- a line of the sheet: the numbers that the definitions give, and those that the sheet says
 pub record Line : Type 0 where
@@ -13,6 +18,16 @@ pub record Line : Type 0 where
 abbrev pub is : List ℕ → List ℕ → Line
 is given said = record { given = given; said = said }
 
+-- the pixels, of n from x on, whose bit is 1 in a row of a mono source
+abbrev pub ones : ℕ → ℕ → List ℕ → List ℕ
+ones zero x row = []
+ones (suc n) x row = cond (eqb (monoBit row (surface 0 4 0) x 0) 1) (x ∷ ones n (suc x) row) (ones n (suc x) row)
+
+-- the pixels of a row of 32 whose bit is 1, where the row's four bytes are a word's, low byte first
+abbrev pub monoPixels : ℕ → List ℕ
+monoPixels word =
+    ones 32 0 (word % 256 ∷ word / 256 % 256 ∷ word / 65536 % 256 ∷ word / 16777216 ∷ [])
+
 abbrev pub sheet : List Line
 sheet =
     -- five bits 1, 8, 16, 31 become 8, 66, 132, 255; six bits 1, 32, 63 become 4, 130, 255
@@ -20,6 +35,12 @@ sheet =
     ∷ is (map (repeated 6) (1 ∷ 32 ∷ 63 ∷ [])) (4 ∷ 130 ∷ 255 ∷ [])
     -- eight bits 7, 8 to five: 0, 1
     ∷ is (map narrowed (7 ∷ 8 ∷ [])) (0 ∷ 1 ∷ [])
+    -- mono word 00000080: pixel 0; 00000100: pixel 15
+    ∷ is (monoPixels 0x80) (0 ∷ []) ∷ is (monoPixels 0x100) (15 ∷ [])
     -- ROP 5A, pattern FF, target 0F: F0
     ∷ is (ropBits 8 0x5a 0xff 0 0x0f ∷ []) (0xf0 ∷ [])
+    -- host mono 9 by 2: packing 1 needs 1 word, packing 3 needs 2
+    ∷ is (map (λ packing. dataWords 0 (stepOf packing 0 9 0) 9 2) (1 ∷ 3 ∷ [])) (1 ∷ 2 ∷ [])
+    -- 24 bpp, stride 7: x = 1 taken, x = 2 refused 7
+    ∷ is (map (λ x. viewAnswer 65536 0 0x40007 x 0 1) (1 ∷ 2 ∷ [])) (0 ∷ 7 ∷ [])
     ∷ []

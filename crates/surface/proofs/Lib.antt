@@ -1,0 +1,10 @@
+pub mod Rows
+pub mod Bytes
+pub mod OnLaws
+pub mod Pixels
+pub mod Lists
+pub mod Rects
+pub mod Corner
+pub mod Spans
+pub mod FormatLaws
+pub mod ViewLaws

@@ -1,0 +1,31 @@
+-- `surface::first_byte` meets its contract: by the test for mono.
+-- Assumes nothing.
+use borrow.Author.Needs.{needs}
+use native.Mathlib.Omega.{arith}
+use mathlib.Core.Path.{_≡_}
+use Prim.Native.Nat.{_*_, _<_, _^_}
+use borrow.Author.Tests.{eq-eqb, ne-eqb}
+use Rattle.surface.specs.Place.{firstByte}
+use Rattle.surface.proofs.Bytes.{product-lt}
+use Rattle.surface.proofs.first_byte.Statement.{statement}
+use Rattle.surface.proofs.first_byte.Tie as tie
+
+returns : tie.Need-returns
+unfolding firstByte
+returns c = (rw (eq-eqb _ _ (c .if1 .taken)), omega arith)
+
+wide-requires : tie.Need-wide-requires
+wide-requires c κs = search needs
+
+mul-result : tie.Need-mul-result
+mul-result c = omega (arith, product-lt 34 3 {a = c .before .before .args .x} {b = c .wide .result} (c .before .before .pre .1) (omega arith))
+
+returns-2 : tie.Need-returns-2
+unfolding firstByte
+returns-2 c = (
+  rw (ne-eqb _ _ (c .before .if1 .left), c .wide .ensures),
+  omega (arith, product-lt 34 3 {a = c .before .before .args .x} {b = c .wide .result} (c .before .before .pre .1) (omega arith)),
+)
+
+pub first-byte-spec : {M : Type 1} → statement M
+first-byte-spec = tie.close (tie.spec returns wide-requires mul-result returns-2)

@@ -1,0 +1,106 @@
+-- Where the bytes of a pixel are, how a pixel is read and written, and when it is on its surface.
+-- A surface is its base, its stride and its bytes per pixel; 0 bytes per pixel is mono, one bit a pixel.
+-- Assumes nothing.
+use mathlib.Core.Path.{_≡_}
+use mathlib.Core.Bool.{Bool, true, cond, _&&_}
+use mathlib.Core.List.{List}
+use Prim.Native.Nat.{ℕ, zero, suc, _+_, _*_, _/_, _%_, _-_, _^_, _<_}
+use lib.Dec.{eqb, ltb}
+use lib.ListN.{getD, set}
+use Rattle.surface.specs.declared.Surface.{Surface}
+
+abbrev pub surface : ℕ → ℕ → ℕ → Surface
+surface base stride bytes = record { base = base; stride = stride; bytes = bytes }
+
+-- ---- the layout, which nothing else knows
+
+-- how many bytes a row has
+unfoldable pub rowBytes : Surface → ℕ
+rowBytes s = s .stride
+
+-- the address of byte number `column` of row y
+unfoldable pub byteAt : Surface → ℕ → ℕ → ℕ
+byteAt s column y = s .base + y * s .stride + column
+
+-- ---- a pixel's bytes
+
+-- byte k of pixel (x, y) of a colour surface
+unfoldable pub byteOf : Surface → ℕ → ℕ → ℕ → ℕ
+byteOf s x y k = byteAt s (x * s .bytes + k) y
+
+-- the number in the n bytes at the addresses `at k`, `at (k + 1)`, .., low byte first
+unfoldable pub readBytes : List ℕ → (ℕ → ℕ) → ℕ → ℕ → ℕ
+readBytes m at k zero = 0
+readBytes m at k (suc n) = getD m (at k) 0 + 256 * readBytes m at (suc k) n
+
+-- the memory with the number v in those bytes
+unfoldable pub writeBytes : (ℕ → ℕ) → ℕ → ℕ → ℕ → List ℕ → List ℕ
+writeBytes at k zero v m = m
+writeBytes at k (suc n) v m = writeBytes at (suc k) n (v / 256) (set m (at k) (v % 256))
+
+unfoldable pub readPx : List ℕ → Surface → ℕ → ℕ → ℕ
+readPx m s x y = readBytes m (byteOf s x y) 0 (s .bytes)
+
+unfoldable pub writePx : List ℕ → Surface → ℕ → ℕ → ℕ → List ℕ
+writePx m s x y v = writeBytes (byteOf s x y) 0 (s .bytes) v m
+
+-- pixel (x, y) of a mono source: bit 7 - (x mod 8) of byte floor(x / 8) of its row
+unfoldable pub monoBit : List ℕ → Surface → ℕ → ℕ → ℕ
+monoBit m s x y = getD m (byteAt s (x / 8) y) 0 / 2 ^ (7 - x % 8) % 2
+
+-- ---- on the surface
+
+-- how many pixels a row has
+unfoldable pub rowPixels : Surface → ℕ
+rowPixels s = cond (eqb (s .bytes) 0) (8 * rowBytes s) (rowBytes s / s .bytes)
+
+-- the bytes of its row that pixel x lies in: the first, and how many
+unfoldable pub firstByte : Surface → ℕ → ℕ
+firstByte s x = cond (eqb (s .bytes) 0) (x / 8) (x * s .bytes)
+
+unfoldable pub byteCount : Surface → ℕ
+byteCount s = cond (eqb (s .bytes) 0) 1 (s .bytes)
+
+-- n bytes of row y from byte `column` on are in a memory of len bytes
+unfoldable pub inMemory : Surface → ℕ → ℕ → ℕ → ℕ → Bool
+inMemory s len column zero y = true
+inMemory s len column (suc n) y = ltb (byteAt s column y) len && inMemory s len (suc column) n y
+
+-- the row has pixel x, and all its bytes are in memory
+unfoldable pub onSurface : Surface → ℕ → ℕ → ℕ → Bool
+onSurface s len x y = ltb x (rowPixels s) && inMemory s len (firstByte s x) (byteCount s) y
+
+-- ---- what functions ask for
+
+-- a surface as registers can name one
+pub record Small (s : Surface) : Type 0 where
+  pub base : s .base < 2 ^ 24
+  pub stride : s .stride < 2 ^ 17
+  pub bytes : s .bytes < 5
+
+-- the same, and not mono
+pub record Colour (s : Surface) : Type 0 where
+  pub small : Small s
+  pub some : 0 < s .bytes
+
+-- a byte whose address can be worked out
+pub record Near (s : Surface) (column y : ℕ) : Type 0 where
+  pub small : Small s
+  pub across : column < 2 ^ 40
+  pub down : y < 2 ^ 40
+
+-- byte k of a colour pixel, in a memory of len bytes
+pub record HasByte (s : Surface) (len x y k : ℕ) : Type 0 where
+  pub colour : Colour s
+  pub low : k < s .bytes
+  pub inside : byteOf s x y k < len
+
+-- a pixel that is on its colour surface, and one that is on its mono surface
+pub record OnColour (s : Surface) (len x y : ℕ) : Type 0 where
+  pub colour : Colour s
+  pub on : onSurface s len x y ≡ true
+
+pub record OnMono (s : Surface) (len x y : ℕ) : Type 0 where
+  pub small : Small s
+  pub mono : s .bytes ≡ 0
+  pub on : onSurface s len x y ≡ true
