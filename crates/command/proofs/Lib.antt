@@ -1,0 +1,3 @@
+pub mod CutLaws
+pub mod Rows
+pub mod Verdicts

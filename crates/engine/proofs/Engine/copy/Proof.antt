@@ -1,0 +1,64 @@
+-- `engine::Engine::copy` meets its contract: refused by the verdict, or painted.
+-- Assumes nothing.
+use borrow.Author.Needs.{needs}
+use mathlib.Core.Path.{_≡_, refl, sym, ap, ap₂, _∙_}
+use lib.ListN.{length}
+use Prim.Native.Nat.{ℕ}
+use Rattle.command.specs.Decode.{target, inkOf, copyTask, copyCut, covered}
+use Rattle.command.specs.Table.{copyVerdict}
+use Rattle.paint.specs.Paint.{state, paint}
+use Rattle.paint.specs.Copy.{asBefore}
+use Rattle.engine.specs.Step.{copied, step, done, refusal, afterRect}
+use Rattle.engine.proofs.Laws.{judged-no, judged-yes, carried-out, painted-as, copy-ready}
+use Rattle.engine.proofs.Engine.copy.Statement.{statement}
+use Rattle.engine.proofs.Engine.copy.Tie as tie
+
+copy-verdict-requires : tie.Need-copy-verdict-requires
+copy-verdict-requires c κs = search needs
+
+refuse-requires : tie.Need-refuse-requires
+refuse-requires c κs = search needs
+
+returns : tie.Need-returns
+unfolding copied
+returns c =
+    let a = c .before .before .before .before .before .before .args in
+    judged-no _ (c .before .before .copy-verdict .result) _ (a .old) (a .mem .now) (c .before .before .copy-verdict .ensures) (c .before .if1 .taken) (c .refuse .ensures)
+
+copy-cut-requires : tie.Need-copy-cut-requires
+copy-cut-requires c κs = search needs
+
+copy-task-requires : tie.Need-copy-task-requires
+copy-task-requires c κs = search needs
+
+paint-rect-requires : tie.Need-paint-rect-requires
+paint-rect-requires c κs =
+    let a = c .before .before .before .before .before .before .before .before .before .args in
+    copy-ready (a .self .bank .regs) (length (a .mem .now)) (c .before .before .copy-task .ensures) (c .before .before .before .copy-cut .ensures) (c .before .before .before .before .before .copy-verdict .ensures) (c .before .before .before .before .if1 .left)
+
+end-rect-requires : tie.Need-end-rect-requires
+end-rect-requires c κs = search needs
+
+same-length : tie.Need-same-length
+same-length c = search needs
+
+returns-2 : tie.Need-returns-2
+unfolding copied copyTask inkOf
+returns-2 c =
+    let a = c .before .before .before .before .before .before .before .before .before .before .before .before .before .args in
+    judged-yes _ (c .before .before .before .before .before .before .before .before .before .copy-verdict .result) _ _ _ (c .before .before .before .before .before .before .before .before .before .copy-verdict .ensures) (c .before .before .before .before .before .before .before .before .if1 .left)
+    (carried-out (c .end-rect .ensures) (painted-as (a .self .bank .pattern) (a .mem .now) (c .before .before .before .before .before .before .copy-task .ensures) (c .before .before .before .before .before .before .before .copy-cut .ensures) refl refl (c .before .before .before .paint-rect .ensures)))
+
+pub copy-spec : {M : Type 1} → statement M
+copy-spec =
+    tie.close
+    (tie.spec
+    copy-verdict-requires
+    refuse-requires
+    returns
+    copy-cut-requires
+    copy-task-requires
+    paint-rect-requires
+    end-rect-requires
+    same-length
+    returns-2)

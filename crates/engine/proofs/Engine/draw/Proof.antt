@@ -1,0 +1,89 @@
+-- `engine::Engine::draw` meets its contract: refused by the verdict, or drawn.
+-- Assumes nothing.
+use borrow.Author.Needs.{needs}
+use mathlib.Core.Path.{_≡_, refl, sym, ap, ap₂, _∙_}
+use lib.ListN.{length}
+use Prim.Native.Nat.{ℕ}
+use Rattle.command.specs.Decode.{target, inkOf, clipOf, lineOf, penOf}
+use Rattle.command.specs.Table.{lineVerdict}
+use Rattle.paint.specs.declared.Ink.{Ink}
+use Rattle.paint.specs.declared.Clip.{Clip}
+use Rattle.paint.specs.Paint.{state, paint}
+use Rattle.line.specs.declared.Line.{Line}
+use Rattle.line.specs.declared.Pen.{Pen}
+use Rattle.line.specs.Line.{points, pointCount}
+use Rattle.line.specs.Stipple.{styleAfter}
+use Rattle.line.specs.Draw.{lineTouches}
+use Rattle.engine.specs.Step.{lined, afterLine}
+use Rattle.engine.proofs.Laws.{judged-no, judged-yes, carried-out, line-ready}
+use Rattle.engine.proofs.Engine.draw.Statement.{statement}
+use Rattle.engine.proofs.Engine.draw.Tie as tie
+
+line-verdict-requires : tie.Need-line-verdict-requires
+line-verdict-requires c κs = search needs
+
+refuse-requires : tie.Need-refuse-requires
+refuse-requires c κs = search needs
+
+returns : tie.Need-returns
+unfolding lined
+returns c =
+    let a = c .before .before .before .before .before .before .args in
+    judged-no _ (c .before .before .line-verdict .result) _ (a .old) (a .mem .now) (c .before .before .line-verdict .ensures) (c .before .if1 .taken) (c .refuse .ensures)
+
+decode-ink-requires : tie.Need-decode-ink-requires
+decode-ink-requires c κs = search needs
+
+decode-clip-requires : tie.Need-decode-clip-requires
+decode-clip-requires c κs = search needs
+
+decode-line-requires : tie.Need-decode-line-requires
+decode-line-requires c κs = search needs
+
+decode-pen-requires : tie.Need-decode-pen-requires
+decode-pen-requires c κs = search needs
+
+paint-line-requires : tie.Need-paint-line-requires
+paint-line-requires c κs =
+    let a = c .before .before .before .before .before .before .before .before .before .before .before .args in
+    line-ready (a .self .bank .regs) (length (a .mem .now)) (c .before .before .before .before .before .decode-ink .ensures) (c .before .before .before .before .decode-clip .ensures) (c .before .before .before .decode-line .ensures) (c .before .before .before .before .before .before .before .line-verdict .ensures) (c .before .before .before .before .before .before .if1 .left)
+
+end-line-requires : tie.Need-end-line-requires
+end-line-requires c κs = search needs
+
+same-length : tie.Need-same-length
+same-length c = search needs
+
+returns-2 : tie.Need-returns-2
+unfolding lined inkOf
+returns-2 c =
+    let a = c .before .before .before .before .before .before .before .before .before .before .before .before .before .before .before .args in
+    let r = a .self .bank .regs in
+    let ink = c .before .before .before .before .before .before .before .before .before .decode-ink .ensures in
+    let clip = c .before .before .before .before .before .before .before .before .decode-clip .ensures in
+    let line = c .before .before .before .before .before .before .before .decode-line .ensures in
+    let pen = c .before .before .before .before .before .before .decode-pen .ensures in
+    let i = c .before .before .before .before .before .before .before .before .before .decode-ink .result in
+    let l = c .before .before .before .before .before .before .before .decode-line .result in
+    judged-yes _ (c .before .before .before .before .before .before .before .before .before .before .before .line-verdict .result) _ _ _ (c .before .before .before .before .before .before .before .before .before .before .before .line-verdict .ensures) (c .before .before .before .before .before .before .before .before .before .before .if1 .left)
+    (carried-out
+    (c .end-line .ensures ∙ ap (afterLine (a .self)) (c .before .before .before .paint-line .ensures .1 ∙ ap₂ (λ (p : Pen) (l : Line). styleAfter p (pointCount l) (r .lineStyle)) pen line))
+    (c .before .before .before .paint-line .ensures .0
+    ∙ ap₂ (λ (i : Ink) (k : Clip). paint (i .target) (lineTouches i (a .self .bank .pattern) k (c .before .before .before .before .before .before .decode-pen .result) (r .lineStyle) (points l)) (state (a .mem .now) 0)) ink clip
+    ∙ ap₂ (λ (p : Pen) (l : Line). paint (target r) (lineTouches (inkOf r) (a .self .bank .pattern) (clipOf r) p (r .lineStyle) (points l)) (state (a .mem .now) 0)) pen line))
+
+pub draw-spec : {M : Type 1} → statement M
+draw-spec =
+    tie.close
+    (tie.spec
+    line-verdict-requires
+    refuse-requires
+    returns
+    decode-ink-requires
+    decode-clip-requires
+    decode-line-requires
+    decode-pen-requires
+    paint-line-requires
+    end-line-requires
+    same-length
+    returns-2)

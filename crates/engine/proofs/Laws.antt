@@ -1,0 +1,109 @@
+-- How a method's outcome is the definition's: a refusal, a command carried out, and the painters' conditions from the verdict.
+-- Assumes nothing.
+use mathlib.Core.Path.{_≡_, refl, sym, ap, ap₂, subst⁻¹, _∙_}
+use mathlib.Core.Logic.{_⊎_}
+use mathlib.Core.Bool.{Bool, true, false, cond, _&&_, false≢true}
+use mathlib.Core.List.{List}
+use Prim.Native.Nat.{ℕ, _+_, _<_, _≤_, _^_}
+use native.Mathlib.Omega.{arith}
+use lib.Dec.{eqb, leb, ltb}
+use lib.ListN.{length}
+use borrow.Author.Tests.{eq-eqb, ne-eqb, lt-ltb, le-ltb, le-leb, lt-leb}
+use Rattle.surface.specs.Pixels.{rect}
+use Rattle.paint.specs.declared.Task.{Task}
+use Rattle.paint.specs.declared.Ink.{Ink}
+use Rattle.paint.specs.declared.Clip.{Clip}
+use Rattle.paint.specs.Paint.{State, state, paint}
+use Rattle.paint.specs.Copy.{asBefore, CanPaint, Orderly}
+use Rattle.line.specs.declared.Line.{Line}
+use Rattle.line.specs.declared.Pen.{Pen}
+use Rattle.line.specs.Draw.{lineTouches, Drawable}
+use Rattle.line.specs.Line.{points, pointCount}
+use Rattle.host.specs.declared.Feed.{Feed}
+use Rattle.host.specs.Host.{byWord, wordsOf, Sizes}
+use Rattle.host.specs.Draw.{hostTouches, Opened, Waits}
+use Rattle.registers.specs.declared.Regs.{Regs}
+use Rattle.command.specs.declared.Cut.{Cut}
+use Rattle.command.specs.Decode.{target, inkOf, clipOf, fillCut, copyCut, covered, fillTask, copyTask, lineOf, penOf, feedOf}
+use Rattle.command.specs.Table.{fillVerdict, copyVerdict, lineVerdict, hostVerdict}
+use Rattle.command.proofs.Verdicts.{fill-can, copy-can, copy-orderly, line-can, host-can, feed-sizes, words-few}
+use Rattle.engine.specs.declared.Engine.{Engine}
+use Rattle.engine.specs.declared.Answer.{Answer}
+use Rattle.engine.specs.declared.Answer.the-variants.{Taken}
+use Rattle.engine.specs.Step.{Step, step, done, refusal}
+
+-- ---- a verdict, and what follows from it
+pub judged-no : (v u : ℕ) (taken : Step) (old : Engine) (m : List ℕ) {a : Answer} → u ≡ v → (u ≡ 0 → ⊥) → a ≡ refusal u
+    → step old m a ≡ cond (eqb v 0) taken (step old m (refusal v))
+judged-no v u taken old m e n r = rw (← e, ne-eqb u 0 n, r)
+
+pub judged-yes : (v u : ℕ) (result taken other : Step) → u ≡ v → u ≡ 0 → result ≡ taken → result ≡ cond (eqb v 0) taken other
+judged-yes v u result taken other e z r = rw (← e, eq-eqb u 0 z) r
+
+pub carried-out : {e e′ : Engine} {st : State} {m : List ℕ} {n : ℕ} → e′ ≡ e → state m n ≡ st → step e′ m (Taken n) ≡ done e st
+carried-out p q = ap₂ (λ (k : Engine) (st : State). step k (st .mem) (Taken (st .count))) p q
+
+-- ---- rectangles
+pub painted-as : {t T : Task} {c C : Cut} (pattern m : List ℕ) {st : State} → t ≡ T → c ≡ C → T .x ≡ C .x → T .y ≡ C .y
+    → st ≡ paint (t .ink .target) (asBefore t pattern m (rect false false (t .x) (t .y) (c .w) (c .h))) (state m 0)
+    → st ≡ paint (T .ink .target) (asBefore T pattern m (covered C)) (state m 0)
+painted-as {t} {T} {c} {C} pattern m e f x y p =
+    p ∙ ap₂ (λ (t : Task) (c : Cut). paint (t .ink .target) (asBefore t pattern m (rect false false (t .x) (t .y) (c .w) (c .h))) (state m 0)) e f
+    ∙ ap₂ (λ (i j : ℕ). paint (T .ink .target) (asBefore T pattern m (rect false false i j (C .w) (C .h))) (state m 0)) x y
+
+abbrev pub CanRect : Task → Cut → ℕ → Type 0
+CanRect t c len = CanPaint t (c .w) (c .h) len × (t .copies ≡ true → Orderly t (c .w) (c .h))
+
+rect-ready : {t T : Task} {c C : Cut} {len : ℕ} → t ≡ T → c ≡ C → CanRect T C len → CanRect t c len
+rect-ready {t} {T} {c} {C} {len} e f h = subst⁻¹ (λ (t : Task). CanRect t c len) e (subst⁻¹ (λ (c : Cut). CanRect T c len) f h)
+
+pub fill-ready : (r : Regs) (len : ℕ) {t : Task} {c : Cut} {v : ℕ} → t ≡ fillTask r → c ≡ fillCut r → v ≡ fillVerdict r len → v ≡ 0 → CanRect t c len
+unfolding fillTask
+fill-ready r len e f g z = rect-ready e f (fill-can r len (sym g ∙ z), λ c. absurd (false≢true c))
+
+pub copy-ready : (r : Regs) (len : ℕ) {t : Task} {c : Cut} {v : ℕ} → t ≡ copyTask r → c ≡ copyCut r → v ≡ copyVerdict r len → v ≡ 0 → CanRect t c len
+copy-ready r len e f g z = rect-ready e f (copy-can r len (sym g ∙ z), λ c. copy-orderly r len (sym g ∙ z))
+
+-- ---- lines
+pub line-ready : (r : Regs) (len : ℕ) {i : Ink} {c : Clip} {l : Line} {v : ℕ} → i ≡ inkOf r → c ≡ clipOf r → l ≡ lineOf r → v ≡ lineVerdict r len → v ≡ 0
+    → Drawable (i .target) len c l
+unfolding inkOf
+line-ready r len {i} {c} {l} e f g h z =
+    subst⁻¹ (λ (i : Ink). Drawable (i .target) len c l) e
+    (subst⁻¹ (λ (c : Clip). Drawable (target r) len c l) f (subst⁻¹ (λ (l : Line). Drawable (target r) len (clipOf r) l) g (line-can r len (sym h ∙ z))))
+
+-- ---- host blits
+pub feed-ready : (r : Regs) {f : Feed} → f ≡ feedOf r → Sizes f
+feed-ready r e = subst⁻¹ Sizes e (feed-sizes r)
+
+pub word-ready : (r : Regs) (len : ℕ) {i : Ink} {c : Clip} {f : Feed} {v words taken : ℕ} → i ≡ inkOf r → c ≡ clipOf r → f ≡ feedOf r
+    → v ≡ hostVerdict r len → v ≡ 0 → words ≡ wordsOf f → taken < words → Waits i c f len taken
+word-ready r len {i} {c} {f} {v} {words} {taken} p q e g z w h =
+    let k : words ≡ wordsOf (feedOf r) = w ∙ ap wordsOf e in
+    let open′ = host-can r len (sym g ∙ z) (omega arith) in
+    record {
+      opened = subst⁻¹ (λ (i : Ink). Opened i c f len) p (subst⁻¹ (λ (c : Clip). Opened (inkOf r) c f len) q (subst⁻¹ (λ (f : Feed). Opened (inkOf r) (clipOf r) f len) e open′));
+      few = omega (arith, words-few r);
+    }
+
+-- ---- by the number of the command
+abbrev pub picked : ℕ → Step → Step → Step → Step → Step → Step → Step
+picked n nop copy host fill line other =
+    cond (eqb n 0) nop (cond (eqb n 1) copy (cond (eqb n 3) host (cond (eqb n 5) fill (cond (leb 6 n && ltb n 8) line other))))
+
+module _ (n : ℕ) (nop copy host fill line other : Step) (a : n ≡ 0 → ⊥) (b : n ≡ 1 → ⊥) (c : n ≡ 3 → ⊥) (d : n ≡ 5 → ⊥) where
+  pub pick-line : 5 ≤ n → n < 8 → line ≡ picked n nop copy host fill line other
+  pick-line l h = rw (ne-eqb n 0 a, ne-eqb n 1 b, ne-eqb n 3 c, ne-eqb n 5 d, le-leb 6 n (omega arith), lt-ltb n 8 h)
+
+  pub pick-low : n < 5 → other ≡ picked n nop copy host fill line other
+  pick-low h = rw (ne-eqb n 0 a, ne-eqb n 1 b, ne-eqb n 3 c, ne-eqb n 5 d, lt-leb 6 n (omega arith))
+
+  pub pick-high : 8 ≤ n → other ≡ picked n nop copy host fill line other
+  pick-high h = rw (ne-eqb n 0 a, ne-eqb n 1 b, ne-eqb n 3 c, ne-eqb n 5 d, le-leb 6 n (omega arith), le-ltb n 8 h)
+
+-- ---- by whether a blit waits
+pub waits : (t : Bool) (yes′ no′ : Step) → t ≡ true → yes′ ≡ cond t yes′ no′
+waits t yes′ no′ e = ap (λ b. cond b yes′ no′) (sym e)
+
+pub rests : (t : Bool) (yes′ no′ : Step) → t ≡ false → no′ ≡ cond t yes′ no′
+rests t yes′ no′ e = ap (λ b. cond b yes′ no′) (sym e)

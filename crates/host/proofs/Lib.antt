@@ -1,0 +1,7 @@
+pub mod Places
+pub mod Finished
+pub mod Needed
+pub mod Drawing
+pub mod Touched
+pub mod Values
+pub mod Whole

@@ -1,0 +1,167 @@
+-- Laws of drawing: what is touched is what is covered, each covered pixel is inside the clip and none comes twice; and one turn of a loop over the points.
+-- Assumes nothing.
+use mathlib.Core.Path.{_≡_, refl, sym, ap, ap₂, subst, _∙_}
+use mathlib.Core.Logic.{⊎-elim}
+use mathlib.Core.Bool.{Bool, true, false, not, _&&_, _||_, and-true}
+use mathlib.Core.List.{List, [], _∷_, map, List·Memᴰ, List·Memᴰ·head, List·Memᴰ·tail, List·Memᴰ·not-nil, List·Memᴰ·cases-cons, Memᴰ·map}
+use Prim.Native.Nat.{ℕ, zero, suc, _+_, _-_, _<_, _≤_}
+use native.Mathlib.Omega.{arith}
+use borrow.Author.Tests.{ltb-true, leb-true}
+use lib.Dec.{leb, ltb}
+use Rattle.surface.specs.declared.Surface.{Surface}
+use Rattle.surface.specs.Place.{onSurface, readPx}
+use Rattle.surface.specs.Pixels.{Px}
+use Rattle.surface.specs.Span.{allOn}
+use Rattle.surface.proofs.OnLaws.{and-left, and-right}
+use Rattle.surface.proofs.Lists.{In}
+use Rattle.surface.proofs.Rects.{Distinct}
+use Rattle.paint.specs.declared.Clip.{Clip}
+use Rattle.paint.specs.declared.Ink.{Ink}
+use Rattle.paint.specs.declared.Source.{Source}
+use Rattle.paint.specs.Paint.{State, state, dab, Touch, paint}
+use Rattle.paint.specs.Pattern.{patternValue}
+use Rattle.paint.specs.Mix.{bitSource, mixed}
+use Rattle.paint.specs.Clip.{origin, inClip, pixelAt}
+use Rattle.paint.proofs.ClipLaws.{Covered, in-clip}
+use Rattle.line.specs.declared.Point.{Point}
+use Rattle.line.specs.declared.Line.{Line}
+use Rattle.line.specs.declared.Pen.{Pen}
+use Rattle.line.specs.Line.{longer, pointAt, pointsFrom, pointCount, points}
+use Rattle.line.specs.Stipple.{stippleBit, after}
+use Rattle.line.specs.Draw.{coveredPoints, lineTouches, lineOff}
+use Rattle.line.proofs.Sides.{either, count-le}
+use Rattle.line.proofs.PointLaws.{from-each, points-differ, same-point, from-cons, from-none}
+
+not-and : (a b : Bool) → not (a && b) ≡ (not a || not b)
+not-and true b = refl
+not-and false b = refl
+
+-- ---- what is touched is what is covered
+pub touches-covered : (ink : Ink) (pattern : List ℕ) (c : Clip) (pen : Pen) (style : ℕ) (ps : List Point)
+    → map (λ t. t .at) (lineTouches ink pattern c pen style ps) ≡ coveredPoints c ps
+unfolding lineTouches coveredPoints
+touches-covered ink pattern c pen style [] = refl
+touches-covered ink pattern c pen style (p ∷ ps) =
+    let more = touches-covered ink pattern c pen (after pen style) ps in
+    either (inClip c (p .x) (p .y)) (λ e. rw e (ap (λ (qs : List Px). pixelAt (p .x) (p .y) ∷ qs) more)) (λ e. rw e more)
+
+-- what holds of each point inside the clip holds of each covered pixel
+covered-each : (P : Px → Type 0) (c : Clip) (ps : List Point)
+    → ((p : Point) → List·Memᴰ p ps → inClip c (p .x) (p .y) ≡ true → P (pixelAt (p .x) (p .y))) → (q : Px) → In q (coveredPoints c ps) → P q
+unfolding coveredPoints
+covered-each P c [] f q m = absurd (List·Memᴰ·not-nil m)
+covered-each P c (p ∷ ps) f q m =
+    let more = covered-each P c ps (λ r n. f r (List·Memᴰ·tail n)) q in
+    either (inClip c (p .x) (p .y))
+    (λ e. ⊎-elim (λ w. subst P (sym w) (f p (List·Memᴰ·head refl) e)) more (List·Memᴰ·cases-cons (rw e at m)))
+    (λ e. more (rw e at m))
+
+pub covered-in-clip : (c : Clip) (ps : List Point) (q : Px) → In q (coveredPoints c ps) → inClip c (origin + q .x) (origin + q .y) ≡ true
+covered-in-clip c ps = covered-each (λ q. inClip c (origin + q .x) (origin + q .y) ≡ true) c ps (λ p m e.
+    let h = in-clip c (p .x) (p .y) e in
+    let x : origin + (p .x - origin) ≡ p .x = omega arith in
+    let y : origin + (p .y - origin) ≡ p .y = omega arith in
+    ap₂ (inClip c) x y ∙ e)
+
+pub touched-in-clip : (ink : Ink) (pattern : List ℕ) (c : Clip) (pen : Pen) (style : ℕ) (ps : List Point) (t : Touch)
+    → List·Memᴰ t (lineTouches ink pattern c pen style ps) → inClip c (origin + t .at .x) (origin + t .at .y) ≡ true
+touched-in-clip ink pattern c pen style ps t m =
+    covered-in-clip c ps (t .at) (subst (In (t .at)) (touches-covered ink pattern c pen style ps) (Memᴰ·map (λ u. u .at) m))
+
+-- ---- no pixel comes twice
+same-pixel : (c : Clip) (p q : Point) → inClip c (p .x) (p .y) ≡ true → inClip c (q .x) (q .y) ≡ true
+    → pixelAt (p .x) (p .y) ≡ pixelAt (q .x) (q .y) → p ≡ q
+same-pixel c p q e f g =
+    let a = in-clip c (p .x) (p .y) e in
+    let b = in-clip c (q .x) (q .y) f in
+    let x : p .x - origin ≡ q .x - origin = ap (λ (r : Px). r .x) g in
+    let y : p .y - origin ≡ q .y - origin = ap (λ (r : Px). r .y) g in
+    same-point p q (omega arith) (omega arith)
+
+from-distinct : (c : Clip) (l : Line) (i k : ℕ) → i + k ≤ longer l + 1 → Distinct (coveredPoints c (pointsFrom l i k))
+unfolding coveredPoints pointsFrom
+from-distinct c l i zero h = tt
+from-distinct c l i (suc k) h =
+    let more = from-distinct c l (i + 1) k (omega arith) in
+    let p = pointAt l i in
+    either (inClip c (p .x) (p .y))
+    (λ e. rw e (
+      covered-each (λ q. pixelAt (p .x) (p .y) ≡ q → ⊥) c (pointsFrom l (i + 1) k)
+          (from-each (λ q. inClip c (q .x) (q .y) ≡ true → pixelAt (p .x) (p .y) ≡ pixelAt (q .x) (q .y) → ⊥) l (i + 1) k (λ j a b f g.
+          let s = points-differ l i j (omega arith) (omega arith) (same-pixel c p (pointAt l j) e f g) in omega arith)),
+      more,
+    ))
+    (λ e. rw e more)
+
+pub covered-distinct : (c : Clip) (l : Line) → Distinct (coveredPoints c (points l))
+unfolding points
+covered-distinct c l = from-distinct c l 0 (pointCount l) (omega (arith, count-le l))
+
+-- ---- one point
+module _ (s : Surface) (len : ℕ) (c : Clip) (p : Point) where
+  pub point-on : allOn s len (coveredPoints c (p ∷ [])) ≡ true → inClip c (p .x) (p .y) ≡ true → onSurface s len (p .x - origin) (p .y - origin) ≡ true
+  unfolding allOn coveredPoints
+  point-on e h = and-left _ _ (rw h at e)
+
+  pub off-covered : (t : Bool) → t ≡ onSurface s len (p .x - origin) (p .y - origin) → inClip c (p .x) (p .y) ≡ true → not t ≡ lineOff s len c (p ∷ [])
+  unfolding lineOff allOn coveredPoints
+  off-covered t e h = rw (h, and-true) (ap not e)
+
+  pub off-clipped : inClip c (p .x) (p .y) ≡ false → false ≡ lineOff s len c (p ∷ [])
+  unfolding lineOff allOn coveredPoints
+  off-clipped h = rw h
+
+module _ (ink : Ink) (pattern : List ℕ) (c : Clip) (pen : Pen) (p : Point) (style n : ℕ) (m : List ℕ) where
+  pub paint-covered : {value bit k : ℕ} {source : Source} {m′ : List ℕ} → inClip c (p .x) (p .y) ≡ true
+      → value ≡ patternValue ink pattern (p .x - origin) (p .y - origin) → bit ≡ stippleBit pen style → source ≡ bitSource ink bit
+      → state m′ k ≡ dab (ink .target) (pixelAt (p .x) (p .y)) (mixed ink value source (readPx m (ink .target) (p .x - origin) (p .y - origin))) (state m n)
+      → state m′ k ≡ paint (ink .target) (lineTouches ink pattern c pen style (p ∷ [])) (state m n)
+  unfolding paint lineTouches
+  paint-covered h v b s e = rw (h, ← v, ← b, ← s) e
+
+  pub paint-clipped : inClip c (p .x) (p .y) ≡ false → state m n ≡ paint (ink .target) (lineTouches ink pattern c pen style (p ∷ [])) (state m n)
+  unfolding paint lineTouches
+  paint-clipped h = rw h
+
+-- ---- one point, and the others
+module _ (s : Surface) (len : ℕ) (c : Clip) (p : Point) (ps : List Point) where
+  pub on-turn : allOn s len (coveredPoints c (p ∷ ps)) ≡ (allOn s len (coveredPoints c (p ∷ [])) && allOn s len (coveredPoints c ps))
+  unfolding allOn coveredPoints
+  on-turn = either (inClip c (p .x) (p .y)) (λ e. rw (e, and-true)) (λ e. rw e)
+
+  pub off-turn : lineOff s len c (p ∷ ps) ≡ (lineOff s len c (p ∷ []) || lineOff s len c ps)
+  unfolding lineOff
+  off-turn = rw on-turn (not-and (allOn s len (coveredPoints c (p ∷ []))) (allOn s len (coveredPoints c ps)))
+
+pub paint-turn : (ink : Ink) (pattern : List ℕ) (c : Clip) (pen : Pen) (style : ℕ) (p : Point) (ps : List Point) (st : State)
+    → paint (ink .target) (lineTouches ink pattern c pen style (p ∷ ps)) st
+    ≡ paint (ink .target) (lineTouches ink pattern c pen (after pen style) ps) (paint (ink .target) (lineTouches ink pattern c pen style (p ∷ [])) st)
+unfolding paint lineTouches
+paint-turn ink pattern c pen style p ps st = either (inClip c (p .x) (p .y)) (λ e. rw e) (λ e. rw e)
+
+-- ---- the points that a loop has left
+module _ (s : Surface) (len : ℕ) (c : Clip) (l : Line) (i e : ℕ) where
+  pub on-left : i < e → allOn s len (coveredPoints c (pointsFrom l i (e - i))) ≡ true
+      → (allOn s len (coveredPoints c (pointAt l i ∷ [])) ≡ true) × (allOn s len (coveredPoints c (pointsFrom l (i + 1) (e - (i + 1)))) ≡ true)
+  on-left h q =
+      let r = sym (on-turn s len c (pointAt l i) (pointsFrom l (i + 1) (e - (i + 1)))) ∙ (rw (from-cons l i e h) at q) in
+      (and-left _ (allOn s len (coveredPoints c (pointsFrom l (i + 1) (e - (i + 1))))) r, and-right (allOn s len (coveredPoints c (pointAt l i ∷ []))) _ r)
+
+  pub off-left : (p : Point) (t : Bool) → i < e → p ≡ pointAt l i → t ≡ lineOff s len c (p ∷ [])
+      → (t || lineOff s len c (pointsFrom l (i + 1) (e - (i + 1)))) ≡ lineOff s len c (pointsFrom l i (e - i))
+  off-left p t h q r = rw (from-cons l i e h, off-turn, r, q)
+
+  pub off-none : e ≤ i → false ≡ lineOff s len c (pointsFrom l i (e - i))
+  unfolding lineOff allOn coveredPoints
+  off-none h = rw (from-none l i e h)
+
+module _ (ink : Ink) (pattern : List ℕ) (c : Clip) (pen : Pen) (l : Line) (i e style : ℕ) (st : State) where
+  pub paint-left : {p : Point} {next : ℕ} {st′ : State} → i < e → p ≡ pointAt l i → next ≡ after pen style
+      → st′ ≡ paint (ink .target) (lineTouches ink pattern c pen style (p ∷ [])) st
+      → paint (ink .target) (lineTouches ink pattern c pen next (pointsFrom l (i + 1) (e - (i + 1)))) st′
+      ≡ paint (ink .target) (lineTouches ink pattern c pen style (pointsFrom l i (e - i))) st
+  paint-left h p n q = rw (from-cons l i e h, q, n, p) (sym (paint-turn ink pattern c pen style (pointAt l i) (pointsFrom l (i + 1) (e - (i + 1))) st))
+
+  pub paint-none : e ≤ i → paint (ink .target) (lineTouches ink pattern c pen style (pointsFrom l i (e - i))) st ≡ st
+  unfolding paint lineTouches
+  paint-none h = rw (from-none l i e h)

@@ -1,0 +1,5 @@
+pub mod Sides
+pub mod PointLaws
+pub mod StippleLaws
+pub mod DrawLaws
+pub mod LineSamples

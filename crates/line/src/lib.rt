@@ -1,0 +1,251 @@
+// Lines and polylines: their points, the stipple's phase, whether they are on the surface, and drawing them.
+use paint::Clip;
+use paint::Ink;
+use surface::Surface;
+ghost use mathlib.Core.Path.{_≡_};
+ghost use mathlib.Core.List.{[], _∷_};
+ghost use Prim.Native.Nat.{_+_, _<_, _≤_};
+ghost use lib.ListN.{length};
+ghost use Rattle.surface.specs.Place.{Small};
+ghost use Rattle.paint.specs.Paint.{state, paint};
+ghost use Rattle.paint.specs.Clip.{Bits12};
+ghost use Rattle.line.specs.Line.{far, towards, xMajor, longer, shorter, aside, place, pointAt, pointCount, points, Placed};
+ghost use Rattle.line.specs.Stipple.{stepped, stippleBit, after, styleAfter};
+ghost use Rattle.line.specs.Draw.{lineTouches, lineOff, Testable, Drawable, DrawablePoint};
+
+pub struct Point {
+    pub x: u32,
+    pub y: u32,
+}
+
+// From (x0, y0) to (x1, y1); poly: a part of a polyline, without its last point.
+pub struct Line {
+    pub x0: u32,
+    pub y0: u32,
+    pub x1: u32,
+    pub y1: u32,
+    pub poly: bool,
+}
+
+pub struct Pen {
+    pub stipple: u32,
+    pub stippled: bool,
+}
+
+// What a line leaves: the word lineStyle, and how many pixels it wrote.
+pub struct LineDone {
+    pub style: u32,
+    pub count: u32,
+}
+
+fn distance(a: u32, b: u32) -> u32
+    ensures { λ r. ⌜ r ≡ far a b ⌝ }
+{
+    if a < b { b - a } else { a - b }
+}
+
+// k steps from a towards b.
+fn moved(a: u32, b: u32, k: u32) -> u32
+    requires { ⌜ k ≤ far a b ⌝ }
+    ensures { λ r. ⌜ r ≡ towards a b k ⌝ }
+{
+    if a <= b { a + k } else { a - k }
+}
+
+fn x_major(l: Line) -> bool
+    ensures { λ r. ⌜ r ≡ xMajor l ⌝ }
+{
+    distance(l.y0, l.y1) <= distance(l.x0, l.x1)
+}
+
+fn long_side(l: Line) -> u32
+    ensures { λ r. ⌜ r ≡ longer l ⌝ }
+{
+    if x_major(l) {
+        distance(l.x0, l.x1)
+    } else {
+        distance(l.y0, l.y1)
+    }
+}
+
+fn short_side(l: Line) -> u32
+    ensures { λ r. ⌜ r ≡ shorter l ⌝ }
+{
+    if x_major(l) {
+        distance(l.y0, l.y1)
+    } else {
+        distance(l.x0, l.x1)
+    }
+}
+
+fn point_count(l: Line) -> u32
+    requires { ⌜ Placed l ⌝ }
+    ensures { λ r. ⌜ r ≡ pointCount l ⌝ }
+{
+    if l.poly {
+        long_side(l)
+    } else {
+        long_side(l) + 1
+    }
+}
+
+// The point a steps along the major axis and b along the minor.
+fn place_point(l: Line, a: u32, b: u32) -> Point
+    requires { ⌜ (a ≤ longer l) × (b ≤ shorter l) ⌝ }
+    ensures { λ r. ⌜ r ≡ place l a b ⌝ }
+{
+    if x_major(l) {
+        Point {
+            x: moved(l.x0, l.x1, a),
+            y: moved(l.y0, l.y1, b),
+        }
+    } else {
+        Point {
+            x: moved(l.x0, l.x1, b),
+            y: moved(l.y0, l.y1, a),
+        }
+    }
+}
+
+// The steps along the minor axis at point i.
+fn steps_aside(n: u32, m: u32, i: u32) -> u32
+    requires { ⌜ (n < 8192) × ((m ≤ n) × (i ≤ n)) ⌝ }
+    ensures { λ r. ⌜ r ≡ aside n m i ⌝ }
+{
+    if n == 0 { 0 } else { (2 * i * m + n) / (2 * n) }
+}
+
+fn line_point(l: Line, i: u32) -> Point
+    requires { ⌜ Placed l × (i ≤ longer l) ⌝ }
+    ensures { λ r. ⌜ r ≡ pointAt l i ⌝ }
+{
+    place_point(l, i, steps_aside(long_side(l), short_side(l), i))
+}
+
+// The word lineStyle after a point of a stippled line.
+fn style_step(style: u32) -> u32
+    ensures { λ r. ⌜ r ≡ stepped style ⌝ }
+{
+    let count = style % 0x100;
+    let size = style / 0x100 % 0x20;
+    let position = style / 0x10000 % 0x100;
+    let bit = style / 0x1000000 % 0x20;
+    if position < count {
+        return count + size * 0x100 + (position + 1) * 0x10000 + bit * 0x1000000;
+    }
+    if bit < size {
+        return count + size * 0x100 + 0 * 0x10000 + (bit + 1) * 0x1000000;
+    }
+    count + size * 0x100 + 0 * 0x10000 + 0 * 0x1000000
+}
+
+// After a point of any line.
+fn style_after(pen: Pen, style: u32) -> u32
+    ensures { λ r. ⌜ r ≡ after pen style ⌝ }
+{
+    if pen.stippled {
+        style_step(style)
+    } else {
+        style
+    }
+}
+
+fn stipple_bit(pen: Pen, style: u32) -> u32
+    ensures { λ r. ⌜ r ≡ stippleBit pen style ⌝ }
+{
+    if pen.stippled {
+        (pen.stipple >> (style / 0x1000000 % 0x20)) % 2
+    } else {
+        1
+    }
+}
+
+fn wide(x: u32) -> usize
+    ensures { λ r. ⌜ r ≡ x ⌝ }
+{
+    x as usize
+}
+
+// Whether a point is covered, and off the surface.
+fn point_off(len: usize, s: Surface, c: Clip, p: Point) -> bool
+    requires { ⌜ Small s × Bits12 c ⌝ }
+    ensures { λ r. ⌜ r ≡ lineOff s len c (p ∷ []) ⌝ }
+{
+    if paint::covers(c, p.x, p.y) {
+        return !surface::on_surface(len, s, wide(p.x - 16384), wide(p.y - 16384));
+    }
+    false
+}
+
+// Whether a covered point of the line is off the surface.
+pub fn line_off(len: usize, s: Surface, c: Clip, l: Line) -> bool
+    requires { ⌜ Testable s c l ⌝ }
+    ensures { λ r. ⌜ r ≡ lineOff s len c (points l) ⌝ }
+{
+    let total = point_count(l);
+    let mut i = 0;
+    while i < total {
+        if point_off(len, s, c, line_point(l, i)) {
+            return true;
+        }
+        i += 1;
+    }
+    false
+}
+
+// One point drawn, after those that left `done`.
+fn paint_point(
+    mem: &mut [u8],
+    ink: Ink,
+    pattern: [u8; 256],
+    c: Clip,
+    p: Point,
+    pen: Pen,
+    done: LineDone,
+) -> LineDone
+    requires { ⌜ DrawablePoint (ink .target) (length (now mem)) c p (done .count) ⌝ }
+    ensures { λ r. ⌜ (state (now (mem .exit)) (r .count) ≡ paint (ink .target) (lineTouches ink pattern c pen (done .style) (p ∷ [])) (state (now (mem .entry)) (done .count))) × ((r .style ≡ after pen (done .style)) × (r .count ≤ done .count + 1)) ⌝ }
+{
+    let next = style_after(pen, done.style);
+    if !paint::covers(c, p.x, p.y) {
+        return LineDone {
+            style: next,
+            count: done.count,
+        };
+    }
+    let x = p.x - 16384;
+    let y = p.y - 16384;
+    let value = paint::pattern_at(ink, pattern, x, y);
+    let source = paint::bit_source(ink, stipple_bit(pen, done.style));
+    LineDone {
+        style: next,
+        count: paint::put_source(mem, ink, value, x, y, source, done.count),
+    }
+}
+
+// The line drawn.
+pub fn paint_line(
+    mem: &mut [u8],
+    ink: Ink,
+    pattern: [u8; 256],
+    c: Clip,
+    l: Line,
+    pen: Pen,
+    style: u32,
+) -> LineDone
+    requires { ⌜ Drawable (ink .target) (length (now mem)) c l ⌝ }
+    ensures { λ r. ⌜ (state (now (mem .exit)) (r .count) ≡ paint (ink .target) (lineTouches ink pattern c pen style (points l)) (state (now (mem .entry)) 0)) × (r .style ≡ styleAfter pen (pointCount l) style) ⌝ }
+{
+    let total = point_count(l);
+    let mut done = LineDone {
+        style: style,
+        count: 0,
+    };
+    let mut i = 0;
+    while i < total {
+        let p = line_point(l, i);
+        done = paint_point(mem, ink, pattern, c, p, pen, done);
+        i += 1;
+    }
+    done
+}

@@ -1,0 +1,10 @@
+pub mod MixLaws
+pub mod PatternLaws
+pub mod Turns
+pub mod TaskLaws
+pub mod Owners
+pub mod Settle
+pub mod Order
+pub mod Frame
+pub mod Plain
+pub mod ClipLaws

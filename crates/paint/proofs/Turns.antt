@@ -1,0 +1,87 @@
+-- What a turn of a painting loop does: what remains, painted on the state after it, is what remained before it, painted on the state before.
+-- Assumes nothing.
+use mathlib.Core.Path.{_≡_, refl, sym, ap, _∙_}
+use mathlib.Core.Bool.{Bool, true, false}
+use mathlib.Core.List.{List, [], _∷_, _++_, map}
+use Prim.Native.Nat.{ℕ, suc, _+_, _-_, _<_, _≤_}
+use native.Mathlib.Omega.{arith}
+use Rattle.surface.specs.declared.Surface.{Surface}
+use Rattle.surface.specs.Pixels.{Px, px, across, rect}
+use Rattle.paint.specs.Paint.{State, Touch, dab, paint}
+use Rattle.paint.specs.Copy.{nth}
+
+-- ---- what remains after i turns
+abbrev first : Bool → ℕ → ℕ → ℕ
+first false at i = at + i
+first true at i = at
+
+unfoldable pub row-left : Bool → ℕ → ℕ → ℕ → ℕ → List Px
+row-left l x w i y = across l (first l x i) (w - i) y
+
+unfoldable pub rows-left : Bool → Bool → ℕ → ℕ → ℕ → ℕ → ℕ → List Px
+rows-left l t x y w h j = rect l t x (first t y j) w (h - j)
+
+pub row-whole : (l : Bool) (x w y : ℕ) → row-left l x w 0 y ≡ across l x w y
+unfolding row-left
+row-whole false x w y = let p : x + 0 ≡ x = omega arith in let q : w - 0 ≡ w = omega arith in rw (p, q)
+row-whole true x w y = let q : w - 0 ≡ w = omega arith in rw q
+
+row-turn : (l : Bool) (x w i y : ℕ) → i < w → row-left l x w i y ≡ px (nth l x w i) y ∷ row-left l x w (i + 1) y
+unfolding row-left across
+row-turn false x w i y h = let q : w - i ≡ suc (w - (i + 1)) = omega arith in let p : x + i + 1 ≡ x + (i + 1) = omega arith in rw (q, p)
+row-turn true x w i y h = let q : w - i ≡ suc (w - (i + 1)) = omega arith in let p : w - 1 - i ≡ w - (i + 1) = omega arith in rw (q, p)
+
+row-done : (l : Bool) (x w i y : ℕ) → w ≤ i → row-left l x w i y ≡ []
+unfolding row-left across
+row-done l x w i y h = let q : w - i ≡ 0 = omega arith in rw q
+
+pub rows-whole : (l t : Bool) (x y w h : ℕ) → rows-left l t x y w h 0 ≡ rect l t x y w h
+unfolding rows-left
+rows-whole l false x y w h = let p : y + 0 ≡ y = omega arith in let q : h - 0 ≡ h = omega arith in rw (p, q)
+rows-whole l true x y w h = let q : h - 0 ≡ h = omega arith in rw q
+
+rows-turn : (l t : Bool) (x y w h j : ℕ) → j < h → rows-left l t x y w h j ≡ across l x w (nth t y h j) ++ rows-left l t x y w h (j + 1)
+unfolding rows-left rect
+rows-turn l false x y w h j g = let q : h - j ≡ suc (h - (j + 1)) = omega arith in let p : y + j + 1 ≡ y + (j + 1) = omega arith in rw (q, p)
+rows-turn l true x y w h j g = let q : h - j ≡ suc (h - (j + 1)) = omega arith in let p : h - 1 - j ≡ h - (j + 1) = omega arith in rw (q, p)
+
+rows-done : (l t : Bool) (x y w h j : ℕ) → h ≤ j → rows-left l t x y w h j ≡ []
+unfolding rows-left rect
+rows-done l t x y w h j g = let q : h - j ≡ 0 = omega arith in rw q
+
+-- the place of a turn is one of the n
+pub nth-in : (b : Bool) (at n i : ℕ) → i < n → (at ≤ nth b at n i) × (nth b at n i < at + n)
+nth-in false at n i h = omega arith
+nth-in true at n i h = omega arith
+
+-- ---- painting
+pub paint-append : (s : Surface) (ts us : List Touch) (st : State) → paint s (ts ++ us) st ≡ paint s us (paint s ts st)
+unfolding paint
+paint-append s [] us st = refl
+paint-append s (t ∷ ts) us st = paint-append s ts us (dab s (t .at) (t .gives (st .mem)) st)
+
+map-append : (f : Px → Touch) (ps qs : List Px) → map f (ps ++ qs) ≡ map f ps ++ map f qs
+map-append f [] qs = refl
+map-append f (p ∷ ps) qs = ap (λ (ts : List Touch). f p ∷ ts) (map-append f ps qs)
+
+module _ (s : Surface) (f : Px → Touch) where
+  pub row-again : (l : Bool) (x₀ w i y x : ℕ) (st st′ : State) → i < w → x ≡ nth l x₀ w i
+      → st′ ≡ dab s (f (px x y) .at) (f (px x y) .gives (st .mem)) st
+      → paint s (map f (row-left l x₀ w (i + 1) y)) st′ ≡ paint s (map f (row-left l x₀ w i y)) st
+  unfolding paint
+  row-again l x₀ w i y x st st′ h e p = rw (row-turn l x₀ w i y h, ← e, p)
+
+  pub row-ends : (l : Bool) (x w i y : ℕ) (st : State) → w ≤ i → st ≡ paint s (map f (row-left l x w i y)) st
+  unfolding paint
+  row-ends l x w i y st h = rw (row-done l x w i y h)
+
+  pub rows-again : (l t : Bool) (x y₀ w h j y : ℕ) (st st′ : State) → j < h → y ≡ nth t y₀ h j → st′ ≡ paint s (map f (across l x w y)) st
+      → paint s (map f (rows-left l t x y₀ w h (j + 1))) st′ ≡ paint s (map f (rows-left l t x y₀ w h j)) st
+  rows-again l t x y₀ w h j y st st′ g e p =
+      rw (rows-turn l t x y₀ w h j g, ← e, p)
+      (sym (paint-append s (map f (across l x w y)) (map f (rows-left l t x y₀ w h (j + 1))) st)
+      ∙ ap (λ (ts : List Touch). paint s ts st) (sym (map-append f (across l x w y) (rows-left l t x y₀ w h (j + 1)))))
+
+  pub rows-end : (l t : Bool) (x y w h j : ℕ) (st : State) → h ≤ j → st ≡ paint s (map f (rows-left l t x y w h j)) st
+  unfolding paint
+  rows-end l t x y w h j st g = rw (rows-done l t x y w h j g)

@@ -1,0 +1,5 @@
+pub mod Paint
+pub mod Mix
+pub mod Pattern
+pub mod Clip
+pub mod Copy

@@ -1,0 +1,57 @@
+-- What is put at one covered pixel: the raster operation, chosen by the two key tests, of pattern, source and target.
+-- Assumes nothing.
+use mathlib.Core.Bool.{Bool, false, cond, _&&_}
+use mathlib.Core.List.{List}
+use mathlib.Core.Option.{Option, none, some}
+use Prim.Native.Nat.{ℕ, _+_, _^_, _<_}
+use lib.Dec.{eqb}
+use Rattle.colour.specs.Convert.{converted}
+use Rattle.colour.specs.Rop.{ropBits}
+use Rattle.colour.specs.Key.{keyMatch}
+use Rattle.surface.specs.Place.{readPx, OnColour}
+use Rattle.surface.specs.Pixels.{Px}
+use Rattle.paint.specs.declared.Ink.{Ink}
+use Rattle.paint.specs.declared.Source.{Source}
+use Rattle.paint.specs.Paint.{Touch, touch}
+use Rattle.paint.specs.Pattern.{patternValue}
+
+-- ---- the source of a pixel: its value in the target's format, whether it matches the source key, and whether the pixel is left unwritten
+abbrev pub source : ℕ → Bool → Bool → Source
+source value key left = record { value = value; key = key; left = left }
+
+-- a copied or host pixel of a colour format: the key is tested in its own format, then it is converted
+unfoldable pub colourSource : Ink → ℕ → ℕ → Source
+colourSource ink bytes v =
+    source (converted bytes (ink .target .bytes) v) (ink .srcKey && keyMatch bytes (ink .srcMin) (ink .srcMax) v) false
+
+-- a mono source's bit, or a stipple's: 1 is colorFore, 0 is colorBack, and left where the command is transparent
+unfoldable pub bitSource : Ink → ℕ → Source
+bitSource ink bit = source (cond (eqb bit 1) (ink .fore) (ink .back)) false (ink .clear && eqb bit 0)
+
+-- a fill is colorFore, and left where the command is transparent and the bit of its mono pattern is 0
+unfoldable pub fillSource : Ink → ℕ → Source
+fillSource ink bit = source (ink .fore) false (ink .clear && (ink .mono && eqb bit 0))
+
+-- ---- the raster operation: a source match adds 2 to its number, a target match adds 1
+unfoldable pub chosen : Ink → Bool → Bool → ℕ
+chosen ink sourceMatch targetMatch =
+    cond sourceMatch (cond targetMatch (ink .rop3) (ink .rop2)) (cond targetMatch (ink .rop1) (ink .rop0))
+
+-- the target key is tested on the pixel as it stands before the write
+abbrev pub targetMatch : Ink → ℕ → Bool
+targetMatch ink old = ink .dstKey && keyMatch (ink .target .bytes) (ink .dstMin) (ink .dstMax) old
+
+unfoldable pub mixed : Ink → ℕ → Source → ℕ → Option ℕ
+mixed ink pattern s old =
+    cond (s .left) none
+    (some (ropBits 32 (chosen ink (s .key) (targetMatch ink old)) pattern (s .value) old))
+
+-- pixel p, with a source that is known
+abbrev pub placed : Ink → List ℕ → Px → Source → Touch
+placed ink pattern p s =
+    touch p (λ m. mixed ink (patternValue ink pattern (p .x) (p .y)) s (readPx m (ink .target) (p .x) (p .y)))
+
+-- a pixel that is on the target, where n were written before it
+pub record Ready (ink : Ink) (len x y n : ℕ) : Type 0 where
+  pub on : OnColour (ink .target) len x y
+  pub room : n + 1 < 2 ^ 32

@@ -1,0 +1,32 @@
+-- Painting: pixels touched one after the other, each given a value or left unwritten; the memory and the count of pixels written.
+-- Assumes nothing.
+use mathlib.Core.List.{List, [], _∷_}
+use mathlib.Core.Option.{Option, none, some}
+use Prim.Native.Nat.{ℕ, _+_}
+use Rattle.surface.specs.declared.Surface.{Surface}
+use Rattle.surface.specs.Place.{writePx}
+use Rattle.surface.specs.Pixels.{Px}
+
+pub record State : Type 0 where
+  pub mem : List ℕ
+  pub count : ℕ
+
+abbrev pub state : List ℕ → ℕ → State
+state m n = record { mem = m; count = n }
+
+-- the one store: pixel p is given a value, and counted, or it is left
+unfoldable pub dab : Surface → Px → Option ℕ → State → State
+dab s p none st = st
+dab s p (some v) st = state (writePx (st .mem) s (p .x) (p .y) v) (st .count + 1)
+
+-- a pixel, and what it is given in the memory as it is then
+pub record Touch : Type 0 where
+  pub at : Px
+  pub gives : List ℕ → Option ℕ
+
+abbrev pub touch : Px → (List ℕ → Option ℕ) → Touch
+touch p g = record { at = p; gives = g }
+
+unfoldable pub paint : Surface → List Touch → State → State
+paint s [] st = st
+paint s (t ∷ ts) st = paint s ts (dab s (t .at) (t .gives (st .mem)) st)

@@ -1,0 +1,347 @@
+// What changes memory: one covered pixel, rectangles of them filled or copied. Nothing here knows a register's offset or an answer's number.
+use surface::Surface;
+ghost use mathlib.Core.Path.{_≡_};
+ghost use mathlib.Core.Bool.{true, false};
+ghost use Prim.Native.Nat.{_+_, _-_, _*_, _^_, _<_, _≤_};
+ghost use lib.ListN.{length, getD};
+ghost use Rattle.surface.specs.Place.{readPx, Colour, OnColour};
+ghost use Rattle.surface.specs.Pixels.{px, across, rect};
+ghost use Rattle.paint.specs.Paint.{state, dab, paint};
+ghost use Rattle.paint.specs.Mix.{source, colourSource, bitSource, fillSource, chosen, targetMatch, mixed, Ready};
+ghost use Rattle.paint.specs.Pattern.{patternColumn, patternRow, patternBit, patternPixel, patternIn, patternValue, Cell, RowOf};
+ghost use Rattle.paint.specs.Clip.{inClip, Bits12};
+ghost use Rattle.paint.specs.Copy.{sourceBy, asBefore, inTurn, backward, nth, HasSource, RowReady, CanPaint, Orderly};
+
+// What does not change within a command: the target, the colours, the four raster operations, the two keys, and how the pattern lies.
+pub struct Ink {
+    pub target: Surface,
+    pub fore: u32,
+    pub back: u32,
+    pub rop0: u32,
+    pub rop1: u32,
+    pub rop2: u32,
+    pub rop3: u32,
+    pub srcKey: bool,
+    pub srcMin: u32,
+    pub srcMax: u32,
+    pub dstKey: bool,
+    pub dstMin: u32,
+    pub dstMax: u32,
+    pub mono: bool,
+    pub forced: bool,
+    pub patX: u32,
+    pub patY: u32,
+    pub clear: bool,
+}
+
+// A pixel's source: its value in the target's format, whether it matches the source key, and whether the pixel is left unwritten.
+pub struct Source {
+    pub value: u32,
+    pub key: bool,
+    pub left: bool,
+}
+
+// Columns from left up to, and without, right; rows from top up to, and without, bottom.
+pub struct Clip {
+    pub left: u32,
+    pub right: u32,
+    pub top: u32,
+    pub bottom: u32,
+}
+
+fn pattern_column(ink: Ink, x: u32) -> u32
+    ensures { λ r. ⌜ (r ≡ patternColumn ink x) × (r < 8) ⌝ }
+{
+    (x % 8 + ink.patX % 8) % 8
+}
+
+fn pattern_row(ink: Ink, y: u32) -> u32
+    ensures { λ r. ⌜ (r ≡ patternRow ink y) × (r < 8) ⌝ }
+{
+    if ink.forced {
+        return 0;
+    }
+    (y % 8 + ink.patY % 8) % 8
+}
+
+fn pattern_byte(pattern: [u8; 256], at: u32) -> u32
+    requires { ⌜ at < 256 ⌝ }
+    ensures { λ r. ⌜ (r ≡ getD pattern at 0) × (r < 256) ⌝ }
+{
+    wide(pattern[at as usize])
+}
+
+fn wide(x: u8) -> u32
+    ensures { λ r. ⌜ (r ≡ x) × (r < 256) ⌝ }
+{
+    x as u32
+}
+
+fn pattern_bit(pattern: [u8; 256], column: u32, row: u32) -> u32
+    requires { ⌜ (column < 8) × (row < 8) ⌝ }
+    ensures { λ r. ⌜ r ≡ patternBit pattern column row ⌝ }
+{
+    (pattern_byte(pattern, row) >> (7 - column)) % 2
+}
+
+fn pattern_pixel(bytes: u32, pattern: [u8; 256], column: u32, row: u32) -> u32
+    requires { ⌜ Cell bytes column row ⌝ }
+    ensures { λ r. ⌜ r ≡ patternPixel bytes pattern column row ⌝ }
+{
+    let at = (row * 8 + column) * bytes;
+    let b0 = pattern_byte(pattern, at);
+    if bytes == 1 {
+        return b0;
+    }
+    let b1 = pattern_byte(pattern, at + 1);
+    if bytes == 2 {
+        return b0 + 256 * b1;
+    }
+    let b2 = pattern_byte(pattern, at + 2);
+    if bytes == 3 {
+        return b0 + 256 * (b1 + 256 * b2);
+    }
+    let b3 = pattern_byte(pattern, at + 3);
+    b0 + 256 * (b1 + 256 * (b2 + 256 * b3))
+}
+
+fn pattern_in(ink: Ink, pattern: [u8; 256], column: u32, row: u32) -> u32
+    requires { ⌜ Cell (ink .target .bytes) column row ⌝ }
+    ensures { λ r. ⌜ r ≡ patternIn ink pattern column row ⌝ }
+{
+    if ink.mono {
+        if pattern_bit(pattern, column, row) == 1 {
+            return ink.fore;
+        }
+        return ink.back;
+    }
+    pattern_pixel(ink.target.bytes, pattern, column, row)
+}
+
+// The pattern at a pixel.
+pub fn pattern_at(ink: Ink, pattern: [u8; 256], x: u32, y: u32) -> u32
+    requires { ⌜ Colour (ink .target) ⌝ }
+    ensures { λ r. ⌜ r ≡ patternValue ink pattern x y ⌝ }
+{
+    pattern_in(ink, pattern, pattern_column(ink, x), pattern_row(ink, y))
+}
+
+// The eight values of a row of the pattern.
+fn row_values(ink: Ink, pattern: [u8; 256], row: u32) -> [u32; 8]
+    requires { ⌜ Colour (ink .target) × (row < 8) ⌝ }
+    ensures { λ r. ⌜ RowOf ink pattern row r ⌝ }
+{
+    let mut values = [0u32; 8];
+    let mut column = 0;
+    while column < 8 {
+        values[column as usize] = pattern_in(ink, pattern, column, row);
+        column += 1;
+    }
+    values
+}
+
+// Whether a position, counted from 16384, is inside the clip.
+pub fn covers(c: Clip, x: u32, y: u32) -> bool
+    requires { ⌜ Bits12 c ⌝ }
+    ensures { λ r. ⌜ r ≡ inClip c x y ⌝ }
+{
+    ((16384 + c.left <= x) & (x < 16384 + c.right))
+        & ((16384 + c.top <= y) & (y < 16384 + c.bottom))
+}
+
+// A rectangle's work: the ink; where it is copied from, if it is; and the first pixel of the source and of the target.
+pub struct Task {
+    pub ink: Ink,
+    pub copies: bool,
+    pub from: Surface,
+    pub sx: u32,
+    pub sy: u32,
+    pub x: u32,
+    pub y: u32,
+}
+
+pub fn colour_source(ink: Ink, bytes: u32, v: u32) -> Source
+    ensures { λ r. ⌜ r ≡ colourSource ink bytes v ⌝ }
+{
+    let to = ink.target.bytes;
+    let value = colour::convert(bytes, to, v);
+    if ink.srcKey {
+        return Source {
+            value: value,
+            key: colour::key_match(bytes, ink.srcMin, ink.srcMax, v),
+            left: false,
+        };
+    }
+    Source {
+        value: value,
+        key: false,
+        left: false,
+    }
+}
+
+pub fn bit_source(ink: Ink, bit: u32) -> Source
+    ensures { λ r. ⌜ r ≡ bitSource ink bit ⌝ }
+{
+    if bit == 1 {
+        return Source {
+            value: ink.fore,
+            key: false,
+            left: ink.clear & (bit == 0),
+        };
+    }
+    Source {
+        value: ink.back,
+        key: false,
+        left: ink.clear & (bit == 0),
+    }
+}
+
+fn fill_source(ink: Ink, bit: u32) -> Source
+    ensures { λ r. ⌜ r ≡ fillSource ink bit ⌝ }
+{
+    Source {
+        value: ink.fore,
+        key: false,
+        left: ink.clear & (ink.mono & (bit == 0)),
+    }
+}
+
+// The raster operation for a pixel whose source, and whose target, match their keys or not.
+fn choose(ink: Ink, bySource: bool, byTarget: bool) -> u32
+    ensures { λ r. ⌜ r ≡ chosen ink bySource byTarget ⌝ }
+{
+    if bySource {
+        if byTarget {
+            return ink.rop3;
+        }
+        return ink.rop2;
+    }
+    if byTarget {
+        return ink.rop1;
+    }
+    ink.rop0
+}
+
+fn matches_target(ink: Ink, old: u32) -> bool
+    ensures { λ r. ⌜ r ≡ targetMatch ink old ⌝ }
+{
+    if ink.dstKey {
+        return colour::key_match(ink.target.bytes, ink.dstMin, ink.dstMax, old);
+    }
+    false
+}
+
+// The one store: the pixel is given what pattern, source and target make, and counted, or it is left.
+pub fn put_source(mem: &mut [u8], ink: Ink, pattern: u32, x: u32, y: u32, s: Source, n: u32) -> u32
+    requires { ⌜ Ready ink (length (now mem)) x y n ⌝ }
+    ensures { λ r. ⌜ (state (now (mem .exit)) r ≡ dab (ink .target) (px x y) (mixed ink pattern s (readPx (now (mem .entry)) (ink .target) x y)) (state (now (mem .entry)) n)) × (r ≤ n + 1) ⌝ }
+{
+    if s.left {
+        return n;
+    }
+    let target = ink.target;
+    let old = surface::get_pixel(mem, target, x, y);
+    let code = choose(ink, s.key, matches_target(ink, old));
+    let v = colour::raster(code, pattern, s.value, old);
+    surface::put_pixel(mem, target, x, y, v);
+    n + 1
+}
+
+// The source of pixel (x, y); `bit` is the bit of a mono pattern there.
+fn source_at(mem: &[u8], t: Task, bit: u32, x: u32, y: u32) -> Source
+    requires { ⌜ HasSource t (length (now mem)) x y ⌝ }
+    ensures { λ r. ⌜ r ≡ sourceBy t bit (now (mem .entry)) (px x y) ⌝ }
+{
+    let ink = t.ink;
+    if !t.copies {
+        return fill_source(ink, bit);
+    }
+    let from = t.from;
+    let bytes = from.bytes;
+    let sx = t.sx + (x - t.x);
+    let sy = t.sy + (y - t.y);
+    if bytes == 0 {
+        return bit_source(ink, surface::get_bit(mem, from, sx, sy));
+    }
+    colour_source(ink, bytes, surface::get_pixel(mem, from, sx, sy))
+}
+
+// Pixel (x, y), after n that were written; `pattern` and `bit` are the pattern's there.
+fn paint_pixel(mem: &mut [u8], t: Task, pattern: u32, bit: u32, x: u32, y: u32, n: u32) -> u32
+    requires { ⌜ Ready (t .ink) (length (now mem)) x y n × HasSource t (length (now mem)) x y ⌝ }
+    ensures { λ r. ⌜ (state (now (mem .exit)) r ≡ dab (t .ink .target) (px x y) (mixed (t .ink) pattern (sourceBy t bit (now (mem .entry)) (px x y)) (readPx (now (mem .entry)) (t .ink .target) x y)) (state (now (mem .entry)) n)) × (r ≤ n + 1) ⌝ }
+{
+    let ink = t.ink;
+    let s = source_at(mem, t, bit, x, y);
+    put_source(mem, ink, pattern, x, y, s, n)
+}
+
+// The place number i of n from `at`: from the low end, or from the high end.
+fn place(down: bool, at: u32, n: u32, i: u32) -> u32
+    requires { ⌜ (i < n) × (at + n ≤ 2 ^ 13) ⌝ }
+    ensures { λ r. ⌜ r ≡ nth down at n i ⌝ }
+{
+    if down {
+        return at + (n - 1 - i);
+    }
+    at + i
+}
+
+// The w pixels of row y, from the left or from the right, after n that were written.
+fn paint_row(mem: &mut [u8], t: Task, pattern: [u8; 256], w: u32, y: u32, back: bool, n: u32) -> u32
+    requires { ⌜ RowReady t w y (length (now mem)) n ⌝ }
+    ensures { λ r. ⌜ (state (now (mem .exit)) r ≡ paint (t .ink .target) (inTurn t pattern (across back (t .x) w y)) (state (now (mem .entry)) n)) × (r ≤ n + w) ⌝ }
+{
+    let ink = t.ink;
+    let row = pattern_row(ink, y);
+    let values = row_values(ink, pattern, row);
+    let mut r = n;
+    let mut i = 0;
+    while i < w {
+        let x = place(back, t.x, w, i);
+        let column = pattern_column(ink, x);
+        let bit = pattern_bit(pattern, column, row);
+        r = paint_pixel(mem, t, values[column as usize], bit, x, y, r);
+        i += 1;
+    }
+    r
+}
+
+// A rectangle, row by row from the upper left corner or from the lower right one.
+fn paint_rows(mem: &mut [u8], t: Task, pattern: [u8; 256], w: u32, h: u32, back: bool) -> u32
+    requires { ⌜ CanPaint t w h (length (now mem)) ⌝ }
+    ensures { λ r. ⌜ state (now (mem .exit)) r ≡ paint (t .ink .target) (inTurn t pattern (rect back back (t .x) (t .y) w h)) (state (now (mem .entry)) 0) ⌝ }
+{
+    let mut n = 0;
+    let mut j = 0;
+    while j < h {
+        let y = place(back, t.y, h, j);
+        n = paint_row(mem, t, pattern, w, y, back, n);
+        j += 1;
+    }
+    n
+}
+
+fn goes_back(t: Task) -> bool
+    ensures { λ r. ⌜ r ≡ backward t ⌝ }
+{
+    if !t.copies {
+        return false;
+    }
+    if t.sy < t.y {
+        return true;
+    }
+    if t.sy == t.y {
+        return t.sx < t.x;
+    }
+    false
+}
+
+// A rectangle filled or copied, each pixel from the source as it was before; the count of pixels written.
+pub fn paint_rect(mem: &mut [u8], t: Task, pattern: [u8; 256], w: u32, h: u32) -> u32
+    requires { ⌜ CanPaint t w h (length (now mem)) × (t .copies ≡ true → Orderly t w h) ⌝ }
+    ensures { λ r. ⌜ state (now (mem .exit)) r ≡ paint (t .ink .target) (asBefore t pattern (now (mem .entry)) (rect false false (t .x) (t .y) w h)) (state (now (mem .entry)) 0) ⌝ }
+{
+    let back = goes_back(t);
+    paint_rows(mem, t, pattern, w, h, back)
+}

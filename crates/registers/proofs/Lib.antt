@@ -1,0 +1,8 @@
+pub mod Arms
+pub mod OffsetLaws
+pub mod RegsLaws
+pub mod PositionLaws
+pub mod BackLaws
+pub mod KeptLaws
+pub mod Words
+pub mod BankLaws

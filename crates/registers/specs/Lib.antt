@@ -1,0 +1,5 @@
+pub mod Regs
+pub mod Kept
+pub mod Offsets
+pub mod Bank
+pub mod Position
