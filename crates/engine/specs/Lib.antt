@@ -1,1 +1,2 @@
 pub mod Step
+pub mod Promises

@@ -1,0 +1,449 @@
+"""Streams of register writes with the answers of the model.
+
+  python3 streams.py make DIR           writes DIR/streams.bin and DIR/expected.txt
+  python3 streams.py compare FILE DIR   names the first difference from DIR/expected.txt
+
+streams.bin, little-endian words: for each stream the memory's length M, the number of writes
+N and a seed byte; byte i of the memory is (7 i i + 13 i + seed byte) mod 256 at the start; then
+N times offset, word and kind (1: the memory is passed without its last byte, if it has one).
+expected.txt: for each stream its head, a line `answer count` for each write, and checksums
+(FNV-1a) of registers 08 to 70, pattern and one byte for a waiting host blit, and of memory.
+"""
+
+import itertools
+import random
+import struct
+import sys
+import textwrap
+from collections import Counter
+from pathlib import Path
+
+from model import (BUILT, COMMAND, COPY, FILL, HOST, KEPT, LIMIT, LINE, NOP, OFFSETS, POLYLINE, SOURCE_BITS, Engine,
+                   allowed, bits, halves, is_launch, row_bytes)
+
+STREAMS, LENGTH = 336, 72  # streams, and the least number of writes of an ordinary one
+SWEEPS = 4  # so many streams begin with one
+TINY = (0, 1, 3, 64)  # lengths of memory
+BIG = {STREAMS - 2: LIMIT, STREAMS - 1: LIMIT + 1}
+THEMES = (("fill",), ("copy", "copy", "touch"), ("host",), ("line",), ("copy", "host"),
+          ("fill", "copy", "host", "line", "wild"))
+NAMES = {NOP: "nop", COPY: "copy", HOST: "host", FILL: "fill", LINE: "line", POLYLINE: "polyline"}
+NOT_BUILT = [number for number in range(16) if number not in BUILT]
+FORMAT = {depth: number for number, depth in SOURCE_BITS.items()}
+
+
+def filled(size: int, seed_byte: int) -> bytearray:
+    period = bytes((i * i * 7 + i * 13 + seed_byte) % 256 for i in range(256))
+    return bytearray((period * (size // 256 + 1))[:size])
+
+
+def checksum(data: bytes) -> str:
+    h = 2166136261
+    for byte in data:
+        h = (h ^ byte) * 16777619 & 0xFFFFFFFF
+    return f"{h:08x}"
+
+
+def register_bytes(engine: Engine) -> bytes:
+    words = b"".join(engine.read(offset)[1].to_bytes(4, "little") for offset in range(0x08, 0x74, 4))
+    return words + bytes(engine.pattern) + bytes([engine.waiting is not None])
+
+
+def xy(x: int, y: int) -> int:
+    return (y & 0x1FFF) << 16 | x & 0x1FFF
+
+
+class Maker:
+    """One stream. Each write is played on the model at once, so that the next may fit it."""
+
+    def __init__(self, seed: int, size: int, tally: Counter) -> None:
+        self.rng, self.size, self.tally = random.Random(seed), size, tally
+        self.pick, self.draw = self.rng.choice, self.rng.getrandbits
+        self.seed_byte = self.rng.randrange(256)
+        self.mem, self.engine = filled(size, self.seed_byte), Engine(size)
+        self.slips = self.pick((0.003, 0.003, 0.01, 0.05))  # how often a faulty write comes between
+        self.records: list[tuple[int, int, int]] = []
+        self.answers: list[tuple[int, int]] = []
+
+    def chance(self, share: float) -> bool:
+        return self.rng.random() < share
+
+    def near(self, low: int, high: int) -> int:
+        return self.rng.randint(low, max(low, high))
+
+    def send(self, offset: int, word: int, kind: int = 0) -> None:
+        before, waited = dict(self.engine.registers), self.engine.waiting is not None
+        answer = self.engine.write(self.mem[:-1] if kind else self.mem, offset, word)
+        self.records.append((offset, word, kind))
+        self.answers.append(answer)
+        note(self.tally, before, waited, offset, word, answer, self.engine)
+
+    def put(self, offset: int, word: int) -> None:
+        if self.chance(self.slips):
+            self.send(offset, word, 1)
+        if self.chance(self.slips):
+            self.send(self.pick((0, 4, 0x74, 0x78, 0x7C, 0x200, 0x6E, 0x81, 0x1FE, 0xFFFFFFFC)), word)
+        self.send(offset, word)
+
+    def set(self, **registers: int) -> None:
+        for name, word in registers.items():
+            stray = self.draw(32) & ~KEPT[name] if self.chance(0.06) else 0
+            self.put(OFFSETS[name], word | stray)
+
+    def launch(self, word: int) -> None:
+        self.put(0x80 + 4 * self.pick((0, self.near(0, 31))), word)
+
+    def surface(self, depth: int, part: tuple[int, int]) -> tuple[int, int, int, int]:
+        """Base, stride, columns and rows of a surface inside a part of the memory."""
+        room = part[1] - part[0]
+        stride = min(room, row_bytes(self.near(4, 48 if depth == 1 else 22), depth) + self.pick((0, 0, 1, 3)))
+        rows = min(room // stride, 40) if stride else 0
+        base = part[0] + self.pick((0, self.near(0, room % max(1, stride)), room - rows * stride))
+        return base, stride, 8 * stride if depth == 1 else stride // (depth // 8), rows
+
+    def scene(self) -> None:
+        """A target with its clips, colours, a part of the pattern and keys."""
+        floor = max(0, self.size - 8192)
+        middle = (floor + self.size) // 2
+        self.parts = [(floor, middle), (middle, self.size)] if self.size >= 64 else [(0, self.size)] * 2
+        self.rng.shuffle(self.parts)
+        self.depth = self.pick((8, 16, 24, 32))
+        self.base, self.stride, self.columns, self.rows = self.surface(self.depth, self.parts[0])
+        self.set(dstBaseAddr=self.base, dstFormat=FORMAT[self.depth] << 16 | self.stride)
+        for name, slack in (("clip0", 2), ("clip1", 6)):
+            slack = min(slack, self.columns // 3, self.rows // 3)
+            low = xy(self.near(0, slack), self.near(0, slack))
+            high = xy(self.columns - self.near(0, slack), self.rows - self.near(0, slack))
+            if self.chance(0.25):
+                high = self.pick((0x0FFF0FFF, 0x0FFF0FFF, low, xy(self.columns + 1, self.rows + 1)))
+            self.set(**{name + "Min": low, name + "Max": high})
+        self.set(colorFore=self.draw(32), colorBack=self.draw(32))
+        for offset in [0x100 + 4 * self.near(0, 2 * self.depth - 1) for _ in range(self.near(0, 8))]:
+            self.put(offset, self.draw(32))
+        for offset in (0x44, 0x48) if self.chance(0.5) else ():
+            self.put(offset, self.draw(32))
+        self.keys()
+
+    def keys(self) -> None:
+        self.set(commandExtra=self.draw(4) if self.chance(0.6) else 0)
+        if self.engine.registers["commandExtra"] & 3:
+            self.set(rop=self.draw(24))
+            for side in ("src", "dst"):
+                low, high = self.draw(24) & self.draw(24) & self.draw(24), self.draw(24) | self.draw(24) | self.draw(24)
+                if self.chance(0.2):  # one colour, that of pixels painted before
+                    low = high = self.engine.registers["colorFore"] & 0xFFFFFF
+                self.set(**{side + "ColorkeyMin": low, side + "ColorkeyMax": high})
+
+    def word(self, number: int, turn: float = 0.5) -> int:
+        """A command word without bit 8; turn is the chance of each of bits 14 and 15."""
+        word = self.pick((0xCC, 0xCC, 0xF0, 0x5A, 0x66, 0xB8, self.draw(8), self.draw(8))) << 24 | number
+        for bit, share in ((9, 0.2), (10, 0.2), (11, 0.2), (12, 0.6), (13, 0.5), (14, turn), (15, turn), (16, 0.35),
+                           (23, 0.25)):
+            word |= self.chance(share) << bit
+        return word | self.pick((0, self.draw(6))) << 17 | (self.draw(4) << 4 if self.chance(0.05) else 0)
+
+    def carry(self, word: int, register: str, places: list[int]) -> None:
+        """Runs the command at the places, the first by bit 8 or all by launch."""
+        if self.chance(0.4):
+            self.set(**{register: places.pop(0)})
+            word |= 0x100
+        self.put(COMMAND, word)
+        for place in places:
+            self.launch(place)
+
+    def sides(self, most: int = 20) -> tuple[int, int]:
+        if self.chance(0.06):
+            return self.pick(((0, 0), (0, 3), (0, 3), (3, 0)))
+        return self.near(1, min(most, self.columns)), self.near(1, min(most, self.rows))
+
+    def spot(self, width: int, height: int) -> tuple[int, int]:
+        """A place for a rectangle on the target, at times reaching out of it, or far away."""
+        if self.chance(0.03):
+            return self.pick((4095, 4090, -1, -4096)), self.pick((4095, 4090, -1, -4096))
+        if self.chance(0.25):
+            return self.near(-width, self.columns), self.near(-height, self.rows)
+        return self.near(0, self.columns - width), self.near(0, self.rows - height)
+
+    def source_depth(self) -> int:
+        """A format that goes to the target, or now and then any."""
+        return self.pick([depth for depth in FORMAT if allowed(depth, self.depth) or self.chance(0.03)])
+
+    def fill(self) -> None:
+        width, height = self.sides()
+        self.set(dstSize=xy(width, height))
+        self.carry(self.word(FILL), "dstXY", [xy(*self.spot(width, height)) for _ in range(self.near(1, 4))])
+
+    def copy(self) -> None:
+        word = self.word(COPY)
+        width, height = self.sides()
+        x, y = self.spot(width, height)
+        depth, packing, base, stride = self.depth, 0, self.base, self.stride
+        columns, rows, reach = self.columns, self.rows, 4
+        if self.chance(0.5):
+            depth, packing, reach = self.source_depth(), self.pick((0, 0, 0, 1, 2, 3)), 40
+            base, stride, columns, rows = self.surface(depth, self.parts[self.chance(0.75)])
+        elif self.chance(0.2) and self.stride == row_bytes(self.columns, self.depth):
+            packing, width, x = 1, self.columns, 0  # the same surface, packed
+        self.set(srcBaseAddr=base, srcFormat=packing << 22 | FORMAT[depth] << 16 | stride, dstSize=xy(width, height))
+        if packing:
+            step = self.engine.source().step if self.engine.source() else 0
+            columns, rows = step * 8 // depth, min(rows, 512 // max(1, step))
+        right, below = (width - 1) * bits(word, 14, 14), (height - 1) * bits(word, 15, 15)
+        self.set(dstXY=xy(x + right, y + below))
+        places = []
+        for _ in range(self.near(1, 3)):
+            from_x = min(max(x + self.near(-reach, reach), 0), max(columns - width, 0))
+            from_y = min(max(y + self.near(-reach, reach), 0), max(rows - height, 0))
+            places.append(xy(from_x + right - self.chance(0.03), from_y + below - self.chance(0.03)))
+        self.carry(word, "srcXY", places)
+
+    def touch(self) -> None:
+        """A copy whose source ends or begins at the target or one byte off it, or whose source
+        differs from the target in its format or its step alone."""
+        width, height = self.near(1, self.columns // 2), self.pick((1, 1, 2))
+        base, stride, depth, y = self.base, self.stride, self.depth, self.near(0, self.rows - height)
+        which, long = self.near(0, 4), row_bytes(width, self.depth)
+        if which == 0:
+            depth, y = self.source_depth(), 0
+        elif which == 1:
+            stride, y = stride + self.pick((1, 4)), 0
+        else:
+            base = max(0, base + y * stride + self.pick((long - 1, long, 1 - long, -long)))
+        self.set(clip0Min=0, clip0Max=xy(self.columns, self.rows), dstSize=xy(width, height), dstXY=xy(0, y), srcXY=0)
+        self.set(srcBaseAddr=base, srcFormat=FORMAT[depth] << 16 | stride)
+        self.put(COMMAND, self.word(COPY, 0) & ~(1 << 23) | 0x100)
+
+    def host(self) -> None:
+        depth, packing = self.source_depth(), self.pick((0, 0, 1, 2, 3))
+        width, height = self.sides(20 if depth == 1 else 7)
+        stride = max(0, row_bytes(width, depth) + self.pick((0, 0, 1, 2, 5, 5, 9, self.near(-1, 0))))
+        swizzle = self.near(1, 3) if self.chance(0.05) else 0
+        self.set(srcFormat=packing << 22 | swizzle << 20 | FORMAT[depth] << 16 | stride, dstSize=xy(width, height),
+                 dstXY=xy(*self.spot(width, height)), srcXY=self.pick((1, 1 << 16)) if self.chance(0.04) else 0,
+                 srcBaseAddr=self.chance(0.04) << 31 | self.draw(24))
+        self.put(COMMAND, self.word(HOST, 0.02) | self.chance(0.5) << 8)
+        self.launch(self.draw(32))
+        if self.chance(0.05):
+            self.put(COMMAND, self.engine.registers["command"])  # the same word abandons too
+            self.launch(self.draw(32))
+        self.settle()
+
+    def settle(self) -> None:
+        """Feeds a waiting blit to its end, or abandons it on the way."""
+        share = self.rng.random() if self.chance(0.3) else 1.0
+        came = self.engine.waiting
+        words = 0 if came is None else min(60, -(-(self.engine.host_bytes() - len(came)) // 4))
+        for _ in range(int(words * share)):
+            self.launch(self.draw(32))
+            if self.chance(0.04):
+                self.put(self.pick((0x64, 0x6C, 0x44, 0x13C, 0x08)), self.draw(32))
+            if self.chance(0.03):
+                self.put(COMMAND, 0xCC000100 | self.pick((self.pick(NOT_BUILT), HOST | 1 << 14)))
+        if self.engine.waiting is not None:
+            self.put(COMMAND, self.word(self.pick((NOP, FILL, HOST, 9)), 0.1) | self.chance(0.5) << 8)
+        elif self.chance(0.1):
+            self.put(COMMAND, self.word(NOP) | self.chance(0.5) << 8)
+            self.launch(self.draw(32))
+
+    def line(self) -> None:
+        if self.chance(0.6):
+            size, repeat = self.near(0, 31), self.near(0, 5)
+            number, position = self.near(0, size), self.near(0, repeat)
+            if self.chance(0.2):
+                number, position = self.draw(5), self.draw(8)  # mostly not a legal phase
+            self.set(lineStipple=self.draw(32), lineStyle=number << 24 | position << 16 | size << 8 | repeat)
+        margin = self.pick((0, 0, 8))
+        ends = [xy(self.near(-margin, self.columns - 1 + margin), self.near(-margin, self.rows - 1 + margin))
+                for _ in range(self.near(2, 6))]
+        ends.append(self.pick((ends[-1], ends[0])))
+        if self.chance(0.06):
+            ends.insert(1, xy(self.pick((-4096, 4095, 0)), self.pick((-4096, 4095, 0))))
+        if self.chance(0.7):
+            self.set(srcXY=ends[0])
+        self.carry(self.word(self.pick((LINE, LINE, POLYLINE))), "dstXY", ends[1:])
+
+    def wild(self) -> None:
+        """Something far out, a command on it, then a new scene."""
+        which = self.near(0, 4)
+        if which == 0:  # tiled
+            name = self.pick(("dstBaseAddr", "srcBaseAddr"))
+            self.set(**{name: self.engine.registers[name] | 1 << 31})
+        elif which == 1:  # large rectangles
+            self.set(dstSize=self.draw(29), dstXY=xy(self.pick((-4096, -9, 0, 5)), self.pick((-4096, -9, 0, 5))))
+        elif which == 2:  # steps that wrap
+            self.set(dstXY=xy(4095 - self.near(0, 3), -1 - self.near(0, 3)), dstSize=xy(self.draw(13), self.near(0, 9)))
+            self.put(COMMAND, self.word(FILL) | 0xD00)
+        elif which == 3:
+            self.set(**{self.pick([name for name in OFFSETS if name != "command"]): self.draw(32)})
+        else:
+            self.set(srcXY=self.draw(29), bresError0=self.draw(32), bresError1=self.draw(32), srcSize=self.draw(32))
+        self.put(COMMAND, self.word(self.pick((COPY, HOST, FILL, FILL, LINE)), 0.1) | self.chance(0.5) << 8)
+        self.launch(self.draw(32) if self.chance(0.3) else xy(*self.spot(4, 4)))
+        self.settle()
+        if self.engine.waiting is None:
+            self.scene()
+
+    def sweep(self) -> None:
+        """What chance may pass over: all numbers, formats, directions, and empty host blits."""
+        while self.columns < 5:
+            self.scene()
+        for number in NOT_BUILT:
+            self.put(COMMAND, self.word(number) | 0x100)
+            self.put(COMMAND, self.word(number))
+            self.launch(self.draw(32))
+        self.set(clip0Min=0, clip0Max=xy(self.columns, self.rows), dstXY=0, srcXY=0, dstSize=xy(1, 1),
+                 srcBaseAddr=self.parts[1][0])
+        for source in range(16):
+            self.set(srcFormat=source << 16 | 8)
+            for target in range(8):
+                self.set(dstFormat=target << 16 | self.stride)
+                self.put(COMMAND, 0xCC000100 | COPY)
+                self.put(COMMAND, 0xCC000000 | HOST)
+                self.launch(self.draw(32))
+        self.set(dstFormat=FORMAT[self.depth] << 16 | self.stride)
+        for packing, (width, height) in itertools.product(range(4), ((0, 0), (0, 3), (3, 0))):
+            self.set(srcFormat=packing << 22 | 5, dstSize=xy(width, height))
+            self.put(COMMAND, self.word(HOST, 0) | 0xD00)
+        self.put(COMMAND, 0xCC000100 | LINE)  # shows where the steps led
+        self.set(srcFormat=FORMAT[self.depth] << 16 | self.stride, srcBaseAddr=self.base, dstSize=xy(2, 2))
+        for turn, x, y in itertools.product(range(4), (1, 2, 3), (1, 2, 3)):
+            self.set(dstXY=xy(2, 2))
+            self.put(COMMAND, self.word(COPY, 0) & ~(1 << 23) | turn << 14)
+            self.launch(xy(x, y))
+
+
+def note(tally: Counter, before: dict[str, int], waited: bool, offset: int, word: int, answer: tuple[int, int],
+         after: Engine) -> None:
+    """Counts what a write tried, for the table of coverage."""
+    number, count = answer
+    tally["answers", number] += 1
+    asked = Engine(0)  # the registers as the command found them
+    asked.registers = before
+    if offset == COMMAND:
+        asked.store("command", word)
+    elif is_launch(offset) and asked.number() in (COPY, FILL, LINE, POLYLINE):
+        asked.store("srcXY" if asked.number() == COPY else "dstXY", word)
+    kind, command = asked.number(), before["command"]
+    name, way = NAMES.get(kind, "not built"), "by bit 8" if offset == COMMAND else "by launch"
+    source, target, (width, height) = asked.source(), asked.target(), halves(before["dstSize"])
+    if offset == COMMAND and waited and number != 1:
+        tally["host blits", "abandoned" if number == 0 else "kept, command refused"] += 1
+    if number == 0 and is_launch(offset) and kind == HOST:
+        tally["host blits", "words"] += 1
+        tally["host blits", "words that painted"] += count > 0
+        tally["host blits", "finished"] += after.waiting is None and width * height > 0
+    if not (is_launch(offset) and not waited or offset == COMMAND and asked.flag(8)):
+        return
+    if number != 0:
+        tally["refusals", f"{number} {name} {way}"] += number >= 4
+        if number == 5 and kind in (COPY, HOST) and source and target:
+            tally["format pairs refused", f"{name} {source.depth}-{target.depth}"] += 1
+        return
+    tally["taken", f"{name} {way}"] += 1
+    tally["painted at once", name] += count > 0
+    if kind == NOP:
+        return
+    tally["keys", f"{name} {before['commandExtra'] & 3}"] += 1
+    place = ("mono source" if kind in (COPY, HOST) and source.depth == 1 else
+             "mono pattern" if kind == FILL and asked.flag(13) else
+             "stipple" if kind in (LINE, POLYLINE) and asked.flag(12) else "no effect")
+    tally["transparency", f"{name} {place}"] += asked.flag(16)
+    if bits(command, 31, 28) != bits(command, 27, 24):  # the raster operation uses the pattern
+        form = "mono" if asked.flag(13) else "colour"
+        tally["patterns", form + " row 0" * asked.extra(3) + " moved" * (bits(command, 22, 17) > 0)] += 1
+    left, top, right, bottom = asked.clip()
+    tally["clips", f"clip{asked.flag(23):d}" + " empty" * (right <= left or bottom <= top)] += 1
+    (from_x, from_y), (to_x, to_y) = asked.place("srcXY"), asked.place("dstXY")
+    across, down = to_x - from_x, to_y - from_y
+    way = f"{'=+-'[(across > 0) - (across < 0)]}x{'=+-'[(down > 0) - (down < 0)]}y"
+    if kind in (LINE, POLYLINE):
+        slope = "steep" if abs(down) > abs(across) else "flat"
+        tally["lines", f"{way} {slope}" if across and down and abs(across) != abs(down) else "others"] += 1
+        style = before["lineStyle"]
+        bad = bits(style, 23, 16) > bits(style, 7, 0) or bits(style, 28, 24) > bits(style, 12, 8)
+        tally["lines", "stipple, illegal phase" if bad else "stipple, legal phase"] += asked.flag(12)
+        return
+    tally["steps", f"{name} bits {bits(command, 11, 10)}"] += 1
+    tally["steps", "x wrapped"] += asked.flag(10) and to_x + width > 4095
+    if kind == HOST:
+        tally["host blits", "opened" if width * height else "zero data"] += 1
+    if kind in (COPY, HOST):
+        tally["format pairs", f"{name} {source.depth}-{target.depth}"] += 1
+        tally["packing", f"{name} {bits(before['srcFormat'], 23, 22)}"] += 1
+    if kind == COPY and count:
+        apart = "between surfaces" if source != target else "one surface, apart"
+        overlap = source == target and abs(across) < width and abs(down) < height
+        tally["copies", f"overlap {way} bits {bits(command, 15, 14)}" if overlap else apart] += 1
+
+
+def build(k: int, tally: Counter) -> Maker:
+    """Stream k, by its number alone."""
+    rng = random.Random(1000 + k)
+    size = TINY[k // 19 % 4] if k % 19 == 7 else rng.randint(1024, rng.choice((2048, 4096, 16384)))
+    maker, theme = Maker(k, BIG.get(k, size), tally), THEMES[k % len(THEMES)]
+    for offset in range(0x100, 0x200, 4) if theme == ("fill",) else ():
+        maker.put(offset, maker.draw(32))
+    maker.scene()
+    if k < SWEEPS:
+        maker.sweep()
+    length = len(maker.records) + (40 if k in BIG else LENGTH)
+    while len(maker.records) < length:
+        if maker.chance(0.12):
+            maker.scene()
+        if maker.chance(0.1):
+            maker.keys()
+        everything = ("fill", "copy", "host", "line") + (() if k in BIG else ("wild",))
+        getattr(maker, maker.pick(everything if maker.chance(0.12) else theme))()
+        while maker.engine.waiting is not None and maker.chance(0.95):
+            maker.settle()
+    return maker
+
+
+def make(folder: Path) -> None:
+    tally: Counter = Counter()
+    binary, text = bytearray(), []
+    for k in range(STREAMS):
+        maker = build(k, tally)
+        binary += struct.pack("<III", maker.size, len(maker.records), maker.seed_byte)
+        binary += b"".join(struct.pack("<III", *record) for record in maker.records)
+        text.append(f"stream {k}: {maker.size} bytes")
+        text += [f"{number} {count}" for number, count in maker.answers]
+        text.append(f"registers {checksum(register_bytes(maker.engine))} memory {checksum(maker.mem)}")
+    folder.mkdir(parents=True, exist_ok=True)
+    (folder / "streams.bin").write_bytes(binary)
+    (folder / "expected.txt").write_text("\n".join(text) + "\n")
+    print(f"{STREAMS} streams, {len(text) - 2 * STREAMS} writes, streams.bin {len(binary)} bytes")
+    for group in sorted({group for group, _ in tally}):
+        row = sorted((str(label), n) for (g, label), n in tally.items() if g == group and n)
+        print(textwrap.fill(f"{group}: " + "; ".join(f"{label}: {n}" for label, n in row), 150, subsequent_indent="  "))
+
+
+def compare(file: Path, folder: Path) -> bool:
+    """Says the first difference; true if there is none."""
+    found, expected = file.read_text().splitlines(), (folder / "expected.txt").read_text().splitlines()
+    triples = struct.iter_unpack("<III", (folder / "streams.bin").read_bytes())
+    names = []  # what each expected line speaks of
+    for k, (_, writes, _) in enumerate(triples):
+        names.append(f"stream {k}, its head")
+        for i in range(writes):
+            offset, word, kind = next(triples)
+            names.append(f"stream {k}, write {i} (offset {offset:X}, word {word:08X}, kind {kind})")
+        names.append(f"stream {k}, the checksums at its end")
+    for number, (name, line, here) in enumerate(zip(names, expected, found), 1):
+        if line != here:
+            print(f"Line {number}, {name}: expected `{line}`, found `{here}`.")
+            return False
+    if len(found) != len(expected):
+        print(f"The output has {len(found)} lines and should have {len(expected)}; up to the shorter end they agree.")
+        return False
+    print(f"No difference in {len(expected)} lines.")
+    return True
+
+
+if __name__ == "__main__":
+    if len(sys.argv) == 3 and sys.argv[1] == "make":
+        make(Path(sys.argv[2]))
+    elif len(sys.argv) == 4 and sys.argv[1] == "compare":
+        sys.exit(0 if compare(Path(sys.argv[2]), Path(sys.argv[3])) else 1)
+    else:
+        sys.exit(__doc__)

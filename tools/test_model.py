@@ -1,0 +1,240 @@
+"""Samples and vectors for the model: the scope paper's sheets, part 3.5's vectors V1 to V9
+and part 3.3's open points (their numbers in the comments). Run: python3 test_model.py"""
+
+import struct
+import unittest
+
+import model
+from model import OFFSETS, Engine, line_points, play, row_view
+
+TO8 = "0C=FFF0FFF 14=10020 60=1 64=2 "  # 8 bpp, stride 32, back 1, fore 2
+DOT = TO8 + "68=10001 "  # a rectangle of one pixel
+
+
+class Card:
+    """A fresh engine on some memory, after the writes of a text: `offset=word` is taken with
+    count 0, with `+C` at the end with count C; with `!N` it is refused with N."""
+
+    def __init__(self, text="", length=4096, start=b""):
+        self.mem, self.engine = bytearray(length), Engine(length)
+        self.mem[:len(start)] = start
+        self.do(text)
+
+    def do(self, text):
+        for token in text.split():
+            write, _, refusal = token.partition("!")
+            write, _, count = write.partition("+")
+            offset, word = (int(part, 16) for part in write.split("="))
+            expected = (int(refusal or 0), int(count or 0))
+            found = self.engine.write(self.mem, offset, word)
+            assert found == expected, f"{token}: {found}"
+        return self
+
+    def get(self, name):
+        return self.engine.read(OFFSETS[name])[1]
+
+
+def stipple(style, pattern, points):
+    """The stipple of a horizontal line as x and o, and lineStyle after it."""
+    card = Card(f"0C=10040 14=10040 3C={pattern:X} 40={style:X} 60=1 64=2 70=CC001006 80={points - 1:X}+{points}")
+    return "".join("?ox"[b] for b in card.mem[:points]), card.get("lineStyle")
+
+
+def stream(text):
+    return b"".join(struct.pack("<II", *(int(part, 16) for part in pair.split("="))) for pair in text.split())
+
+
+class SampleSheet(unittest.TestCase):
+    def test_widths(self):
+        self.assertEqual([model.widen(v, 5) for v in (1, 8, 16, 31)], [8, 66, 132, 255])
+        self.assertEqual([model.widen(v, 6) for v in (1, 32, 63)], [4, 130, 255])
+        self.assertEqual([model.convert(v, 24, 16) for v in (7, 8)], [0, 1])
+
+    def test_mono_words(self):  # with V9 and wrong sheet 2
+        for word, pixel in (("80", 0), ("100", 15), ("80000000", 24), ("01000000", 31)):
+            card = Card(TO8 + f"54=400000 68=10020 70=CC000003 80={word}+32")
+            self.assertEqual([x for x in range(4096) if card.mem[x] == 2], [pixel])
+
+    def test_raster_operation(self):
+        self.assertEqual(Card(DOT + "100=FF 70=5A000105+1", start=b"\x0F").mem[0], 0xF0)
+
+    def test_lines(self):
+        self.assertEqual(line_points((0, 0), (3, 1)), [(0, 0), (1, 0), (2, 1), (3, 1)])
+        self.assertEqual(line_points((0, 0), (2, 1)), [(0, 0), (1, 1), (2, 1)])
+        self.assertEqual(line_points((2, 1), (0, 0)), [(2, 1), (1, 0), (0, 0)])
+        self.assertEqual(stipple(0x00000101, 0, 3)[1], 0x01010101)
+
+    def test_step(self):
+        self.assertEqual(Card(DOT + "6C=FFF 70=CC000505").engine.place("dstXY"), (-4096, 0))
+
+    def test_host_words(self):  # with point 44
+        host = TO8 + "68=20009 70=CC000003 "
+        self.assertIsNone(Card(host + "54=400000 80=0+18").engine.waiting)
+        card = Card(host + "54=C00000 80=0+9")
+        self.assertIsNotNone(card.engine.waiting)
+        self.assertIsNone(card.do("80=0+9").engine.waiting)
+
+    def test_stride_and_clip(self):
+        Card("0C=FFF0FFF 14=40007 68=10001 70=CC000005 80=1+1 80=2!7")
+        Card(TO8 + "08=10001 0C=10001 68=40004 70=CC000105")
+
+
+class WrongSheets(unittest.TestCase):  # sheet 2 is with the mono words
+    def test_black_key(self):
+        for extra, expected in ((2, [1, 2]), (0, [2, 2])):  # ROP1 takes the pattern
+            card = Card(TO8 + f"68=10002 30=F0 38={extra} 100=101 70=CC000105+2", start=b"\0\1")
+            self.assertEqual(list(card.mem[:2]), expected)
+
+    def test_stipple_goes_on(self):
+        card = Card(TO8 + "08=2 3C=5 40=300 70=CC001006 80=4+3")
+        self.assertEqual(card.mem[:6].hex(), "000002010200")
+
+    def test_clip_max(self):
+        card = Card(TO8 + "0C=20003 68=80008 70=CC000105+6")
+        self.assertEqual([card.mem[32 * y:32 * y + 4].hex() for y in range(3)], ["02020200"] * 2 + ["00000000"])
+
+
+class Vectors(unittest.TestCase):
+    def test_v1(self):
+        left = "..#.....#.. .##.....##. .##.....##. .##.....##. ##.......## #.........# ..........."
+        right = "#.........# ##.......## ##.......## ##...#...## .##.###.##. ..###.###.. ...#...#..."
+        printed, swapped = "C0608020 C460C060 3B806EC0 1100", "60C02080 60C460C0 803BC06E 11"
+        text = "60=0 64=FFFF 6C=0 10=0 08=0 0C=FFFFFFFF 70={} 14=30800 54={} 68=7000B 5C=0 "
+        for command, words, counts, rows in (
+                ("CC000003", printed, (22, 22, 22, 11), left), ("CC000003", swapped, (22, 22, 22, 11), right),
+                ("CC010003", printed, (6, 8, 6, 0), left), ("CC010003", swapped, (6, 9, 13, 2), right)):
+            data = " ".join(f"80={word}+{count}" for word, count in zip(words.split(), counts))
+            card = Card(text.format(command, "400000") + data, 16384)
+            found = "".join(".#"[card.mem[y * 0x800 + 2 * x] & 1] for y in range(7) for x in range(11))
+            self.assertEqual(found, rows.replace(" ", ""))
+        self.assertEqual(play(stream(text.format("CC000003", "700000") + "80=C0608020")), "refused 6 at 11\n")
+
+    def test_v3(self):
+        drawn = ("3,2F 4,3F 5,3B 6,4B 7,4B 8,5F 9,5F 10,6F 11,6F 12,7F 13,7F 14,8B 15,8B 16,9B 17,9F 18,10F "
+                 "19,10F 20,11F 21,11F 22,12F")
+        for command, points, style in ((0xCC001006, drawn, 0x202), (0xCC001007, drawn[:-6], 0x02020202),
+                                       (0xCC000006, drawn.replace("B", "F"), 0x02010202)):
+            card = Card(f"14=10020 0C=100020 5C=20003 3C=6 40=2010202 60=1 64=2 70={command:X} "
+                        f"80=C0016+{len(points.split())}")
+            found = [f"{a % 32},{a // 32}" + "?BF"[card.mem[a]] for a in range(4096) if card.mem[a]]
+            self.assertEqual(sorted(found), sorted(points.split()))
+            self.assertEqual([card.get(n) for n in ("lineStyle", "srcXY", "dstXY")], [style, 0xC0016, 0xC0016])
+
+    def test_v4_v5(self):
+        self.assertEqual(stipple(0x500, 0x17, 12), ("xxxoxoxxxoxo", 0x500))
+        self.assertEqual(stipple(0x501, 0x17, 24), ("xxxxxxooxxoo" * 2, 0x501))
+        self.assertEqual(stipple(0x502, 0x17, 36), ("xxxxxxxxxoooxxxooo" * 2, 0x502))
+        line = "xxx ooooo xxxxx xxxxx xxxxx xxxxx ooooo xxxxx xxxxx ooooo xxxxx ooooo xxxxx"
+        self.assertEqual(stipple(0x07020904, 0x2B7, 63), (line.replace(" ", ""), 0x904))
+
+    def test_v6(self):
+        pattern = " ".join(f"{0x100 + i:X}={i * 0x01010101 + 0x03020100:X}" for i in range(0, 64, 4))
+        card = Card(TO8 + pattern + f" 68=20002 70={0xF0000105 + (3 << 17) + (5 << 20):X}+4")
+        self.assertEqual((card.mem[0], card.mem[1], card.mem[32]), (43, 44, 51))
+
+    def test_v7(self):
+        for width, form, steps in ((11, 0, [2, 2, 4]), (9, 0, [2, 2, 4]), (5, 1, [5, 6, 8]), (3, 4, [9, 10, 12])):
+            cards = [Card(f"68={width:X} 54={p << 22 | form << 16:X}") for p in (1, 2, 3)]
+            self.assertEqual([card.engine.source().step for card in cards], steps)
+
+
+class OpenPoints(unittest.TestCase):
+    def test_launch(self):
+        card = Card(DOT + "70=CC000105+1 FC=E005E005+1")  # 1, 2, 46
+        self.assertEqual((card.get("command"), card.get("dstXY")), (0xCC000105, 0x00050005))
+        Card("10=80000000 70=100 80=9 70=8 80=9!4 70=5 80=9!5 74=0!2 1FE=0!2 200=0!2 0=0!2")  # 3, 4, 14
+        self.assertEqual(Card(DOT + "70=CC0000F5 80=3+1").get("command"), 0xCC0000F5)  # 15
+
+    def test_waiting(self):
+        card = Card(TO8 + "54=400000 68=30020 70=CC000003 80=1+32 74=0!2 100=0!3 44=0!3 64=0!3")  # 5
+        self.assertEqual(card.engine.write(bytearray(4095), 0x74, 0), (1, 0))
+        card.do("70=CC000108!4")  # 6
+        self.assertEqual((card.get("command"), len(card.engine.waiting)), (0xCC000003, 4))
+        self.assertEqual([card.engine.read(offset)[0] for offset in (0x6C, 0x80, 0x74)], [0, 2, 2])  # 12
+        self.assertIsNone(card.do("70=CC000003").engine.waiting)
+
+    def test_host_refusals(self):
+        host = TO8 + "70=CC000003 "
+        self.assertIsNone(Card(host + "54=400000 68=C80021 80=0!7").engine.waiting)  # 8
+        Card(host + "68=5 80=0!6 68=50000 80=0")  # 9
+        Card(host + "54=400000 68=10004 34=80000000 80=0!5 34=0 5C=10000 80=0!6 5C=0 80=0+4")  # 10, 11
+
+    def test_formats(self):
+        over = Engine(model.LIMIT + 1)
+        self.assertEqual(over.write(bytearray(model.LIMIT + 1), 0x64, 1), (1, 0))  # 13
+        card = Card(DOT + "14=90020 54=90000 34=80000000 70=CC000105+1")  # 16, 17
+        card.do("34=0 70=CC000101!5 70=CC000103!5 54=30020 70=CC000101!5")
+        card.do("14=10000 70=CC000105!7 68=0 70=CC000105")  # 18
+        card = Card(DOT + "64=12345603 70=CC000105+1")  # 26
+        self.assertEqual((card.mem[:2].hex(), card.get("colorFore")), ("0300", 0x12345603))
+
+    def test_copies(self):
+        card = Card(TO8 + "68=10009 54=400000 34=800 70=CC000001 80=7+9 80=8!7")  # 19
+        card.do("34=0 80=0!8 0C=0 80=0")  # 23
+        card.do("0C=FFFFFFFF 6C=FFF 68=11FFF 70=105")  # 21, 22
+        self.assertEqual(card.get("clip0Max"), 0x0FFF0FFF)
+        Card(TO8 + "10=1 54=8 68=10008 70=CC000101+8 68=10009 70=CC000101!8")  # 24
+        Card(DOT + "54=10020 5C=1FFF 70=101!7 5C=1FFF0000 70=101!7 08=1 70=101")  # 20, 37
+        for xy, command, after in (("5C=0 6C=1", "CC000101", b"aabce"), ("5C=3 6C=4", "CC004101", b"abbcd")):
+            card = Card(TO8 + f"54=10020 68=10003 {xy} 70={command}+3", start=b"abcde")
+            self.assertEqual(bytes(card.mem[:5]), after)
+        card = Card(TO8 + "54=10020 6C=1FFF1FFF 5C=1FFF1FFF 68=50000 70=CC00CD01")  # 38, 39, 41
+        self.assertEqual(card.get("dstXY"), 0x00041FFF)
+
+    def test_keys(self):
+        self.assertTrue(model.key_match(0x77, 8, 0x000100, 0x0001FF))  # 27
+        self.assertTrue(model.key_match(0x0821, 16, 0xFF0821, 0x000821))  # 28
+        self.assertFalse(model.key_match(0x0020, 16, 0x0000, 0xF81F))
+        self.assertFalse(model.key_match(5, 8, 6, 4))  # 29
+        self.assertTrue(model.key_match(0xFF000000, 32, 0, 0))  # 25
+        self.assertEqual([model.convert(0xFF123456, 32, t) for t in (32, 24)], [0xFF123456, 0x123456])
+        for form, expected in (("410000", "0500"), ("400000", "0101")):  # 30: ROP2 is 0
+            card = Card(TO8 + f"54={form} 68=10002 38=1 18=6 1C=6 30=FF00FF 70=CC000003 80=605+2")
+            self.assertEqual(card.mem[:2].hex(), expected)
+        Card(TO8 + "54=400000 68=10008 38=2 30=FFFFFF 70=FF010003 80=3+2")  # 32
+
+    def test_patterns(self):
+        card = Card("0C=FFF0FFF 14=40030 68=20001 118=332211 70=F0000105+2")
+        self.assertEqual(card.mem[0x30:0x33].hex(), "112233")  # 33
+        self.assertEqual(card.do("38=8 70=F0300105+2").mem[0x30:0x33].hex(), "000000")  # 34
+        card = Card(TO8 + "68=10008 54=10020 5C=10000 44=81 70=CC012101+8 70=CC012105+2")  # 35
+        card.do("5C=0 6C=3 40=100 3C=1 70=CC012106+4 5C=0 60=7 70=33001106+4")  # 36
+        self.assertEqual(card.mem[:4].hex(), "fdf8fdf8")
+
+    def test_host_data(self):
+        card = Card(TO8 + "54=400000 68=8 6C=3 70=CC000403 80=0")  # 39
+        self.assertEqual(card.get("dstXY"), 11)
+        card.do("68=10002 6C=0 54=410000 80=605+2 80=807+2")  # 45
+        self.assertEqual((card.mem[:5].hex(), card.get("dstXY")), ("0506070800", 4))
+        Card("0C=FFF0FFF 14=40030 54=440000 68=10003 08=1 70=CC000103 80=0 80=0+1 80=0+1")  # 42
+
+    def test_line_ends(self):
+        self.assertEqual(stipple(0x00090304, 0b10, 1)[1], 0x01000304)  # 48
+        self.assertEqual(stipple(0x14000300, 0, 1)[1], 0x00000300)
+        card = Card(TO8 + "5C=50005 6C=50005 40=303 70=CC001107")  # 50
+        self.assertEqual(card.get("lineStyle"), 0x0303)
+        card.do("6C=1FF01FF0 70=CC001D06+6")  # 40
+        self.assertEqual((card.get("srcXY"), card.get("dstXY")), (0x1FF01FF0, 0x1FF01FF0))
+        self.assertEqual(card.do("5C=1F 6C=20 70=CC011106!7").get("srcXY"), 31)  # 51
+
+    def test_view(self):  # 52
+        mem = bytearray(64)
+        self.assertEqual(row_view(mem, 4, 0x00040010, 1, 2, 4), (0, 39, 12))
+        for x, y, width in ((1, 2, 5), (0, 0, 0), (-1, 0, 1), (0, -1, 1), (4, 3, 1)):
+            self.assertEqual(row_view(mem, 4, 0x00040010, x, y, width), (7, 0, 0))
+        for base, form in ((1 << 31, 0x00010010), (0, 0x00000010), (0, 0x00020010)):
+            self.assertEqual(row_view(mem, base, form, 0, 0, 0), (5, 0, 0))
+        self.assertEqual(row_view(bytearray(model.LIMIT + 1), 0, 0, 0, 0, 0), (1, 0, 0))
+
+    def test_program(self):  # 53, 54
+        example = stream("14=50008 0C=20002 68=10001 64=FF8000 70=CC000005 80=10000")
+        self.assertEqual(play(example), "P3\n2 2\n255\n0 0 0\n0 0 0\n255 128 0\n0 0 0\n")
+        self.assertEqual([play(b""), play(example + stream("0C=FFFFFFFF"))], ["no picture\n"] * 2)
+        self.assertEqual(play(example + b"\0"), "short write\n")
+        self.assertEqual(play(example + stream("101=0") + b"\0"), "refused 2 at 6\n")
+        grey = stream("0C=10001 14=30002 68=10001 64=8410 70=CC000105")
+        self.assertEqual(play(grey), "P3\n1 1\n255\n132 130 132\n")
+
+
+if __name__ == "__main__":
+    unittest.main()
