@@ -12,19 +12,22 @@ use Rattle.registers.specs.declared.Regs.{Regs}
 use Rattle.registers.specs.declared.Place.{Place}
 use Rattle.registers.specs.declared.Place.the-variants.{Register, Pattern, Launch, Nowhere}
 use Rattle.registers.specs.Regs.{putReg}
-use Rattle.registers.specs.Bank.{stored}
+use Rattle.registers.specs.Bank.{stored, patterned}
 use Rattle.registers.specs.Offsets.{placeOf}
 use Rattle.surface.specs.Span.{allOn, spanOf, meet}
-use Rattle.line.specs.Line.{points}
+use Rattle.surface.proofs.OnLaws.{and-left}
+use Rattle.line.specs.Line.{points, pointCount}
+use Rattle.line.specs.Stipple.{styleAfter}
 use Rattle.line.specs.Draw.{lineOff}
-use Rattle.command.specs.Decode.{bit, number, target, origins, clipOf, fillCut, copyCut, covered, needed, lineOf, feedOf}
+use Rattle.command.specs.Decode.{bit, number, target, origins, clipOf, fillCut, copyCut, covered, needed, lineOf, penOf, feedOf}
 use Rattle.host.specs.Host.{wordsOf}
 use Rattle.command.specs.Table.{targetFine, bothFine, allOnAt, pixels, sameSurface, hostFault, fillVerdict, copyVerdict, hostVerdict, lineVerdict}
+use Rattle.engine.specs.declared.Blit.{Blit}
 use Rattle.engine.specs.declared.Engine.{Engine}
 use Rattle.engine.specs.declared.Answer.{Answer}
 use Rattle.engine.specs.declared.Answer.the-variants.{Taken, Memory, Offset, Waiting, NotBuilt, Format, Host, Off, Meet}
-use Rattle.engine.specs.Step.{Step, step, numberOf, countOf, refusal, regs, idle, storedIn, filled, copied, lined, begun, fed, carried, launched, commanded, toRegister, toPattern, toPlace, written}
-use Rattle.engine.specs.Promises.{RefusedUndone, OneOutcome, ByTheTable, row4, row5, row6, row7, row8, launchedRegs, commandRow, placeRow, tableRow}
+use Rattle.engine.specs.Step.{Step, step, noBlit, freshEngine, withBank, withBlit, afterRect, afterLine, numberOf, countOf, refusal, regs, idle, storedIn, filled, copied, lined, begun, fed, carried, launched, commanded, toRegister, toPattern, toPlace, written}
+use Rattle.engine.specs.Promises.{RefusedUndone, OneOutcome, ByTheTable, Sound, SoundFresh, SoundKept, WordsTaken, row4, row5, row6, row7, row8, launchedRegs, commandRow, placeRow, tableRow}
 
 pub one-outcome : OneOutcome
 one-outcome e m o d x y p q = p ∙ sym q
@@ -326,3 +329,125 @@ pub by-the-table : ByTheTable
 unfolding written tableRow
 by-the-table e m o d =
     memory-number (ltb (2 ^ 24) (length m)) (eqb (length m) (e .opened)) e m (toPlace (placeOf o) e m o d) (placeRow (placeOf o) e (length m) o d) (place-number (placeOf o) e m o d)
+
+-- ---- a host blit that waits
+resting : (e : Engine) → e .blit ≡ noBlit → Sound e
+resting e h = record { waits = λ w. absurd (true≢false (sym w ∙ ap (λ (b : Blit). b .waiting) h)); rests = λ r. h }
+
+-- only a host blit waits
+quiet : (e : Engine) → Sound e → (number (regs e) ≡ 3 → ⊥) → e .blit ≡ noBlit
+quiet e s other = by (e .blit .waiting) refl
+  where
+    by : (t : Bool) → e .blit .waiting ≡ t → e .blit ≡ noBlit
+    by true w = absurd (other (s .waits w .0))
+    by false w = s .rests w
+
+picked : (t : Bool) (a b : Step) → (t ≡ true → Sound (a .engine)) → (t ≡ false → Sound (b .engine)) → Sound (cond t a b .engine)
+picked true a b f g = f refl
+picked false a b f g = g refl
+
+by-number : (n : ℕ) (a b c d f g : Step) → (n ≡ 0 → Sound (a .engine)) → (n ≡ 1 → Sound (b .engine)) → (n ≡ 3 → Sound (c .engine)) → (n ≡ 5 → Sound (d .engine))
+    → (6 ≤ n → Sound (f .engine)) → Sound (g .engine)
+    → Sound (cond (eqb n 0) a (cond (eqb n 1) b (cond (eqb n 3) c (cond (eqb n 5) d (cond (leb 6 n && ltb n 8) f g)))) .engine)
+by-number n a b c d f g p q r s t u =
+    picked (eqb n 0) _ _ (λ z. p (eqb-true n 0 z))
+    (λ _. picked (eqb n 1) _ _ (λ z. q (eqb-true n 1 z))
+    (λ _. picked (eqb n 3) _ _ (λ z. r (eqb-true n 3 z))
+    (λ _. picked (eqb n 5) _ _ (λ z. s (eqb-true n 5 z))
+    (λ _. picked (leb 6 n && ltb n 8) _ _ (λ z. t (leb-true 6 n (and-left (leb 6 n) (ltb n 8) z))) (λ _. u)))))
+
+filled-sound : (old e : Engine) (m : List ℕ) → Sound old → e .blit ≡ noBlit → Sound (filled old e m .engine)
+unfolding filled afterRect storedIn
+filled-sound old e m s h = picked (eqb (fillVerdict (regs e) (length m)) 0) _ _ (λ _. resting (afterRect e) h) (λ _. s)
+
+copied-sound : (old e : Engine) (m : List ℕ) → Sound old → e .blit ≡ noBlit → Sound (copied old e m .engine)
+unfolding copied afterRect storedIn
+copied-sound old e m s h = picked (eqb (copyVerdict (regs e) (length m)) 0) _ _ (λ _. resting (afterRect e) h) (λ _. s)
+
+lined-sound : (old e : Engine) (m : List ℕ) → Sound old → e .blit ≡ noBlit → Sound (lined old e m .engine)
+unfolding lined afterLine storedIn
+lined-sound old e m s h =
+    picked (eqb (lineVerdict (regs e) (length m)) 0) _ _
+    (λ _. resting (afterLine e (styleAfter (penOf (regs e)) (pointCount (lineOf (regs e))) (regs e .lineStyle))) h) (λ _. s)
+
+-- a blit that has taken n words and needs more
+waiting-sound : (e : Engine) (len n last : ℕ) → number (regs e) ≡ 3 → len ≡ e .opened → eqb (hostVerdict (regs e) len) 0 ≡ true → ltb n (wordsOf (feedOf (regs e))) ≡ true
+    → Sound (withBlit e (record { waiting = true; taken = n; last = last }))
+waiting-sound e len n last three fits fine more = record {
+  waits = λ _. (three, (ap (hostVerdict (regs e)) (sym fits) ∙ eqb-true (hostVerdict (regs e) len) 0 fine, ltb-true n (wordsOf (feedOf (regs e))) more));
+  rests = λ r. absurd (true≢false r);
+}
+
+begun-sound : (old e : Engine) (m : List ℕ) → Sound old → number (regs e) ≡ 3 → length m ≡ e .opened → Sound (begun old e m .engine)
+unfolding begun afterRect storedIn
+begun-sound old e m s three fits =
+    picked (eqb (hostVerdict (regs e) (length m)) 0) _ _
+    (λ fine. picked (ltb 0 (wordsOf (feedOf (regs e)))) _ _ (λ more. waiting-sound e (length m) 0 0 three fits fine more) (λ _. resting (afterRect (idle e)) refl))
+    (λ _. s)
+
+fed-sound : (e : Engine) (m : List ℕ) (d : ℕ) → Sound e → number (regs e) ≡ 3 → length m ≡ e .opened → Sound (fed e m d .engine)
+unfolding fed afterRect storedIn
+fed-sound e m d s three fits =
+    picked (eqb (hostVerdict (regs e) (length m)) 0) _ _
+    (λ fine. picked (ltb (e .blit .taken) (wordsOf (feedOf (regs e)))) _ _
+    (λ _. picked (ltb (e .blit .taken + 1) (wordsOf (feedOf (regs e)))) _ _
+    (λ more. waiting-sound e (length m) (e .blit .taken + 1) d three fits fine more) (λ _. resting (afterRect (idle e)) refl))
+    (λ _. resting (afterRect (idle e)) refl))
+    (λ _. s)
+
+carried-sound : (old e : Engine) (m : List ℕ) → Sound old → e .blit ≡ noBlit → length m ≡ e .opened → Sound (carried old e m .engine)
+unfolding carried
+carried-sound old e m s h fits =
+    by-number (number (regs e)) _ _ _ _ _ _ (λ _. resting e h) (λ _. copied-sound old e m s h) (λ three. begun-sound old e m s three fits)
+    (λ _. filled-sound old e m s h) (λ _. lined-sound old e m s h) s
+
+launched-sound : (e : Engine) (m : List ℕ) (d : ℕ) → Sound e → length m ≡ e .opened → Sound (launched e m d .engine)
+unfolding launched storedIn
+launched-sound e m d s fits =
+    by-number (number (regs e)) _ _ _ _ _ _ (λ _. s)
+    (λ n. copied-sound e (storedIn e 0x5c d) m s (quiet e s (λ q. omega arith)))
+    (λ three. fed-sound e m d s three fits)
+    (λ n. filled-sound e (storedIn e 0x6c d) m s (quiet e s (λ q. omega arith)))
+    (λ n. lined-sound e (storedIn e 0x6c d) m s (quiet e s (λ q. omega arith))) s
+
+place-sound : (p : Place) (e : Engine) (m : List ℕ) (o d : ℕ) → Sound e → length m ≡ e .opened → Sound (toPlace p e m o d .engine)
+unfolding toRegister toPattern commanded storedIn
+place-sound Register e m o d s fits =
+    picked (eqb o 0x70) _ _
+    (λ _. picked (bit d 8) _ _ (λ _. carried-sound e (idle (storedIn e 0x70 d)) m s refl fits) (λ _. resting (idle (storedIn e 0x70 d)) refl))
+    (λ _. picked (e .blit .waiting) _ _ (λ _. s) (λ r. resting (storedIn e o d) (s .rests r)))
+place-sound (Pattern i) e m o d s fits = picked (e .blit .waiting) _ _ (λ _. s) (λ r. resting (withBank e (patterned (e .bank) i d)) (s .rests r))
+place-sound Launch e m o d s fits = launched-sound e m d s fits
+place-sound Nowhere e m o d s fits = s
+
+pub sound-fresh : SoundFresh
+unfolding freshEngine
+sound-fresh len = resting (freshEngine len) refl
+
+pub sound-kept : SoundKept
+unfolding written
+sound-kept e m o d s =
+    picked (ltb (2 ^ 24) (length m)) _ _ (λ _. s)
+    (λ _. picked (eqb (length m) (e .opened)) _ _ (λ fits. place-sound (placeOf o) e m o d s (eqb-true (length m) (e .opened) fits)) (λ _. s))
+
+-- with command 3 a launch write's number is the host blit's verdict
+host-launch : (e : Engine) (m : List ℕ) (d : ℕ) → number (regs e) ≡ 3 → numberOf (launched e m d .answer) ≡ hostVerdict (regs e) (length m)
+unfolding launched
+host-launch e m d three =
+    pick-number (number (regs e)) _ _ _ _ _ _ _ _ _ _ _ _ refl (copied-number e (storedIn e 0x5c d) m) (fed-number e m d) (filled-number e (storedIn e 0x6c d) m)
+    (lined-number e (storedIn e 0x6c d) m) refl
+    ∙ pick-by (number (regs e)) 3 three 0 (copyVerdict (regs (storedIn e 0x5c d)) (length m)) (hostVerdict (regs e) (length m))
+    (fillVerdict (regs (storedIn e 0x6c d)) (length m)) (lineVerdict (regs (storedIn e 0x6c d)) (length m)) 4
+
+fits-number : (big fits : Bool) → big ≡ false → fits ≡ true → cond {A = ℕ} (big || not fits) 1 0 ≡ 0
+fits-number true fits b f = absurd (true≢false b)
+fits-number false true b f = refl
+fits-number false false b f = absurd (true≢false (sym f))
+
+pub words-taken : WordsTaken
+unfolding written
+words-taken e m o d s w place limit fits =
+    let word : numberOf (launched e m d .answer) ≡ 0 = host-launch e m d (s .waits w .0) ∙ ap (hostVerdict (regs e)) fits ∙ s .waits w .1 .0 in
+    memory-number (ltb (2 ^ 24) (length m)) (eqb (length m) (e .opened)) e m (toPlace (placeOf o) e m o d) 0
+    (subst (λ (p : Place). numberOf (toPlace p e m o d .answer) ≡ 0) (sym place) word)
+    ∙ fits-number (ltb (2 ^ 24) (length m)) (eqb (length m) (e .opened)) (le-ltb (2 ^ 24) (length m) limit) (eq-eqb (length m) (e .opened) fits)

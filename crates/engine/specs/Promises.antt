@@ -4,7 +4,7 @@
 use mathlib.Core.Path.{_≡_}
 use mathlib.Core.Bool.{Bool, true, false, cond, not, _&&_, _||_}
 use mathlib.Core.List.{List}
-use Prim.Native.Nat.{ℕ, _%_, _^_, _≤_}
+use Prim.Native.Nat.{ℕ, _%_, _^_, _<_, _≤_}
 use lib.Dec.{eqb, leb, ltb}
 use lib.ListN.{length}
 use Rattle.surface.specs.Span.{allOn, spanOf, meet}
@@ -14,10 +14,11 @@ use Rattle.registers.specs.declared.Regs.{Regs}
 use Rattle.registers.specs.declared.Place.{Place}
 use Rattle.registers.specs.declared.Place.the-variants.{Register, Pattern, Launch, Nowhere}
 use Rattle.registers.specs.Offsets.{placeOf}
-use Rattle.command.specs.Decode.{bit, number, target, origins, clipOf, fillCut, copyCut, covered, needed, lineOf}
-use Rattle.command.specs.Table.{targetFine, bothFine, allOnAt, pixels, sameSurface, hostFault}
+use Rattle.host.specs.Host.{wordsOf}
+use Rattle.command.specs.Decode.{bit, number, target, origins, clipOf, fillCut, copyCut, covered, needed, lineOf, feedOf}
+use Rattle.command.specs.Table.{targetFine, bothFine, allOnAt, pixels, sameSurface, hostFault, hostVerdict}
 use Rattle.engine.specs.declared.Engine.{Engine}
-use Rattle.engine.specs.Step.{Step, written, numberOf, countOf, regs, storedIn}
+use Rattle.engine.specs.Step.{Step, written, numberOf, countOf, regs, storedIn, noBlit, freshEngine}
 
 -- ---- demand 1: a refused write, one whose number is not 0, leaves engine and memory as they were, and counts nothing
 abbrev pub RefusedUndone : Type 0
@@ -80,3 +81,22 @@ tableRow e len o d = cond (ltb (2 ^ 24) len || not (eqb len (e .opened))) 1 (pla
 
 abbrev pub ByTheTable : Type 0
 ByTheTable = (e : Engine) (m : List ℕ) (o d : ℕ) → numberOf (written e m o d .answer) ≡ tableRow e (length m) o d
+
+-- ---- a host blit that waits
+
+-- what a fresh engine meets and every write keeps: only a host blit waits, its registers have passed the table for the engine's memory, it has had
+-- fewer words than it needs; and where none waits, no words are counted
+pub record Sound (e : Engine) : Type 0 where
+  pub waits : e .blit .waiting ≡ true → (number (regs e) ≡ 3) × ((hostVerdict (regs e) (e .opened) ≡ 0) × (e .blit .taken < wordsOf (feedOf (regs e))))
+  pub rests : e .blit .waiting ≡ false → e .blit ≡ noBlit
+
+abbrev pub SoundFresh : Type 0
+SoundFresh = (len : ℕ) → Sound (freshEngine len)
+
+abbrev pub SoundKept : Type 0
+SoundKept = (e : Engine) (m : List ℕ) (o d : ℕ) → Sound e → Sound (written e m o d .engine)
+
+-- the later words of a blit that waits are refused by row 1 only
+abbrev pub WordsTaken : Type 0
+WordsTaken = (e : Engine) (m : List ℕ) (o d : ℕ) → Sound e → e .blit .waiting ≡ true → placeOf o ≡ Launch → length m ≤ 2 ^ 24 → length m ≡ e .opened
+    → numberOf (written e m o d .answer) ≡ 0

@@ -130,10 +130,10 @@ impl Engine {
                 answer: refuse(verdict),
             };
         }
-        let c = command::fill_cut(regs);
+        let cut = command::fill_cut(regs);
         let task = command::fill_task(regs);
         let pattern = bank.pattern;
-        let count = paint::paint_rect(mem, task, pattern, c.w, c.h);
+        let count = paint::paint_rect(mem, task, pattern, cut.w, cut.h);
         Outcome {
             engine: self.end_rect(),
             answer: Answer::Taken(count),

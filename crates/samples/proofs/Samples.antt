@@ -9,8 +9,11 @@ use Rattle.surface.specs.Span.{allOn}
 use Rattle.surface.specs.Format.{targetOf}
 use Rattle.surface.specs.Step.{rowLength, stepOf, dataBytes, dataWords}
 use Rattle.surface.specs.View.{viewAnswer}
+use Rattle.line.specs.Line.{far, towards, xMajor, longer, shorter, aside, place, pointAt, pointsFrom, pointCount, points}
+use Rattle.line.specs.Stipple.{stepped, after, styleAfter}
+use Rattle.registers.specs.Position.{steppedXY}
 use Rattle.samples.specs.Sheet.{sheet}
 
 pub samples : map (λ line. line .given) sheet ≡ map (λ line. line .said) sheet
-unfolding ropBit ropBits rowBytes byteAt monoBit rowPixels firstByte byteCount inMemory onSurface across allOn targetOf rowLength stepOf dataBytes dataWords viewAnswer
+unfolding ropBit ropBits rowBytes byteAt monoBit rowPixels firstByte byteCount inMemory onSurface across allOn targetOf rowLength stepOf dataBytes dataWords viewAnswer far towards xMajor longer shorter aside place pointAt pointsFrom pointCount points stepped after styleAfter steppedXY
 samples = refl

@@ -1,14 +1,17 @@
 -- The marked lines of the sample sheet of document 01, as a list: what the definitions give beside what the sheet says.
 -- Assumes nothing.
 use mathlib.Core.List.{List, [], _∷_, map}
-use mathlib.Core.Bool.{cond}
-use Prim.Native.Nat.{ℕ, zero, suc, _/_, _%_}
+use mathlib.Core.Bool.{true, false, cond}
+use Prim.Native.Nat.{ℕ, zero, suc, _-_, _/_, _%_}
 use lib.Dec.{eqb}
 use Rattle.colour.specs.Convert.{repeated, narrowed}
 use Rattle.colour.specs.Rop.{ropBits}
 use Rattle.surface.specs.Place.{surface, monoBit}
 use Rattle.surface.specs.Step.{stepOf, dataWords}
 use Rattle.surface.specs.View.{viewAnswer}
+use Rattle.line.specs.Line.{lineFrom, flat, points}
+use Rattle.line.specs.Stipple.{styleAfter}
+use Rattle.registers.specs.Position.{origin, placed, steppedXY}
 
 -- a line of the sheet: the numbers that the definitions give, and those that the sheet says
 pub record Line : Type 0 where
@@ -39,6 +42,14 @@ sheet =
     ∷ is (monoPixels 0x80) (0 ∷ []) ∷ is (monoPixels 0x100) (15 ∷ [])
     -- ROP 5A, pattern FF, target 0F: F0
     ∷ is (ropBits 8 0x5a 0xff 0 0x0f ∷ []) (0xf0 ∷ [])
+    -- line (0,0) to (3,1): (0,0) (1,0) (2,1) (3,1); (0,0) to (2,1): (0,0) (1,1) (2,1); back from (2,1): middle (1,0)
+    ∷ is (flat (points (lineFrom 0 0 3 1))) (0 ∷ 0 ∷ 1 ∷ 0 ∷ 2 ∷ 1 ∷ 3 ∷ 1 ∷ [])
+    ∷ is (flat (points (lineFrom 0 0 2 1))) (0 ∷ 0 ∷ 1 ∷ 1 ∷ 2 ∷ 1 ∷ [])
+    ∷ is (flat (points (lineFrom 2 1 0 0))) (2 ∷ 1 ∷ 1 ∷ 0 ∷ 0 ∷ 0 ∷ [])
+    -- lineStyle 00000101, three points: 01010101 after
+    ∷ is (styleAfter (record { stipple = 0; stippled = true }) 3 0x101 ∷ []) (0x1010101 ∷ [])
+    -- dstX 4095, width 1, bit 10: −4096, which is 4096 before the origin
+    ∷ is ((origin - placed (steppedXY 4095 1 true false)) ∷ []) (4096 ∷ [])
     -- host mono 9 by 2: packing 1 needs 1 word, packing 3 needs 2
     ∷ is (map (λ packing. dataWords 0 (stepOf packing 0 9 0) 9 2) (1 ∷ 3 ∷ [])) (1 ∷ 2 ∷ [])
     -- 24 bpp, stride 7: x = 1 taken, x = 2 refused 7
