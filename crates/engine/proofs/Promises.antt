@@ -232,7 +232,7 @@ filled-number old e m = first-number (not (targetFine (regs e))) false (not (all
 
 copied-number : (old e : Engine) (m : List ℕ) → numberOf (copied old e m .answer) ≡ copyVerdict (regs e) (length m)
 unfolding copied copyVerdict
-copied-number old e m = 
+copied-number old e m =
     first-number (not (bothFine (regs e))) false
     (not (allOn (target (regs e)) (length m) (covered (copyCut (regs e)))) || not (allOnAt (origins (regs e)) (length m) (needed (copyCut (regs e)))))
     (not (sameSurface (target (regs e)) (origins (regs e)))
@@ -240,7 +240,7 @@ copied-number old e m =
 
 lined-number : (old e : Engine) (m : List ℕ) → numberOf (lined old e m .answer) ≡ lineVerdict (regs e) (length m)
 unfolding lined lineVerdict
-lined-number old e m = 
+lined-number old e m =
     first-number (not (targetFine (regs e))) false (lineOff (target (regs e)) (length m) (clipOf (regs e)) (points (lineOf (regs e)))) false old m _ refl
 
 begun-number : (old e : Engine) (m : List ℕ) → numberOf (begun old e m .answer) ≡ hostVerdict (regs e) (length m)
