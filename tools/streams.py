@@ -3,9 +3,11 @@
   python3 streams.py make DIR           writes DIR/streams.bin and DIR/expected.txt
   python3 streams.py compare FILE DIR   names the first difference from DIR/expected.txt
 
-streams.bin, little-endian words: for each stream the memory's length M, the number of writes
-N and a seed byte; byte i of the memory is (7 i i + 13 i + seed byte) mod 256 at the start; then
-N times offset, word and kind (1: the memory is passed without its last byte, if it has one).
+streams.bin, little-endian words: for each stream the length M that the engine is opened for, the
+number of writes N and a seed byte, then N times offset, word and kind. The memory has M bytes, or
+65,536 where M is more, so that row 1 answers every write of such a stream (test_model.py has the
+real limit); byte i is (7 i i + 13 i + seed byte) mod 256 at the start. Kind 1: the memory is passed
+without its last byte, if it has one.
 expected.txt: for each stream its head, a line `answer count` for each write, and checksums
 (FNV-1a) of registers 08 to 70, pattern and one byte for a waiting host blit, and of memory.
 """
@@ -24,7 +26,8 @@ from model import (BUILT, COMMAND, COPY, FILL, HOST, KEPT, LIMIT, LINE, NOP, OFF
 STREAMS, LENGTH = 336, 72  # streams, and the least number of writes of an ordinary one
 SWEEPS = 4  # so many streams begin with one
 TINY = (0, 1, 3, 64)  # lengths of memory
-BIG = {STREAMS - 2: LIMIT, STREAMS - 1: LIMIT + 1}
+ROOM = 65_536  # the longest memory there is
+BIG = {STREAMS - 5: ROOM, STREAMS - 3: LIMIT, STREAMS - 2: LIMIT + 1, STREAMS - 1: ROOM}
 THEMES = (("fill",), ("copy", "copy", "touch"), ("host",), ("line",), ("copy", "host"),
           ("fill", "copy", "host", "line", "wild"))
 NAMES = {NOP: "nop", COPY: "copy", HOST: "host", FILL: "fill", LINE: "line", POLYLINE: "polyline"}
@@ -60,7 +63,7 @@ class Maker:
         self.rng, self.size, self.tally = random.Random(seed), size, tally
         self.pick, self.draw = self.rng.choice, self.rng.getrandbits
         self.seed_byte = self.rng.randrange(256)
-        self.mem, self.engine = filled(size, self.seed_byte), Engine(size)
+        self.mem, self.engine = filled(min(size, ROOM), self.seed_byte), Engine(size)
         self.slips = self.pick((0.003, 0.003, 0.01, 0.05))  # how often a faulty write comes between
         self.records: list[tuple[int, int, int]] = []
         self.answers: list[tuple[int, int]] = []
@@ -97,13 +100,16 @@ class Maker:
         """Base, stride, columns and rows of a surface inside a part of the memory."""
         room = part[1] - part[0]
         stride = min(room, row_bytes(self.near(4, 48 if depth == 1 else 22), depth) + self.pick((0, 0, 1, 3)))
+        columns = 8 * stride if depth == 1 else stride // (depth // 8)
+        if room > 3 * 8192 and self.chance(0.7):
+            stride += 8192  # the stride's top bit; only the columns at the left are used
         rows = min(room // stride, 40) if stride else 0
         base = part[0] + self.pick((0, self.near(0, room % max(1, stride)), room - rows * stride))
-        return base, stride, 8 * stride if depth == 1 else stride // (depth // 8), rows
+        return base, stride, columns, rows
 
     def scene(self) -> None:
         """A target with its clips, colours, a part of the pattern and keys."""
-        floor = max(0, self.size - 8192)
+        floor = max(0, self.size - (ROOM if self.size == ROOM else 8192))
         middle = (floor + self.size) // 2
         self.parts = [(floor, middle), (middle, self.size)] if self.size >= 64 else [(0, self.size)] * 2
         self.rng.shuffle(self.parts)
@@ -386,13 +392,13 @@ def build(k: int, tally: Counter) -> Maker:
     maker.scene()
     if k < SWEEPS:
         maker.sweep()
-    length = len(maker.records) + (40 if k in BIG else LENGTH)
+    length = len(maker.records) + LENGTH
     while len(maker.records) < length:
         if maker.chance(0.12):
             maker.scene()
         if maker.chance(0.1):
             maker.keys()
-        everything = ("fill", "copy", "host", "line") + (() if k in BIG else ("wild",))
+        everything = ("fill", "copy", "host", "line", "wild")
         getattr(maker, maker.pick(everything if maker.chance(0.12) else theme))()
         while maker.engine.waiting is not None and maker.chance(0.95):
             maker.settle()

@@ -159,9 +159,14 @@ class OpenPoints(unittest.TestCase):
         Card(host + "68=5 80=0!6 68=50000 80=0")  # 9
         Card(host + "54=400000 68=10004 34=80000000 80=0!5 34=0 5C=10000 80=0!6 5C=0 80=0+4")  # 10, 11
 
+    def test_limit(self):  # 13
+        card = Card(DOT + "10=FFFFE0 70=CC000005 80=1F+1 80=10000!7", model.LIMIT)
+        self.assertEqual((card.mem[-1], card.mem.count(2)), (2, 1))
+        for length in (model.LIMIT - 1, model.LIMIT + 1):
+            self.assertEqual(card.engine.write(bytearray(length), 0x80, 0), (1, 0))
+        Card("10=0!1 70=CC000105!1 80=0!1 100=0!1 74=0!1", model.LIMIT + 1)
+
     def test_formats(self):
-        over = Engine(model.LIMIT + 1)
-        self.assertEqual(over.write(bytearray(model.LIMIT + 1), 0x64, 1), (1, 0))  # 13
         card = Card(DOT + "14=90020 54=90000 34=80000000 70=CC000105+1")  # 16, 17
         card.do("34=0 70=CC000101!5 70=CC000103!5 54=30020 70=CC000101!5")
         card.do("14=10000 70=CC000105!7 68=0 70=CC000105")  # 18

@@ -1,0 +1,242 @@
+// Recorded streams of register writes, replayed on the engine. Standard input holds little-endian words: for each stream the length that the
+// engine is opened for, the number of writes and a seed for the memory's bytes, then offset, word and kind of each write (kind 1: the memory is
+// lent without its last byte). For each stream it prints a head, a line `number count` for each answer, and checksums of registers and memory.
+use engine::Answer;
+use engine::Engine;
+use libc::STDIN_FILENO;
+use libc::STDOUT_FILENO;
+use registers::Reading;
+ghost use Prim.Native.Nat.{_<_, _≤_};
+
+// Three words of the input, and how many of their twelve bytes there were.
+struct Record {
+    first: u32,
+    second: u32,
+    third: u32,
+    came: usize,
+}
+
+// The engine after a write, and whether there was one.
+struct Turn {
+    engine: Engine,
+    more: bool,
+}
+
+fn say(text: &[u8]) {
+    io::write_all(STDOUT_FILENO, text);
+}
+
+fn say_number(n: u64, text: &[u8]) {
+    io::print_decimal(STDOUT_FILENO, n);
+    io::write_all(STDOUT_FILENO, text);
+}
+
+fn wide(x: u8) -> u32
+    ensures { λ r. ⌜ r < 256 ⌝ }
+{
+    x as u32
+}
+
+fn word(a: u8, b: u8, c: u8, d: u8) -> u32 {
+    wide(a) + wide(b) * 0x100 + wide(c) * 0x1_0000 + wide(d) * 0x100_0000
+}
+
+fn read_record() -> Record {
+    let mut b = [0u8; 12];
+    let n = io::read_full(STDIN_FILENO, &mut b);
+    Record {
+        first: word(b[0], b[1], b[2], b[3]),
+        second: word(b[4], b[5], b[6], b[7]),
+        third: word(b[8], b[9], b[10], b[11]),
+        came: n,
+    }
+}
+
+// The FNV-1a checksum of no bytes.
+const NO_BYTES: u64 = 2166136261;
+
+// The checksum after one byte more, the low one of a word.
+fn mix_byte(sum: u64, word: u32) -> u64 {
+    (sum ^ (word % 0x100) as u64) % 0x1_0000_0000 * 16777619 % 0x1_0000_0000
+}
+
+fn mix_word(sum: u64, word: u32) -> u64 {
+    let one = mix_byte(sum, word);
+    let two = mix_byte(one, word / 0x100);
+    let three = mix_byte(two, word / 0x1_0000);
+    mix_byte(three, word / 0x100_0000)
+}
+
+fn value(r: Reading) -> u32 {
+    match r {
+        Reading::Value(word) => word,
+        Reading::Refused => 0,
+    }
+}
+
+// The checksum after the words that are read back from an offset on, up to another.
+fn mix_reads(e: Engine, sum: u64, offset: u32, past: u32) -> u64
+    requires { ⌜ past ≤ 0x200 ⌝ }
+{
+    let mut h = sum;
+    let mut at = offset;
+    while at < past {
+        h = mix_word(h, value(e.read(at)));
+        at += 4;
+    }
+    h
+}
+
+// The checksum of registers 08 to 70, of the pattern, and of one byte for a waiting host blit.
+fn sum_registers(e: Engine) -> u64 {
+    let registers = mix_reads(e, NO_BYTES, 0x08, 0x74);
+    let pattern = mix_reads(e, registers, 0x100, 0x200);
+    let waiting = e.blit.waiting;
+    if waiting {
+        return mix_byte(pattern, 1);
+    }
+    mix_byte(pattern, 0)
+}
+
+fn sum_memory(mem: &[u8]) -> u64 {
+    let mut h = NO_BYTES;
+    let mut i = 0;
+    while i < mem.len() {
+        h = mix_byte(h, wide(mem[i]));
+        i += 1;
+    }
+    h
+}
+
+// Byte i of the memory at the start: 7 i i + 13 i + seed, modulo 256.
+fn start_byte(i: usize, seed: u32) -> u8 {
+    let k = i % 256;
+    ((k * k % 256 * 7 + k * 13 + (seed % 256) as usize) % 256) as u8
+}
+
+fn fill(mem: &mut [u8], seed: u32) {
+    let mut i = 0;
+    while i < mem.len() {
+        mem[i] = start_byte(i, seed);
+        i += 1;
+    }
+}
+
+fn number(a: Answer) -> u64 {
+    match a {
+        Answer::Taken(_) => 0,
+        Answer::Memory => 1,
+        Answer::Offset => 2,
+        Answer::Waiting => 3,
+        Answer::NotBuilt => 4,
+        Answer::Format => 5,
+        Answer::Host => 6,
+        Answer::Off => 7,
+        Answer::Meet => 8,
+    }
+}
+
+fn count(a: Answer) -> u64 {
+    match a {
+        Answer::Taken(n) => n as u64,
+        _ => 0,
+    }
+}
+
+// How much of a memory of len bytes a write of this kind is lent.
+fn lent(len: usize, kind: u32) -> usize
+    ensures { λ r. ⌜ r ≤ len ⌝ }
+{
+    if kind != 1 {
+        return len;
+    }
+    if len == 0 {
+        return 0;
+    }
+    len - 1
+}
+
+fn play_write(e: Engine, mem: &mut [u8]) -> Turn {
+    let r = read_record();
+    if r.came < 12 {
+        return Turn {
+            engine: e,
+            more: false,
+        };
+    }
+    let len = lent(mem.len(), r.third);
+    let out = e.write(&mut mem[..len], r.first, r.second);
+    let next = out.engine;
+    let answer = out.answer;
+    say_number(number(answer), b" ");
+    say_number(count(answer), b"\n");
+    Turn {
+        engine: next,
+        more: true,
+    }
+}
+
+fn say_sums(e: Engine, mem: &[u8]) {
+    say(b"registers ");
+    io::print_hex(STDOUT_FILENO, sum_registers(e), 8);
+    say(b" memory ");
+    io::print_hex(STDOUT_FILENO, sum_memory(mem), 8);
+    say(b"\n");
+}
+
+fn end_inside() -> bool {
+    say(b"the input ends inside a stream\n");
+    false
+}
+
+// The writes of a stream on an engine opened for a length; whether all of them were there.
+fn play(mem: &mut [u8], opened: usize, writes: u32) -> bool {
+    let mut e = Engine::open(opened);
+    let mut done: u32 = 0;
+    while done < writes {
+        let t = play_write(e, mem);
+        if !t.more {
+            return end_inside();
+        }
+        let next = t.engine;
+        e = next;
+        done += 1;
+    }
+    say_sums(e, mem);
+    true
+}
+
+fn least(a: usize, b: usize) -> usize
+    ensures { λ r. ⌜ r ≤ b ⌝ }
+{
+    if a < b { a } else { b }
+}
+
+// Stream k; whether it was there whole. One for a longer memory than there is gets all there is.
+fn play_stream(mem: &mut [u8], k: u64) -> bool {
+    let head = read_record();
+    if head.came == 0 {
+        return false;
+    }
+    if head.came < 12 {
+        return end_inside();
+    }
+    let opened = head.first as usize;
+    say(b"stream ");
+    say_number(k, b": ");
+    say_number(head.first as u64, b" bytes\n");
+    let len = least(opened, mem.len());
+    fill(&mut mem[..len], head.third);
+    play(&mut mem[..len], opened, head.second)
+}
+
+fn main() {
+    let mut mem = io::large_buffer();
+    let mut k: u64 = 0;
+    while k < 0x1_0000_0000 {
+        if !play_stream(&mut mem, k) {
+            return;
+        }
+        k += 1;
+    }
+}

@@ -1,0 +1,7 @@
+pub mod Areas
+pub mod Commands
+pub mod Frames
+pub mod Copies
+pub mod CopyWrites
+pub mod Back
+pub mod Restores

@@ -1,0 +1,3 @@
+pub mod Rectangles
+pub mod Writes
+pub mod Restore
