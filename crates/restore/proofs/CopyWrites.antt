@@ -50,10 +50,10 @@ launched-copy : (e : Engine) (m : List ℕ) (d : ℕ) → number (regs e) ≡ 1 
 unfolding launched
 launched-copy e m d n = rw (ne-eqb (number (regs e)) 0 (λ z. omega arith), eq-eqb (number (regs e)) 1 n)
 
-the-same : (r s : Regs) → some r ≡ some s → r ≡ s
+pub the-same : (r s : Regs) → some r ≡ some s → r ≡ s
 the-same r s e = cc
 
-nothing-ordered : {A : Type 0} (r : Regs) → none ≡ some r → A
+pub nothing-ordered : {A : Type 0} (r : Regs) → none ≡ some r → A
 nothing-ordered r e = let z : _≡_ {A = ℕ} 0 1 = cc in absurd (omega arith)
 
 module _ (e : Engine) (m : List ℕ) (w : Write) (r : Regs) (copy : number r ≡ 1) where

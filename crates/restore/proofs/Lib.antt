@@ -5,3 +5,4 @@ pub mod Copies
 pub mod CopyWrites
 pub mod Back
 pub mod Restores
+pub mod Sample
