@@ -3,11 +3,13 @@
 -- Assumes nothing.
 use mathlib.Core.Path.{_≡_}
 use mathlib.Core.Bool.{Bool, true, false, cond, not, _&&_, _||_}
-use mathlib.Core.List.{List}
-use Prim.Native.Nat.{ℕ, _%_, _^_, _<_, _≤_}
+use mathlib.Core.List.{List, [], _∷_, List·Memᴰ}
+use Prim.Native.Nat.{ℕ, _+_, _%_, _^_, _<_, _≤_}
 use lib.Dec.{eqb, leb, ltb}
-use lib.ListN.{length}
-use Rattle.surface.specs.Span.{allOn, spanOf, meet}
+use lib.ListN.{length, getD}
+use Rattle.surface.specs.Pixels.{Px}
+use Rattle.surface.specs.Span.{allOn, addresses, spanOf, meet}
+use Rattle.paint.specs.Clip.{origin, inClip}
 use Rattle.line.specs.Line.{points}
 use Rattle.line.specs.Draw.{lineOff}
 use Rattle.registers.specs.declared.Regs.{Regs}
@@ -100,3 +102,22 @@ SoundKept = (e : Engine) (m : List ℕ) (o d : ℕ) → Sound e → Sound (writt
 abbrev pub WordsTaken : Type 0
 WordsTaken = (e : Engine) (m : List ℕ) (o d : ℕ) → Sound e → e .blit .waiting ≡ true → placeOf o ≡ Launch → length m ≤ 2 ^ 24 → length m ≡ e .opened
     → numberOf (written e m o d .answer) ≡ 0
+
+-- ---- the frame: where a byte changes, it belongs to a pixel of the target inside the clip
+
+-- the registers with which a write has a command carried out, if it does: those of a command write, or of a launch
+abbrev pub usedAt : Place → Engine → ℕ → Regs
+usedAt Register e d = regs (storedIn e 0x70 d)
+usedAt (Pattern i) e d = regs e
+usedAt Launch e d = launchedRegs e d
+usedAt Nowhere e d = regs e
+
+abbrev pub usedRegs : Engine → ℕ → ℕ → Regs
+usedRegs e o d = usedAt (placeOf o) e d
+
+abbrev pub OnlyCovered : Type 0
+OnlyCovered = (e : Engine) (m : List ℕ) (o d : ℕ)
+    → (length (written e m o d .memory) ≡ length m)
+    × ((a : ℕ)
+    → ((p : Px) → inClip (clipOf (usedRegs e o d)) (origin + p .x) (origin + p .y) ≡ true → List·Memᴰ a (addresses (target (usedRegs e o d)) (p ∷ [])) → ⊥)
+    → getD (written e m o d .memory) a 0 ≡ getD m a 0)

@@ -38,35 +38,10 @@ use Rattle.engine.specs.declared.Engine.{Engine}
 use Rattle.engine.specs.declared.Answer.{Answer}
 use Rattle.engine.specs.declared.Answer.the-variants.{Taken}
 use Rattle.engine.specs.Step.{Step, step, done, numberOf, refusal, regs, idle, withBlit, storedIn, afterRect, afterLine, wordPainted, filled, copied, lined, begun, fed}
+use Rattle.engine.proofs.Frame.{picked, fill-in-clip, copy-in-clip, each-pixel, word-in-clip}
 use Rattle.restore.specs.Rectangles.{Rectangle}
 use Rattle.restore.specs.Restore.{Framed}
 use Rattle.restore.proofs.Areas.{Elsewhere, elsewhere-refl}
-
--- what holds of both outcomes of a test holds of the one that it picks
-pub picked : {A : Type 0} (P : A → Type 0) (t : Bool) (x y : A) → (t ≡ true → P x) → (t ≡ false → P y) → P (cond t x y)
-picked P true x y f g = f refl
-picked P false x y f g = g refl
-
--- ---- pixels touched are inside the clip
-cut-in-clip : (c : Clip) (x y w h sx sy : ℕ) (p : Px)
-    → Inside (cutAt c x y w h sx sy .x) (cutAt c x y w h sx sy .y) (cutAt c x y w h sx sy .w) (cutAt c x y w h sx sy .h) p
-    → inClip c (origin + p .x) (origin + p .y) ≡ true
-unfolding cutAt
-cut-in-clip c x y w h sx sy p i = clip-in c (origin + p .x) (origin + p .y) (omega arith)
-
-fill-in-clip : (r : Regs) (p : Px) → In p (covered (fillCut r)) → inClip (clipOf r) (origin + p .x) (origin + p .y) ≡ true
-unfolding fillCut
-fill-in-clip r p i = cut-in-clip (clipOf r) _ _ _ _ _ _ p (in-rect false false _ _ _ _ p i)
-
-copy-in-clip : (r : Regs) (p : Px) → In p (covered (copyCut r)) → inClip (clipOf r) (origin + p .x) (origin + p .y) ≡ true
-unfolding copyCut
-copy-in-clip r p i = cut-in-clip (clipOf r) _ _ _ _ _ _ p (in-rect false false _ _ _ _ p i)
-
--- what holds of each touch's pixel
-each-pixel : (P : Px → Type 0) (ts : List Touch) → ((t : Touch) → List·Memᴰ t ts → P (t .at)) → (p : Px) → In p (map (λ t. t .at) ts) → P p
-each-pixel P [] f p i = absurd (List·Memᴰ·not-nil i)
-each-pixel P (t ∷ ts) f p i =
-    ⊎-elim (λ e. subst P (sym e) (f t (List·Memᴰ·head refl))) (λ j. each-pixel P ts (λ u k. f u (List·Memᴰ·tail k)) p j) (List·Memᴰ·cases-cons i)
 
 -- ---- one write
 -- a blit that waits is a host blit in the frame
@@ -161,21 +136,6 @@ module _ {t : Rectangle} (old e : Engine) (m : List ℕ) (o : e .opened ≡ old 
       (λ v asked. still old old m (refusal (hostVerdict r (length m))) refl before)
 
 -- ---- a word of data
-back-again : (f p : ℕ) → origin ≤ f + p → origin + (f + p - origin) ≡ f + p
-back-again f p h = omega arith
-
-word-in-clip : (e : Engine) (len word : ℕ) → hostVerdict (regs e) len ≡ 0 → 0 < wordsOf (feedOf (regs e)) → (u : Touch)
-    → List·Memᴰ u (hostTouches (inkOf (regs e)) (e .bank .pattern) (clipOf (regs e)) (feedOf (regs e)) (byWord (feedOf (regs e)) (e .blit .last) word (e .blit .taken)))
-    → inClip (clipOf (regs e)) (origin + u .at .x) (origin + u .at .y) ≡ true
-word-in-clip e len word v words u i =
-    let r = regs e in
-    let feed = feedOf r in
-    let k = touched-inside (inkOf r) (e .bank .pattern) (clipOf r) feed (host-can r len v words .rows) (e .blit .last) word (e .blit .taken) u i in
-    let h = in-clip (clipOf r) (feed .x + k .i) (feed .y + k .j) (k .inside) in
-    let x : origin + u .at .x ≡ feed .x + k .i = ap (λ (p : Px). origin + p .x) (k .place) ∙ back-again (feed .x) (k .i) (omega arith) in
-    let y : origin + u .at .y ≡ feed .y + k .j = ap (λ (p : Px). origin + p .y) (k .place) ∙ back-again (feed .y) (k .j) (omega arith) in
-    ap₂ (inClip (clipOf r)) x y ∙ k .inside
-
 module _ {t : Rectangle} (e : Engine) (m : List ℕ) (word : ℕ) (before : Held t e) (host : number (regs e) ≡ 3) where
   abbrev Fed : Step → Type 0
   Fed s = (numberOf (s .answer) ≡ 0 → Framed t (regs e)) → Kept t e m s

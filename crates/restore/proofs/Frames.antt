@@ -25,7 +25,8 @@ use Rattle.restore.specs.Rectangles.{Rectangle}
 use Rattle.restore.specs.Writes.{Write, Run, by, played, launching, orderAt, order}
 use Rattle.restore.specs.Restore.{Framed, AllFramed}
 use Rattle.restore.proofs.Areas.{Elsewhere, elsewhere-refl, elsewhere-trans}
-use Rattle.restore.proofs.Commands.{picked, Held, Kept, Asked, not-waiting, still, filled-kept, copied-kept, lined-kept, begun-kept, fed-kept}
+use Rattle.engine.proofs.Frame.{picked}
+use Rattle.restore.proofs.Commands.{Held, Kept, Asked, not-waiting, still, filled-kept, copied-kept, lined-kept, begun-kept, fed-kept}
 
 -- ---- by the number of the command
 by-number : (P : Step → Type 0) (n : ℕ) (nop copy host fill line other : Step) → (n ≡ 0 → P nop) → (n ≡ 1 → P copy) → (n ≡ 3 → P host) → (n ≡ 5 → P fill)
