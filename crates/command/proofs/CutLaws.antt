@@ -4,13 +4,13 @@ use mathlib.Core.Path.{_≡_, refl, sym, ap, ap₂, _∙_}
 use mathlib.Core.Logic.{⊎-elim}
 use mathlib.Core.Bool.{Bool, true, false, cond, _&&_, and-false}
 use mathlib.Core.List.{List, [], _∷_, _++_, map, List·Memᴰ·head, List·Memᴰ·tail, List·Memᴰ·not-nil, List·Memᴰ·cases-cons}
-use Prim.Native.Nat.{ℕ, zero, suc, _+_, _-_, _/_, _%_, _^_, _<_, _≤_, min, max}
+use Prim.Native.Nat.{ℕ, zero, suc, _+_, _-_, _^_, _<_, _≤_}
 use native.Mathlib.Omega.{arith}
 use lib.Dec.{leb, ltb}
 use borrow.Author.Tests.{le-leb, le-ltb, leb-true}
 use Rattle.surface.specs.declared.Surface.{Surface}
 use Rattle.surface.specs.Place.{onSurface}
-use Rattle.surface.specs.Pixels.{Px, px, across, rect, Inside}
+use Rattle.surface.specs.Pixels.{Px, px, across, rect}
 use Rattle.surface.specs.declared.Span.{Span}
 use Rattle.surface.specs.Span.{allOn, spanOf, meet}
 use Rattle.surface.proofs.OnLaws.{and-left, and-right, same-test}
@@ -22,7 +22,7 @@ use Rattle.paint.specs.declared.Clip.{Clip}
 use Rattle.paint.specs.Clip.{origin, Bits12, pixelAt}
 use Rattle.registers.specs.declared.Regs.{Regs}
 use Rattle.command.specs.declared.Cut.{Cut}
-use Rattle.command.specs.Decode.{bit, clipBy, clipOf, cutLow, cutSize, cutAt, covered, needed, CutRange}
+use Rattle.command.specs.Decode.{bit, clipBy, clipOf, cutAt, covered, needed, CutRange}
 use Rattle.command.specs.Table.{onAt, allOnAt, pixels}
 
 -- ---- the clip

@@ -1,7 +1,7 @@
 -- Which row of the table the tests lead to, one line for each way through a command's verdict.
 -- Assumes nothing.
-use mathlib.Core.Path.{_≡_, refl, sym, ap, _∙_}
-use mathlib.Core.Bool.{Bool, true, false, cond, not, _&&_, _||_, or-true}
+use mathlib.Core.Path.{_≡_}
+use mathlib.Core.Bool.{Bool, true, false, cond, not, _&&_}
 use Prim.Native.Nat.{ℕ}
 use Rattle.surface.specs.Span.{allOn, spanOf, meet}
 use Rattle.line.specs.Line.{points}

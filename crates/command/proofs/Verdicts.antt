@@ -1,27 +1,27 @@
 -- What a verdict of 0 gives the painters: a rectangle that can be painted, in an order that reads nothing too late, a line that can be drawn, an open host blit.
 -- Assumes nothing.
-use mathlib.Core.Path.{_≡_, refl, sym, ap, ap₂, subst, _∙_}
-use mathlib.Core.Logic.{_⊎_, inl, inr}
+use mathlib.Core.Path.{_≡_, refl, sym, ap, _∙_}
+use mathlib.Core.Logic.{inl, inr}
 use mathlib.Core.Bool.{Bool, true, false, cond, not, _&&_, _||_, false≢true}
 use Prim.Native.Nat.{ℕ, _+_, _-_, _*_, _/_, _%_, _^_, _<_, _≤_}
 use native.Mathlib.Nat.{mul-pos, mul-left-comm}
 use native.Mathlib.Omega.{arith}
-use lib.Dec.{eqb, leb, ltb}
-use borrow.Author.Tests.{eqb-true, leb-true, ltb-true, ltb-false, eqb-false, not-false}
+use lib.Dec.{eqb, ltb}
+use borrow.Author.Tests.{eqb-true, ltb-false, eqb-false, not-false}
 use Rattle.surface.specs.declared.Surface.{Surface}
-use Rattle.surface.specs.Place.{surface, onSurface, rowPixels, Small, Colour, OnColour}
-use Rattle.surface.specs.Pixels.{Px, px, rect, Inside}
+use Rattle.surface.specs.Place.{surface, rowPixels, Small}
+use Rattle.surface.specs.Pixels.{rect, Inside}
 use Rattle.surface.specs.Span.{allOn, spanOf, meet}
 use Rattle.surface.specs.Step.{packingOf, rowLength, stepOf, dataBytes, dataWords}
-use Rattle.surface.specs.Format.{targetOf, sourceOf, sourceCode, bytesOf}
+use Rattle.surface.specs.Format.{sourceOf, sourceCode, bytesOf}
 use Rattle.surface.proofs.OnLaws.{and-left, and-right, on-column, pos-of-ne}
 use Rattle.surface.proofs.Rects.{rect-in}
 use Rattle.surface.proofs.Corner.{all-each, rect-corner, rect-none}
 use Rattle.surface.proofs.Lists.{by-cases}
 use native.Mathlib.Decide.{decLt}
-use Rattle.surface.proofs.FormatLaws.{target-small, target-colour, source-small}
+use Rattle.surface.proofs.FormatLaws.{target-colour, source-small}
 use Rattle.paint.specs.declared.Clip.{Clip}
-use Rattle.paint.specs.Clip.{origin, inClip, pixelAt, Bits12}
+use Rattle.paint.specs.Clip.{origin, inClip, pixelAt}
 use Rattle.paint.proofs.ClipLaws.{in-clip}
 use Rattle.paint.specs.Copy.{CanPaint, Orderly}
 use Rattle.line.specs.Line.{points, Within, Placed}
@@ -34,7 +34,7 @@ use Rattle.registers.specs.Position.{placed}
 use Rattle.command.specs.declared.Cut.{Cut}
 use Rattle.command.specs.Decode.{bit, width, height, target, origins, inkOf, clipOf, firstOf, cutAt, fillCut, copyCut, covered, needed, fillTask, copyTask, lineOf, feedOf, CutRange}
 use Rattle.command.specs.Table.{targetFine, bothFine, allOnAt, pixels, sameSurface, hostFault, fillVerdict, copyVerdict, hostVerdict, lineVerdict, InRows}
-use Rattle.command.proofs.CutLaws.{clip-bits, Bounded, cut-bounded, needed-first, needed-as-pixels, needed-pixels, needed-none, no-clash}
+use Rattle.command.proofs.CutLaws.{clip-bits, Bounded, cut-bounded, needed-first, needed-as-pixels, needed-pixels, no-clash}
 
 -- ---- a verdict of 0 has passed each test
 passed : (t : Bool) (n k : ℕ) → 0 < n → cond (not t) n k ≡ 0 → (t ≡ true) × (k ≡ 0)

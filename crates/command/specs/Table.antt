@@ -1,13 +1,13 @@
 -- Rows 5 to 8 of the table of answers, for each command: the number of the first row that applies, 0 where none does.
 -- Assumes nothing.
-use mathlib.Core.Bool.{Bool, true, false, cond, not, _&&_, _||_}
+use mathlib.Core.Bool.{Bool, true, cond, not, _&&_, _||_}
 use mathlib.Core.List.{List, [], _∷_, map}
 use Prim.Native.Nat.{ℕ, _+_, _-_, _/_, _%_, _^_, _<_, _≤_}
 use lib.Dec.{eqb, leb, ltb}
 use Rattle.colour.specs.Convert.{allowed}
 use Rattle.surface.specs.declared.Surface.{Surface}
 use Rattle.surface.specs.Place.{onSurface, rowPixels, Small}
-use Rattle.surface.specs.Pixels.{Px, px}
+use Rattle.surface.specs.Pixels.{Px}
 use Rattle.surface.specs.Span.{allOn, spanOf, meet}
 use Rattle.surface.specs.Format.{targetNamed, sourceNamed}
 use Rattle.surface.specs.Step.{packingOf, rowLength}
@@ -16,7 +16,7 @@ use Rattle.line.specs.Line.{points}
 use Rattle.line.specs.Draw.{lineOff}
 use Rattle.registers.specs.declared.Regs.{Regs}
 use Rattle.command.specs.declared.Cut.{Cut}
-use Rattle.command.specs.Decode.{bit, width, target, origins, clipOf, fillCut, copyCut, covered, needed, lineOf}
+use Rattle.command.specs.Decode.{width, target, origins, clipOf, fillCut, copyCut, covered, needed, lineOf}
 
 -- ---- row 5: a surface is tiled or has a format not listed, or the conversion is not allowed
 abbrev pub targetFine : Regs → Bool

@@ -9,16 +9,14 @@ use native.Mathlib.Omega.{arith}
 use lib.Dec.{eqb, leb, ltb}
 use lib.ListN.{length, getD}
 use borrow.Author.Tests.{eqb-true, ltb-true}
-use Rattle.surface.specs.declared.Surface.{Surface}
-use Rattle.surface.specs.Pixels.{Px, px, rect, Inside}
-use Rattle.surface.specs.Span.{addresses}
+use Rattle.surface.specs.Pixels.{Px, Inside}
 use Rattle.surface.proofs.Lists.{In}
 use Rattle.surface.proofs.Rects.{in-rect}
 use Rattle.surface.proofs.Spans.{IsByte, addresses-in}
 use Rattle.paint.specs.declared.Clip.{Clip}
 use Rattle.paint.specs.declared.Task.{Task}
 use Rattle.paint.specs.Clip.{origin, inClip}
-use Rattle.paint.specs.Paint.{State, state, Touch, paint}
+use Rattle.paint.specs.Paint.{state, Touch, paint}
 use Rattle.paint.specs.Copy.{giving, asBefore}
 use Rattle.paint.proofs.ClipLaws.{clip-in, in-clip}
 use Rattle.paint.proofs.Frame.{frame, paint-length, pixels-of}

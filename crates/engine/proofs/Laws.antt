@@ -1,13 +1,11 @@
 -- How a method's outcome is the definition's: a refusal, a command carried out, and the painters' conditions from the verdict.
 -- Assumes nothing.
-use mathlib.Core.Path.{_≡_, refl, sym, ap, ap₂, subst⁻¹, _∙_}
-use mathlib.Core.Logic.{_⊎_}
+use mathlib.Core.Path.{_≡_, sym, ap, ap₂, subst⁻¹, _∙_}
 use mathlib.Core.Bool.{Bool, true, false, cond, _&&_, false≢true}
 use mathlib.Core.List.{List}
-use Prim.Native.Nat.{ℕ, _+_, _<_, _≤_, _^_}
+use Prim.Native.Nat.{ℕ, _<_, _≤_}
 use native.Mathlib.Omega.{arith}
 use lib.Dec.{eqb, leb, ltb}
-use lib.ListN.{length}
 use borrow.Author.Tests.{eq-eqb, ne-eqb, lt-ltb, le-ltb, le-leb, lt-leb}
 use Rattle.surface.specs.Pixels.{rect}
 use Rattle.paint.specs.declared.Task.{Task}
@@ -16,15 +14,13 @@ use Rattle.paint.specs.declared.Clip.{Clip}
 use Rattle.paint.specs.Paint.{State, state, paint}
 use Rattle.paint.specs.Copy.{asBefore, CanPaint, Orderly}
 use Rattle.line.specs.declared.Line.{Line}
-use Rattle.line.specs.declared.Pen.{Pen}
-use Rattle.line.specs.Draw.{lineTouches, Drawable}
-use Rattle.line.specs.Line.{points, pointCount}
+use Rattle.line.specs.Draw.{Drawable}
 use Rattle.host.specs.declared.Feed.{Feed}
-use Rattle.host.specs.Host.{byWord, wordsOf, Sizes}
-use Rattle.host.specs.Draw.{hostTouches, Opened, Waits}
+use Rattle.host.specs.Host.{wordsOf, Sizes}
+use Rattle.host.specs.Draw.{Opened, Waits}
 use Rattle.registers.specs.declared.Regs.{Regs}
 use Rattle.command.specs.declared.Cut.{Cut}
-use Rattle.command.specs.Decode.{target, inkOf, clipOf, fillCut, copyCut, covered, fillTask, copyTask, lineOf, penOf, feedOf}
+use Rattle.command.specs.Decode.{target, inkOf, clipOf, fillCut, copyCut, covered, fillTask, copyTask, lineOf, feedOf}
 use Rattle.command.specs.Table.{fillVerdict, copyVerdict, lineVerdict, hostVerdict}
 use Rattle.command.proofs.Verdicts.{fill-can, copy-can, copy-orderly, line-can, host-can, feed-sizes, words-few}
 use Rattle.engine.specs.declared.Engine.{Engine}

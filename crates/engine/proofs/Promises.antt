@@ -1,13 +1,13 @@
 -- The promises of specs/Promises, proved from the definition.
 -- Assumes nothing.
-use mathlib.Core.Path.{_≡_, refl, sym, ap, ap₂, subst, _∙_}
+use mathlib.Core.Path.{_≡_, refl, sym, ap, subst, _∙_}
 use mathlib.Core.Bool.{Bool, true, false, cond, not, _&&_, _||_, true≢false}
 use mathlib.Core.List.{List}
-use Prim.Native.Nat.{ℕ, zero, suc, _+_, _%_, _^_, _<_, _≤_}
+use Prim.Native.Nat.{ℕ, zero, suc, _+_, _^_, _<_, _≤_}
 use native.Mathlib.Omega.{arith}
 use lib.Dec.{eqb, leb, ltb}
 use lib.ListN.{length}
-use borrow.Author.Tests.{eqb-true, eqb-false, eq-eqb, ne-eqb, le-leb, lt-leb, lt-ltb, le-ltb, leb-true, leb-false, ltb-true, ltb-false}
+use borrow.Author.Tests.{eqb-true, eq-eqb, ne-eqb, le-ltb, leb-true, ltb-true}
 use Rattle.registers.specs.declared.Regs.{Regs}
 use Rattle.registers.specs.declared.Place.{Place}
 use Rattle.registers.specs.declared.Place.the-variants.{Register, Pattern, Launch, Nowhere}
@@ -27,7 +27,7 @@ use Rattle.engine.specs.declared.Engine.{Engine}
 use Rattle.engine.specs.declared.Answer.{Answer}
 use Rattle.engine.specs.declared.Answer.the-variants.{Taken, Memory, Offset, Waiting, NotBuilt, Format, Host, Off, Meet}
 use Rattle.engine.specs.Step.{Step, step, noBlit, freshEngine, withBank, withBlit, afterRect, afterLine, numberOf, countOf, refusal, regs, idle, storedIn, filled, copied, lined, begun, fed, carried, launched, commanded, toRegister, toPattern, toPlace, written}
-use Rattle.engine.specs.Promises.{RefusedUndone, OneOutcome, ByTheTable, Sound, SoundFresh, SoundKept, WordsTaken, row4, row5, row6, row7, row8, launchedRegs, commandRow, placeRow, tableRow}
+use Rattle.engine.specs.Promises.{RefusedUndone, OneOutcome, ByTheTable, Sound, SoundFresh, SoundKept, WordsTaken, launchedRegs, commandRow, placeRow, tableRow}
 
 pub one-outcome : OneOutcome
 one-outcome e m o d x y p q = p ∙ sym q

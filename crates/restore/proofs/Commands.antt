@@ -1,27 +1,22 @@
 -- What a command leaves that is carried out on the rectangle's surface, with a clip inside the rectangle: only the rectangle's bytes change, and a host blit
 -- that waits has such registers.
 -- Assumes nothing.
-use mathlib.Core.Path.{_≡_, refl, sym, ap, ap₂, subst, _∙_}
-use mathlib.Core.Bool.{Bool, true, false, cond, false≢true}
-use mathlib.Core.List.{List, [], _∷_, map, List·Memᴰ, List·Memᴰ·head, List·Memᴰ·tail, List·Memᴰ·not-nil, List·Memᴰ·cases-cons}
-use mathlib.Core.Logic.{⊎-elim}
-use mathlib.Core.Option.{some}
-use Prim.Native.Nat.{ℕ, _+_, _-_, _<_, _≤_}
+use mathlib.Core.Path.{_≡_, refl, sym, subst, _∙_}
+use mathlib.Core.Bool.{true, false, false≢true}
+use mathlib.Core.List.{List, map}
+use Prim.Native.Nat.{ℕ, _+_, _<_}
 use native.Mathlib.Omega.{arith}
 use lib.Dec.{eqb, ltb}
 use lib.ListN.{length}
 use borrow.Author.Tests.{eqb-true, ltb-true}
 use Rattle.surface.specs.declared.Surface.{Surface}
-use Rattle.surface.specs.Pixels.{Px, Inside}
+use Rattle.surface.specs.Pixels.{Px}
 use Rattle.surface.proofs.Lists.{In}
-use Rattle.surface.proofs.Rects.{in-rect}
 use Rattle.surface.proofs.Spans.{IsByte}
-use Rattle.paint.specs.declared.Clip.{Clip}
 use Rattle.paint.specs.declared.Task.{Task}
 use Rattle.paint.specs.Clip.{origin, inClip}
 use Rattle.paint.specs.Paint.{state, Touch, paint}
 use Rattle.paint.specs.Copy.{giving, asBefore}
-use Rattle.paint.proofs.ClipLaws.{clip-in, in-clip}
 use Rattle.paint.proofs.Frame.{Bytes, frame, paint-length, paint-bytes, pixels-of}
 use Rattle.line.specs.Draw.{lineTouches}
 use Rattle.line.specs.Line.{points, pointCount}
@@ -29,9 +24,8 @@ use Rattle.line.specs.Stipple.{styleAfter}
 use Rattle.line.proofs.DrawLaws.{touched-in-clip}
 use Rattle.host.specs.Host.{byWord, wordsOf}
 use Rattle.host.specs.Draw.{hostTouches}
-use Rattle.host.proofs.Touched.{touched-inside}
 use Rattle.registers.specs.declared.Regs.{Regs}
-use Rattle.command.specs.Decode.{number, target, inkOf, clipOf, cutAt, fillCut, copyCut, covered, fillTask, copyTask, lineOf, penOf, feedOf}
+use Rattle.command.specs.Decode.{number, target, inkOf, clipOf, fillCut, copyCut, covered, fillTask, copyTask, lineOf, penOf, feedOf}
 use Rattle.command.specs.Table.{fillVerdict, copyVerdict, hostVerdict, lineVerdict}
 use Rattle.command.proofs.Verdicts.{fill-can, copy-can, line-can, host-can}
 use Rattle.engine.specs.declared.Engine.{Engine}

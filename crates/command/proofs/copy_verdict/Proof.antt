@@ -1,8 +1,7 @@
 -- `command::copy_verdict` meets its contract: by the tests.
 -- Assumes nothing.
 use borrow.Author.Needs.{needs}
-use mathlib.Core.Path.{_≡_, refl, sym, ap, ap₂, _∙_}
-use mathlib.Core.Bool.{Bool}
+use mathlib.Core.Path.{refl, sym, ap, ap₂, _∙_}
 use borrow.Author.Tests.{not-true, not-false}
 use Rattle.surface.specs.declared.Surface.{Surface}
 use Rattle.surface.specs.Span.{allOn, spanOf, meet}

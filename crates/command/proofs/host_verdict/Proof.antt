@@ -1,7 +1,7 @@
 -- `command::host_verdict` meets its contract: by the tests.
 -- Assumes nothing.
 use borrow.Author.Needs.{needs}
-use mathlib.Core.Path.{_≡_, refl, sym, ap, ap₂, _∙_}
+use mathlib.Core.Path.{sym, ap₂, _∙_}
 use borrow.Author.Tests.{not-true, not-false}
 use Rattle.surface.proofs.FormatLaws.{target-small}
 use Rattle.command.proofs.Rows.{host-format, host-faulty, host-by}

@@ -1,8 +1,7 @@
 -- `command::line_verdict` meets its contract: by the tests.
 -- Assumes nothing.
 use borrow.Author.Needs.{needs}
-use native.Mathlib.Omega.{arith}
-use mathlib.Core.Path.{_≡_, refl, sym, ap, ap₂, _∙_}
+use mathlib.Core.Path.{sym, ap, ap₂, _∙_}
 use borrow.Author.Tests.{not-true, not-false}
 use Rattle.surface.proofs.FormatLaws.{target-small}
 use Rattle.surface.specs.declared.Surface.{Surface}

@@ -2,7 +2,7 @@
 -- Assumes nothing.
 use borrow.Author.Needs.{needs}
 use native.Mathlib.Omega.{arith}
-use mathlib.Core.Path.{_≡_, refl, sym, ap, ap₂, _∙_}
+use mathlib.Core.Path.{sym, _∙_}
 use Rattle.command.proofs.CutLaws.{needed-none, needed-negative, needed-as-pixels}
 use Rattle.command.proofs.needed_on.Statement.{statement}
 use Rattle.command.proofs.needed_on.Tie as tie

@@ -2,12 +2,9 @@
 -- Assumes nothing.
 use borrow.Author.Needs.{needs}
 use native.Mathlib.Omega.{arith}
-use mathlib.Core.Path.{_≡_, refl, sym, ap, ap₂, _∙_}
-use mathlib.Core.List.{List}
-use Rattle.surface.specs.declared.Span.{Span}
-use Rattle.surface.specs.Pixels.{Px}
+use mathlib.Core.Path.{sym, ap, ap₂, _∙_}
 use Rattle.surface.specs.Span.{spanOf, meet}
-use Rattle.command.specs.Decode.{covered, needed}
+use Rattle.command.specs.Decode.{needed}
 use Rattle.command.specs.Table.{pixels}
 use Rattle.command.proofs.CutLaws.{no-clash, needed-pixels}
 use Rattle.command.proofs.spans_clash.Statement.{statement}

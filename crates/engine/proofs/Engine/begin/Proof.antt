@@ -1,12 +1,8 @@
 -- `engine::Engine::begin` meets its contract: refused by the verdict, waiting, or ended at once.
 -- Assumes nothing.
 use borrow.Author.Needs.{needs}
-use mathlib.Core.Path.{_≡_, refl, sym, ap, ap₂, _∙_}
-use borrow.Author.Tests.{eq-eqb, ne-eqb, lt-ltb, le-ltb, le-leb, lt-leb}
-use Rattle.host.specs.Host.{wordsOf}
-use Rattle.command.specs.Decode.{feedOf}
-use Rattle.engine.specs.Step.{begun, step, afterRect}
-use Rattle.engine.specs.declared.Engine.{Engine}
+use borrow.Author.Tests.{lt-ltb, le-ltb}
+use Rattle.engine.specs.Step.{begun}
 use Rattle.engine.proofs.Laws.{judged-no, judged-yes, feed-ready}
 use Rattle.engine.proofs.Engine.begin.Statement.{statement}
 use Rattle.engine.proofs.Engine.begin.Tie as tie

@@ -1,14 +1,10 @@
 -- `engine::Engine::copy` meets its contract: refused by the verdict, or painted.
 -- Assumes nothing.
 use borrow.Author.Needs.{needs}
-use mathlib.Core.Path.{_≡_, refl, sym, ap, ap₂, _∙_}
+use mathlib.Core.Path.{refl}
 use lib.ListN.{length}
-use Prim.Native.Nat.{ℕ}
-use Rattle.command.specs.Decode.{target, inkOf, copyTask, copyCut, covered}
-use Rattle.command.specs.Table.{copyVerdict}
-use Rattle.paint.specs.Paint.{state, paint}
-use Rattle.paint.specs.Copy.{asBefore}
-use Rattle.engine.specs.Step.{copied, step, done, refusal, afterRect}
+use Rattle.command.specs.Decode.{inkOf, copyTask}
+use Rattle.engine.specs.Step.{copied}
 use Rattle.engine.proofs.Laws.{judged-no, judged-yes, carried-out, painted-as, copy-ready}
 use Rattle.engine.proofs.Engine.copy.Statement.{statement}
 use Rattle.engine.proofs.Engine.copy.Tie as tie

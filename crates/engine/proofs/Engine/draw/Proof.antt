@@ -1,11 +1,9 @@
 -- `engine::Engine::draw` meets its contract: refused by the verdict, or drawn.
 -- Assumes nothing.
 use borrow.Author.Needs.{needs}
-use mathlib.Core.Path.{_≡_, refl, sym, ap, ap₂, _∙_}
+use mathlib.Core.Path.{ap, ap₂, _∙_}
 use lib.ListN.{length}
-use Prim.Native.Nat.{ℕ}
-use Rattle.command.specs.Decode.{target, inkOf, clipOf, lineOf, penOf}
-use Rattle.command.specs.Table.{lineVerdict}
+use Rattle.command.specs.Decode.{target, inkOf, clipOf}
 use Rattle.paint.specs.declared.Ink.{Ink}
 use Rattle.paint.specs.declared.Clip.{Clip}
 use Rattle.paint.specs.Paint.{state, paint}

@@ -1,7 +1,7 @@
 -- `engine::Engine::end_line` meets its contract.
 -- Assumes nothing.
 use borrow.Author.Needs.{needs}
-use mathlib.Core.Path.{_≡_, refl, sym, ap, ap₂, _∙_}
+use mathlib.Core.Path.{ap, _∙_}
 use Rattle.engine.specs.declared.Engine.{Engine}
 use Rattle.engine.specs.Step.{storedIn, afterLine}
 use Rattle.engine.proofs.Engine.end_line.Statement.{statement}

@@ -1,7 +1,7 @@
 -- `engine::Engine::end_rect` meets its contract.
 -- Assumes nothing.
 use borrow.Author.Needs.{needs}
-use mathlib.Core.Path.{_≡_, refl, sym, ap, ap₂, _∙_}
+use mathlib.Core.Path.{ap, _∙_}
 use Rattle.engine.specs.Step.{storedIn, afterRect}
 use Rattle.engine.proofs.Engine.end_rect.Statement.{statement}
 use Rattle.engine.proofs.Engine.end_rect.Tie as tie

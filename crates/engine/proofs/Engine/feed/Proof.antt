@@ -1,20 +1,17 @@
 -- `engine::Engine::feed` meets its contract: refused by the verdict, past the last word, or painted.
 -- Assumes nothing.
 use borrow.Author.Needs.{needs}
-use mathlib.Core.Path.{_≡_, refl, sym, ap, ap₂, _∙_}
-use borrow.Author.Tests.{eq-eqb, ne-eqb, lt-ltb, le-ltb, le-leb, lt-leb}
-use native.Mathlib.Omega.{arith}
-use Prim.Native.Nat.{ℕ, _+_}
+use mathlib.Core.Path.{ap, ap₂, _∙_}
+use borrow.Author.Tests.{lt-ltb, le-ltb}
 use lib.ListN.{length}
 use Rattle.paint.specs.declared.Ink.{Ink}
 use Rattle.paint.specs.declared.Clip.{Clip}
 use Rattle.paint.specs.Paint.{state, paint}
 use Rattle.host.specs.declared.Feed.{Feed}
-use Rattle.host.specs.Host.{byWord, wordsOf}
+use Rattle.host.specs.Host.{byWord}
 use Rattle.host.specs.Draw.{hostTouches}
-use Rattle.command.specs.Decode.{target, inkOf, clipOf, feedOf}
-use Rattle.engine.specs.Step.{fed, step, done, afterRect}
-use Rattle.engine.specs.declared.Engine.{Engine}
+use Rattle.command.specs.Decode.{target, inkOf, clipOf}
+use Rattle.engine.specs.Step.{fed, afterRect}
 use Rattle.engine.proofs.Laws.{judged-no, judged-yes, carried-out, feed-ready, word-ready}
 use Rattle.engine.proofs.Engine.feed.Statement.{statement}
 use Rattle.engine.proofs.Engine.feed.Tie as tie

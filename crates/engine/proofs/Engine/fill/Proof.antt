@@ -1,14 +1,10 @@
 -- `engine::Engine::fill` meets its contract: refused by the verdict, or painted.
 -- Assumes nothing.
 use borrow.Author.Needs.{needs}
-use mathlib.Core.Path.{_≡_, refl, sym, ap, ap₂, _∙_}
+use mathlib.Core.Path.{refl}
 use lib.ListN.{length}
-use Prim.Native.Nat.{ℕ}
-use Rattle.command.specs.Decode.{target, inkOf, fillTask, fillCut, covered}
-use Rattle.command.specs.Table.{fillVerdict}
-use Rattle.paint.specs.Paint.{state, paint}
-use Rattle.paint.specs.Copy.{asBefore}
-use Rattle.engine.specs.Step.{filled, step, done, refusal, afterRect}
+use Rattle.command.specs.Decode.{inkOf, fillTask}
+use Rattle.engine.specs.Step.{filled}
 use Rattle.engine.proofs.Laws.{judged-no, judged-yes, carried-out, painted-as, fill-ready}
 use Rattle.engine.proofs.Engine.fill.Statement.{statement}
 use Rattle.engine.proofs.Engine.fill.Tie as tie

@@ -1,10 +1,10 @@
 -- `engine::Engine::take_command` meets its contract: by bit 8.
 -- Assumes nothing.
 use borrow.Author.Needs.{needs}
-use mathlib.Core.Path.{_≡_, refl, sym, ap, ap₂, _∙_}
-use borrow.Author.Tests.{eq-eqb, ne-eqb, lt-ltb, le-ltb, le-leb, lt-leb}
+use mathlib.Core.Path.{ap, _∙_}
+use borrow.Author.Tests.{eq-eqb, ne-eqb}
 use Rattle.engine.specs.declared.Engine.{Engine}
-use Rattle.engine.specs.Step.{commanded, carried, step, idle, storedIn}
+use Rattle.engine.specs.Step.{commanded, carried, step, idle}
 use Rattle.engine.specs.declared.Answer.the-variants.{Taken}
 use Rattle.engine.proofs.Engine.take_command.Statement.{statement}
 use Rattle.engine.proofs.Engine.take_command.Tie as tie

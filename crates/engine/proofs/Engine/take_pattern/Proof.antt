@@ -1,14 +1,11 @@
 -- `engine::Engine::take_pattern` meets its contract: by what waits.
 -- Assumes nothing.
 use borrow.Author.Needs.{needs}
-use mathlib.Core.Path.{_≡_, refl, sym, ap, ap₂, _∙_}
-use borrow.Author.Tests.{eq-eqb, ne-eqb, lt-ltb, le-ltb, le-leb, lt-leb}
-use mathlib.Core.Bool.{Bool, cond}
+use mathlib.Core.Path.{ap, _∙_}
 use Rattle.engine.proofs.Laws.{waits, rests}
 use Rattle.registers.specs.declared.Bank.{Bank}
-use Rattle.engine.specs.declared.Engine.{Engine}
 use Rattle.engine.specs.Step.{toPattern, step, withBank}
-use Rattle.engine.specs.declared.Answer.the-variants.{Taken, Waiting}
+use Rattle.engine.specs.declared.Answer.the-variants.{Taken}
 use Rattle.engine.proofs.Engine.take_pattern.Statement.{statement}
 use Rattle.engine.proofs.Engine.take_pattern.Tie as tie
 

@@ -1,13 +1,12 @@
 -- `engine::Engine::take_register` meets its contract: by the offset, and by what waits.
 -- Assumes nothing.
 use borrow.Author.Needs.{needs}
-use mathlib.Core.Path.{_≡_, refl, sym, ap, ap₂, _∙_}
-use borrow.Author.Tests.{eq-eqb, ne-eqb, lt-ltb, le-ltb, le-leb, lt-leb}
-use mathlib.Core.Bool.{Bool, cond}
+use mathlib.Core.Path.{ap, _∙_}
+use borrow.Author.Tests.{eq-eqb, ne-eqb}
 use Rattle.engine.proofs.Laws.{waits, rests}
 use Rattle.engine.specs.declared.Engine.{Engine}
-use Rattle.engine.specs.Step.{toRegister, step, storedIn}
-use Rattle.engine.specs.declared.Answer.the-variants.{Taken, Waiting}
+use Rattle.engine.specs.Step.{toRegister, step}
+use Rattle.engine.specs.declared.Answer.the-variants.{Taken}
 use Rattle.engine.proofs.Engine.take_register.Statement.{statement}
 use Rattle.engine.proofs.Engine.take_register.Tie as tie
 

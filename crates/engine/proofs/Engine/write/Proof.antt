@@ -1,8 +1,8 @@
 -- `engine::Engine::write` meets its contract: by the memory, and by what the offset names.
 -- Assumes nothing.
 use borrow.Author.Needs.{needs}
-use mathlib.Core.Path.{_≡_, refl, sym, ap, ap₂, _∙_}
-use borrow.Author.Tests.{eq-eqb, ne-eqb, lt-ltb, le-ltb, le-leb, lt-leb}
+use mathlib.Core.Path.{sym, ap, _∙_}
+use borrow.Author.Tests.{eq-eqb, ne-eqb, lt-ltb, le-ltb}
 use Rattle.registers.specs.declared.Place.{Place}
 use Rattle.engine.specs.Step.{written, toPlace}
 use Rattle.engine.proofs.Engine.write.Statement.{statement}
