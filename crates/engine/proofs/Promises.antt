@@ -2,7 +2,8 @@
 -- Assumes nothing.
 use mathlib.Core.Path.{_≡_, refl, sym, ap, subst, _∙_}
 use mathlib.Core.Bool.{Bool, true, false, cond, not, _&&_, _||_, true≢false}
-use mathlib.Core.List.{List}
+use mathlib.Core.List.{List, [], _∷_}
+use mathlib.Core.Option.{Option, none, some}
 use Prim.Native.Nat.{ℕ, zero, suc, _+_, _^_, _<_, _≤_}
 use native.Mathlib.Omega.{arith}
 use lib.Dec.{eqb, leb, ltb}
@@ -14,8 +15,11 @@ use Rattle.registers.specs.declared.Place.the-variants.{Register, Pattern, Laun
 use Rattle.registers.specs.Regs.{putReg}
 use Rattle.registers.specs.Bank.{stored, patterned}
 use Rattle.registers.specs.Offsets.{placeOf}
+use Rattle.surface.specs.declared.Surface.{Surface}
+use Rattle.surface.specs.Place.{writePx}
 use Rattle.surface.specs.Span.{allOn, spanOf, meet}
 use Rattle.surface.proofs.OnLaws.{and-left}
+use Rattle.paint.specs.Paint.{state, Touch, dab, paint}
 use Rattle.line.specs.Line.{points, pointCount}
 use Rattle.line.specs.Stipple.{styleAfter}
 use Rattle.line.specs.Draw.{lineOff}
@@ -26,11 +30,21 @@ use Rattle.engine.specs.declared.Blit.{Blit}
 use Rattle.engine.specs.declared.Engine.{Engine}
 use Rattle.engine.specs.declared.Answer.{Answer}
 use Rattle.engine.specs.declared.Answer.the-variants.{Taken, Memory, Offset, Waiting, NotBuilt, Format, Host, Off, Meet}
-use Rattle.engine.specs.Step.{Step, step, noBlit, freshEngine, withBank, withBlit, afterRect, afterLine, numberOf, countOf, refusal, regs, idle, storedIn, filled, copied, lined, begun, fed, carried, launched, commanded, toRegister, toPattern, toPlace, written}
-use Rattle.engine.specs.Promises.{RefusedUndone, OneOutcome, ByTheTable, Sound, SoundFresh, SoundKept, WordsTaken, launchedRegs, commandRow, placeRow, tableRow}
+use Rattle.engine.specs.Step.{Step, step, noBlit, freshEngine, readFrom, withBank, withBlit, afterRect, afterLine, numberOf, countOf, refusal, regs, idle, storedIn, filled, copied, lined, begun, fed, carried, launched, commanded, toRegister, toPattern, toPlace, written}
+use Rattle.engine.specs.Promises.{RefusedUndone, OneOutcome, OneFresh, OneReading, given, wrote, CountsWritten, ByTheTable, Sound, SoundFresh, SoundKept, WordsTaken, launchedRegs, commandRow, placeRow, tableRow}
+
+-- a contract that says what the outcome equals allows one
+settled : {A : Type 0} (f x y : A) → x ≡ f → y ≡ f → x ≡ y
+settled f x y p q = p ∙ sym q
 
 pub one-outcome : OneOutcome
-one-outcome e m o d x y p q = p ∙ sym q
+one-outcome e m o d x y = settled (written e m o d) x y
+
+pub one-fresh : OneFresh
+one-fresh len x y = settled (freshEngine len) x y
+
+pub one-reading : OneReading
+one-reading e o x y = settled (readFrom e o) x y
 
 -- ---- demand 1
 record Kept (e : Engine) (m : List ℕ) (s : Step) : Type 0 where
@@ -451,3 +465,19 @@ words-taken e m o d s w place limit fits =
     memory-number (ltb (2 ^ 24) (length m)) (eqb (length m) (e .opened)) e m (toPlace (placeOf o) e m o d) 0
     (subst (λ (p : Place). numberOf (toPlace p e m o d .answer) ≡ 0) (sym place) word)
     ∙ fits-number (ltb (2 ^ 24) (length m)) (eqb (length m) (e .opened)) (le-ltb (2 ^ 24) (length m) limit) (eq-eqb (length m) (e .opened) fits)
+
+-- ---- the count
+counts-from : (s : Surface) (ts : List Touch) (m : List ℕ) (n : ℕ) → paint s ts (state m n) .count ≡ n + length (wrote s ts m)
+unfolding paint wrote dab
+counts-from s [] m n = omega arith
+counts-from s (t ∷ ts) m n = by (λ left k. counts-from s ts left k) (t .gives m)
+  where
+    by : ((left : List ℕ) (k : ℕ) → paint s ts (state left k) .count ≡ k + length (wrote s ts left)) → (o : Option ℕ)
+        → paint s ts (dab s (t .at) o (state m n)) .count ≡ n + length (given o (t .at) (wrote s ts (dab s (t .at) o (state m 0) .mem)))
+    by rest none = rest m n
+    by rest (some v) =
+        let h = rest (writePx m s (t .at .x) (t .at .y) v) (n + 1) in
+        omega (arith, h)
+
+pub counts-written : CountsWritten
+counts-written s ts m = let h = counts-from s ts m 0 in omega (arith, h)

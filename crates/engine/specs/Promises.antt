@@ -4,15 +4,19 @@
 use mathlib.Core.Path.{_≡_}
 use mathlib.Core.Bool.{Bool, true, false, cond, not, _&&_, _||_}
 use mathlib.Core.List.{List, [], _∷_, List·Memᴰ}
+use mathlib.Core.Option.{Option, none, some}
 use Prim.Native.Nat.{ℕ, _+_, _^_, _<_, _≤_}
 use lib.Dec.{eqb, leb, ltb}
 use lib.ListN.{length, getD}
+use Rattle.surface.specs.declared.Surface.{Surface}
 use Rattle.surface.specs.Pixels.{Px}
 use Rattle.surface.specs.Span.{allOn, addresses, spanOf, meet}
 use Rattle.paint.specs.Clip.{origin, inClip}
+use Rattle.paint.specs.Paint.{state, Touch, dab, paint}
 use Rattle.line.specs.Line.{points}
 use Rattle.line.specs.Draw.{lineOff}
 use Rattle.registers.specs.declared.Regs.{Regs}
+use Rattle.registers.specs.declared.Reading.{Reading}
 use Rattle.registers.specs.declared.Place.{Place}
 use Rattle.registers.specs.declared.Place.the-variants.{Register, Pattern, Launch, Nowhere}
 use Rattle.registers.specs.Offsets.{placeOf}
@@ -20,7 +24,7 @@ use Rattle.host.specs.Host.{wordsOf}
 use Rattle.command.specs.Decode.{bit, number, target, origins, clipOf, fillCut, copyCut, covered, needed, lineOf, feedOf}
 use Rattle.command.specs.Table.{targetFine, bothFine, allOnAt, pixels, sameSurface, hostFault, hostVerdict}
 use Rattle.engine.specs.declared.Engine.{Engine}
-use Rattle.engine.specs.Step.{Step, written, numberOf, countOf, regs, storedIn, noBlit, freshEngine}
+use Rattle.engine.specs.Step.{Step, written, numberOf, countOf, regs, storedIn, noBlit, freshEngine, readFrom}
 
 -- ---- demand 1: a refused write, one whose number is not 0, leaves engine and memory as they were, and counts nothing
 abbrev pub RefusedUndone : Type 0
@@ -30,6 +34,12 @@ RefusedUndone = (e : Engine) (m : List ℕ) (o d : ℕ) → (numberOf (written e
 -- ---- demand 2: the contract allows one outcome
 abbrev pub OneOutcome : Type 0
 OneOutcome = (e : Engine) (m : List ℕ) (o d : ℕ) (x y : Step) → x ≡ written e m o d → y ≡ written e m o d → x ≡ y
+
+abbrev pub OneFresh : Type 0
+OneFresh = (len : ℕ) (x y : Engine) → x ≡ freshEngine len → y ≡ freshEngine len → x ≡ y
+
+abbrev pub OneReading : Type 0
+OneReading = (e : Engine) (o : ℕ) (x y : Reading) → x ≡ readFrom e o → y ≡ readFrom e o → x ≡ y
 
 -- ---- the table: the number is that of the first row that applies, 0 where none does
 
@@ -121,3 +131,15 @@ OnlyCovered = (e : Engine) (m : List ℕ) (o d : ℕ)
     × ((a : ℕ)
     → ((p : Px) → inClip (clipOf (usedRegs e o d)) (origin + p .x) (origin + p .y) ≡ true → List·Memᴰ a (addresses (target (usedRegs e o d)) (p ∷ [])) → ⊥)
     → getD (written e m o d .memory) a 0 ≡ getD m a 0)
+
+-- ---- the count: of the pixels touched, which are the covered ones, those that are given a value are written, and counted
+abbrev pub given : Option ℕ → Px → List Px → List Px
+given none p ps = ps
+given (some v) p ps = p ∷ ps
+
+unfoldable pub wrote : Surface → List Touch → List ℕ → List Px
+wrote s [] m = []
+wrote s (t ∷ ts) m = given (t .gives m) (t .at) (wrote s ts (dab s (t .at) (t .gives m) (state m 0) .mem))
+
+abbrev pub CountsWritten : Type 0
+CountsWritten = (s : Surface) (ts : List Touch) (m : List ℕ) → paint s ts (state m 0) .count ≡ length (wrote s ts m)

@@ -115,7 +115,10 @@ fn save_and_restore(name: &[u8], format: u32, stride: usize, bytes: usize) {
     let e = put(e, &mut mem, 0x70, 0x5a00_1007);
     let e = put_aloud(b"stippled polyline: ", e, &mut mem, 0x80, 0x3_0000);
     let e = put_aloud(b"a write past the registers: ", e, &mut mem, 0x200, 0);
-    say_number(b"bytes that the note changed: ", differ(&start, &mem, stride, bytes));
+    say_number(
+        b"bytes that the note changed: ",
+        differ(&start, &mem, stride, bytes),
+    );
     say(b"\n");
     let e = put(e, &mut mem, 0x34, 1024);
     let e = put(e, &mut mem, 0x54, format);
@@ -123,7 +126,10 @@ fn save_and_restore(name: &[u8], format: u32, stride: usize, bytes: usize) {
     let e = put(e, &mut mem, 0x6c, 0x2_0003);
     let e = put(e, &mut mem, 0x70, 0xcc00_0001);
     put_aloud(b"copy back: ", e, &mut mem, 0x80, 0);
-    say_number(b"bytes outside the place aside that differ: ", differ(&start, &mem, stride, bytes));
+    say_number(
+        b"bytes outside the place aside that differ: ",
+        differ(&start, &mem, stride, bytes),
+    );
     say(b"\n");
 }
 
