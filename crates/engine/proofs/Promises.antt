@@ -17,6 +17,7 @@ use Rattle.registers.specs.Bank.{stored, patterned}
 use Rattle.registers.specs.Offsets.{placeOf}
 use Rattle.surface.specs.declared.Surface.{Surface}
 use Rattle.surface.specs.Place.{writePx}
+use Rattle.surface.specs.View.{viewAnswer, viewed}
 use Rattle.surface.specs.Span.{allOn, spanOf, meet}
 use Rattle.surface.proofs.OnLaws.{and-left}
 use Rattle.paint.specs.Paint.{state, Touch, dab, paint}
@@ -31,7 +32,7 @@ use Rattle.engine.specs.declared.Engine.{Engine}
 use Rattle.engine.specs.declared.Answer.{Answer}
 use Rattle.engine.specs.declared.Answer.the-variants.{Taken, Memory, Offset, Waiting, NotBuilt, Format, Host, Off, Meet}
 use Rattle.engine.specs.Step.{Step, step, noBlit, freshEngine, readFrom, withBank, withBlit, afterRect, afterLine, numberOf, countOf, refusal, regs, idle, storedIn, filled, copied, lined, begun, fed, carried, launched, commanded, toRegister, toPattern, toPlace, written}
-use Rattle.engine.specs.Promises.{RefusedUndone, OneOutcome, OneFresh, OneReading, given, wrote, CountsWritten, ByTheTable, Sound, SoundFresh, SoundKept, WordsTaken, launchedRegs, commandRow, placeRow, tableRow}
+use Rattle.engine.specs.Promises.{RefusedUndone, OneOutcome, OneFresh, OneReading, OneView, OneViewAnswer, given, wrote, CountsWritten, ByTheTable, Sound, SoundFresh, SoundKept, WordsTaken, launchedRegs, commandRow, placeRow, tableRow}
 
 -- a contract that says what the outcome equals allows one
 settled : {A : Type 0} (f x y : A) → x ≡ f → y ≡ f → x ≡ y
@@ -45,6 +46,12 @@ one-fresh len x y = settled (freshEngine len) x y
 
 pub one-reading : OneReading
 one-reading e o x y = settled (readFrom e o) x y
+
+pub one-view : OneView
+one-view m base format px py width x y = settled (viewed m base format px py width) x y
+
+pub one-view-answer : OneViewAnswer
+one-view-answer len base format px py width x y = settled (viewAnswer len base format px py width) x y
 
 -- ---- demand 1
 record Kept (e : Engine) (m : List ℕ) (s : Step) : Type 0 where

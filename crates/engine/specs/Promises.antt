@@ -11,6 +11,7 @@ use lib.ListN.{length, getD}
 use Rattle.surface.specs.declared.Surface.{Surface}
 use Rattle.surface.specs.Pixels.{Px}
 use Rattle.surface.specs.Span.{allOn, addresses, spanOf, meet}
+use Rattle.surface.specs.View.{viewAnswer, viewed}
 use Rattle.paint.specs.Clip.{origin, inClip}
 use Rattle.paint.specs.Paint.{state, Touch, dab, paint}
 use Rattle.line.specs.Line.{points}
@@ -40,6 +41,13 @@ OneFresh = (len : ℕ) (x y : Engine) → x ≡ freshEngine len → y ≡ freshE
 
 abbrev pub OneReading : Type 0
 OneReading = (e : Engine) (o : ℕ) (x y : Reading) → x ≡ readFrom e o → y ≡ readFrom e o → x ≡ y
+
+-- the two functions of the row view
+abbrev pub OneView : Type 0
+OneView = (m : List ℕ) (base format px py width : ℕ) (x y : List ℕ) → x ≡ viewed m base format px py width → y ≡ viewed m base format px py width → x ≡ y
+
+abbrev pub OneViewAnswer : Type 0
+OneViewAnswer = (len base format px py width x y : ℕ) → x ≡ viewAnswer len base format px py width → y ≡ viewAnswer len base format px py width → x ≡ y
 
 -- ---- the table: the number is that of the first row that applies, 0 where none does
 
