@@ -9,7 +9,7 @@ from pathlib import Path
 from model import Engine
 
 SOURCE = Path(__file__).resolve().parent.parent / "crates/note/src/main.rt"
-WRITE = re.compile(r'put(_aloud)?\((?:b"([^"]*)", )?e, &mut mem, (\w+), (\w+)\)|say_number\(b"(bytes [^"]*)"')
+WRITE = re.compile(r'put(_aloud)?\(\s*(?:b"([^"]*)",\s*)?e,\s*&mut mem,\s*(\w+),\s*(\w+),?\s*\)|say_number\(\s*b"(bytes [^"]*)"')
 
 
 def play(name: str, form: int, stride: int, size: int) -> None:
