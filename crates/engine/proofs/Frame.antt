@@ -39,12 +39,8 @@ use Rattle.engine.specs.declared.Engine.{Engine}
 use Rattle.engine.specs.declared.Answer.{Answer}
 use Rattle.engine.specs.declared.Answer.the-variants.{Taken, Memory, Offset, Waiting, NotBuilt}
 use Rattle.engine.specs.Step.{Step, step, done, refusal, regs, idle, withBank, withBlit, storedIn, afterRect, afterLine, wordPainted, filled, copied, lined, begun, fed, carried, launched, commanded, toRegister, toPattern, toPlace, written}
+use Rattle.engine.proofs.Cases.{picked}
 use Rattle.engine.specs.Promises.{launchedRegs, usedAt, usedRegs, OnlyCovered}
-
--- what holds of both outcomes of a test holds of the one that it picks
-pub picked : {A : Type 0} (P : A → Type 0) (t : Bool) (x y : A) → (t ≡ true → P x) → (t ≡ false → P y) → P (cond t x y)
-picked P true x y f g = f refl
-picked P false x y f g = g refl
 
 -- ---- pixels touched are inside the clip
 cut-in-clip : (c : Clip) (x y w h sx sy : ℕ) (p : Px)

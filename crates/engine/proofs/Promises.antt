@@ -4,11 +4,11 @@ use mathlib.Core.Path.{_≡_, refl, sym, ap, subst, _∙_}
 use mathlib.Core.Bool.{Bool, true, false, cond, not, _&&_, _||_, true≢false}
 use mathlib.Core.List.{List, [], _∷_}
 use mathlib.Core.Option.{Option, none, some}
-use Prim.Native.Nat.{ℕ, zero, suc, _+_, _^_, _<_, _≤_}
+use Prim.Native.Nat.{ℕ, zero, suc, _+_, _^_, _<_}
 use native.Mathlib.Omega.{arith}
 use lib.Dec.{eqb, leb, ltb}
 use lib.ListN.{length}
-use borrow.Author.Tests.{eqb-true, eq-eqb, ne-eqb, le-ltb, leb-true, ltb-true}
+use borrow.Author.Tests.{eqb-true, eq-eqb, ne-eqb, le-ltb, ltb-true}
 use Rattle.registers.specs.declared.Regs.{Regs}
 use Rattle.registers.specs.declared.Place.{Place}
 use Rattle.registers.specs.declared.Place.the-variants.{Register, Pattern, Launch, Nowhere}
@@ -19,7 +19,6 @@ use Rattle.surface.specs.declared.Surface.{Surface}
 use Rattle.surface.specs.Place.{writePx}
 use Rattle.surface.specs.View.{viewAnswer, viewed}
 use Rattle.surface.specs.Span.{allOn, spanOf, meet}
-use Rattle.surface.proofs.OnLaws.{and-left}
 use Rattle.paint.specs.Paint.{state, Touch, dab, paint}
 use Rattle.line.specs.Line.{points, pointCount}
 use Rattle.line.specs.Stipple.{styleAfter}
@@ -32,6 +31,7 @@ use Rattle.engine.specs.declared.Engine.{Engine}
 use Rattle.engine.specs.declared.Answer.{Answer}
 use Rattle.engine.specs.declared.Answer.the-variants.{Taken, Memory, Offset, Waiting, NotBuilt, Format, Host, Off, Meet}
 use Rattle.engine.specs.Step.{Step, step, noBlit, freshEngine, readFrom, withBank, withBlit, afterRect, afterLine, numberOf, countOf, refusal, regs, idle, storedIn, filled, copied, lined, begun, fed, carried, launched, commanded, toRegister, toPattern, toPlace, written}
+use Rattle.engine.proofs.Cases.{picked, by-number}
 use Rattle.engine.specs.Promises.{RefusedUndone, OneOutcome, OneFresh, OneReading, OneView, OneViewAnswer, given, wrote, CountsWritten, ByTheTable, Sound, SoundFresh, SoundKept, WordsTaken, launchedRegs, commandRow, placeRow, tableRow}
 
 -- a contract that says what the outcome equals allows one
@@ -363,32 +363,21 @@ quiet e s other = by (e .blit .waiting) refl
     by true w = absurd (other (s .waits w .0))
     by false w = s .rests w
 
-picked : (t : Bool) (a b : Step) → (t ≡ true → Sound (a .engine)) → (t ≡ false → Sound (b .engine)) → Sound (cond t a b .engine)
-picked true a b f g = f refl
-picked false a b f g = g refl
-
-by-number : (n : ℕ) (a b c d f g : Step) → (n ≡ 0 → Sound (a .engine)) → (n ≡ 1 → Sound (b .engine)) → (n ≡ 3 → Sound (c .engine)) → (n ≡ 5 → Sound (d .engine))
-    → (6 ≤ n → Sound (f .engine)) → Sound (g .engine)
-    → Sound (cond (eqb n 0) a (cond (eqb n 1) b (cond (eqb n 3) c (cond (eqb n 5) d (cond (leb 6 n && ltb n 8) f g)))) .engine)
-by-number n a b c d f g p q r s t u =
-    picked (eqb n 0) _ _ (λ z. p (eqb-true n 0 z))
-    (λ _. picked (eqb n 1) _ _ (λ z. q (eqb-true n 1 z))
-    (λ _. picked (eqb n 3) _ _ (λ z. r (eqb-true n 3 z))
-    (λ _. picked (eqb n 5) _ _ (λ z. s (eqb-true n 5 z))
-    (λ _. picked (leb 6 n && ltb n 8) _ _ (λ z. t (leb-true 6 n (and-left (leb 6 n) (ltb n 8) z))) (λ _. u)))))
+abbrev SoundAfter : Step → Type 0
+SoundAfter s = Sound (s .engine)
 
 filled-sound : (old e : Engine) (m : List ℕ) → Sound old → e .blit ≡ noBlit → Sound (filled old e m .engine)
 unfolding filled afterRect storedIn
-filled-sound old e m s h = picked (eqb (fillVerdict (regs e) (length m)) 0) _ _ (λ _. resting (afterRect e) h) (λ _. s)
+filled-sound old e m s h = picked SoundAfter (eqb (fillVerdict (regs e) (length m)) 0) _ _ (λ _. resting (afterRect e) h) (λ _. s)
 
 copied-sound : (old e : Engine) (m : List ℕ) → Sound old → e .blit ≡ noBlit → Sound (copied old e m .engine)
 unfolding copied afterRect storedIn
-copied-sound old e m s h = picked (eqb (copyVerdict (regs e) (length m)) 0) _ _ (λ _. resting (afterRect e) h) (λ _. s)
+copied-sound old e m s h = picked SoundAfter (eqb (copyVerdict (regs e) (length m)) 0) _ _ (λ _. resting (afterRect e) h) (λ _. s)
 
 lined-sound : (old e : Engine) (m : List ℕ) → Sound old → e .blit ≡ noBlit → Sound (lined old e m .engine)
 unfolding lined afterLine storedIn
 lined-sound old e m s h =
-    picked (eqb (lineVerdict (regs e) (length m)) 0) _ _
+    picked SoundAfter (eqb (lineVerdict (regs e) (length m)) 0) _ _
     (λ _. resting (afterLine e (styleAfter (penOf (regs e)) (pointCount (lineOf (regs e))) (regs e .lineStyle))) h) (λ _. s)
 
 -- a blit that has taken n words and needs more
@@ -402,16 +391,16 @@ waiting-sound e len n last three fits fine more = record {
 begun-sound : (old e : Engine) (m : List ℕ) → Sound old → number (regs e) ≡ 3 → length m ≡ e .opened → Sound (begun old e m .engine)
 unfolding begun afterRect storedIn
 begun-sound old e m s three fits =
-    picked (eqb (hostVerdict (regs e) (length m)) 0) _ _
-    (λ fine. picked (ltb 0 (wordsOf (feedOf (regs e)))) _ _ (λ more. waiting-sound e (length m) 0 0 three fits fine more) (λ _. resting (afterRect (idle e)) refl))
+    picked SoundAfter (eqb (hostVerdict (regs e) (length m)) 0) _ _
+    (λ fine. picked SoundAfter (ltb 0 (wordsOf (feedOf (regs e)))) _ _ (λ more. waiting-sound e (length m) 0 0 three fits fine more) (λ _. resting (afterRect (idle e)) refl))
     (λ _. s)
 
 fed-sound : (e : Engine) (m : List ℕ) (d : ℕ) → Sound e → number (regs e) ≡ 3 → length m ≡ e .opened → Sound (fed e m d .engine)
 unfolding fed afterRect storedIn
 fed-sound e m d s three fits =
-    picked (eqb (hostVerdict (regs e) (length m)) 0) _ _
-    (λ fine. picked (ltb (e .blit .taken) (wordsOf (feedOf (regs e)))) _ _
-    (λ _. picked (ltb (e .blit .taken + 1) (wordsOf (feedOf (regs e)))) _ _
+    picked SoundAfter (eqb (hostVerdict (regs e) (length m)) 0) _ _
+    (λ fine. picked SoundAfter (ltb (e .blit .taken) (wordsOf (feedOf (regs e)))) _ _
+    (λ _. picked SoundAfter (ltb (e .blit .taken + 1) (wordsOf (feedOf (regs e)))) _ _
     (λ more. waiting-sound e (length m) (e .blit .taken + 1) d three fits fine more) (λ _. resting (afterRect (idle e)) refl))
     (λ _. resting (afterRect (idle e)) refl))
     (λ _. s)
@@ -419,13 +408,13 @@ fed-sound e m d s three fits =
 carried-sound : (old e : Engine) (m : List ℕ) → Sound old → e .blit ≡ noBlit → length m ≡ e .opened → Sound (carried old e m .engine)
 unfolding carried
 carried-sound old e m s h fits =
-    by-number (number (regs e)) _ _ _ _ _ _ (λ _. resting e h) (λ _. copied-sound old e m s h) (λ three. begun-sound old e m s three fits)
+    by-number SoundAfter (number (regs e)) _ _ _ _ _ _ (λ _. resting e h) (λ _. copied-sound old e m s h) (λ three. begun-sound old e m s three fits)
     (λ _. filled-sound old e m s h) (λ _. lined-sound old e m s h) s
 
 launched-sound : (e : Engine) (m : List ℕ) (d : ℕ) → Sound e → length m ≡ e .opened → Sound (launched e m d .engine)
 unfolding launched storedIn
 launched-sound e m d s fits =
-    by-number (number (regs e)) _ _ _ _ _ _ (λ _. s)
+    by-number SoundAfter (number (regs e)) _ _ _ _ _ _ (λ _. s)
     (λ n. copied-sound e (storedIn e 0x5c d) m s (quiet e s (λ q. omega arith)))
     (λ three. fed-sound e m d s three fits)
     (λ n. filled-sound e (storedIn e 0x6c d) m s (quiet e s (λ q. omega arith)))
@@ -434,10 +423,10 @@ launched-sound e m d s fits =
 place-sound : (p : Place) (e : Engine) (m : List ℕ) (o d : ℕ) → Sound e → length m ≡ e .opened → Sound (toPlace p e m o d .engine)
 unfolding toRegister toPattern commanded storedIn
 place-sound Register e m o d s fits =
-    picked (eqb o 0x70) _ _
-    (λ _. picked (bit d 8) _ _ (λ _. carried-sound e (idle (storedIn e 0x70 d)) m s refl fits) (λ _. resting (idle (storedIn e 0x70 d)) refl))
-    (λ _. picked (e .blit .waiting) _ _ (λ _. s) (λ r. resting (storedIn e o d) (s .rests r)))
-place-sound (Pattern i) e m o d s fits = picked (e .blit .waiting) _ _ (λ _. s) (λ r. resting (withBank e (patterned (e .bank) i d)) (s .rests r))
+    picked SoundAfter (eqb o 0x70) _ _
+    (λ _. picked SoundAfter (bit d 8) _ _ (λ _. carried-sound e (idle (storedIn e 0x70 d)) m s refl fits) (λ _. resting (idle (storedIn e 0x70 d)) refl))
+    (λ _. picked SoundAfter (e .blit .waiting) _ _ (λ _. s) (λ r. resting (storedIn e o d) (s .rests r)))
+place-sound (Pattern i) e m o d s fits = picked SoundAfter (e .blit .waiting) _ _ (λ _. s) (λ r. resting (withBank e (patterned (e .bank) i d)) (s .rests r))
 place-sound Launch e m o d s fits = launched-sound e m d s fits
 place-sound Nowhere e m o d s fits = s
 
@@ -448,8 +437,8 @@ sound-fresh len = resting (freshEngine len) refl
 pub sound-kept : SoundKept
 unfolding written
 sound-kept e m o d s =
-    picked (ltb (2 ^ 24) (length m)) _ _ (λ _. s)
-    (λ _. picked (eqb (length m) (e .opened)) _ _ (λ fits. place-sound (placeOf o) e m o d s (eqb-true (length m) (e .opened) fits)) (λ _. s))
+    picked SoundAfter (ltb (2 ^ 24) (length m)) _ _ (λ _. s)
+    (λ _. picked SoundAfter (eqb (length m) (e .opened)) _ _ (λ fits. place-sound (placeOf o) e m o d s (eqb-true (length m) (e .opened) fits)) (λ _. s))
 
 -- with command 3 a launch write's number is the host blit's verdict
 host-launch : (e : Engine) (m : List ℕ) (d : ℕ) → number (regs e) ≡ 3 → numberOf (launched e m d .answer) ≡ hostVerdict (regs e) (length m)

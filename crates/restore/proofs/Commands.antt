@@ -32,7 +32,8 @@ use Rattle.engine.specs.declared.Engine.{Engine}
 use Rattle.engine.specs.declared.Answer.{Answer}
 use Rattle.engine.specs.declared.Answer.the-variants.{Taken}
 use Rattle.engine.specs.Step.{Step, step, done, numberOf, refusal, regs, idle, withBlit, storedIn, afterRect, afterLine, wordPainted, filled, copied, lined, begun, fed}
-use Rattle.engine.proofs.Frame.{picked, fill-in-clip, copy-in-clip, each-pixel, word-in-clip}
+use Rattle.engine.proofs.Cases.{picked}
+use Rattle.engine.proofs.Frame.{fill-in-clip, copy-in-clip, each-pixel, word-in-clip}
 use Rattle.restore.specs.Rectangles.{Rectangle}
 use Rattle.restore.specs.Restore.{Framed}
 use Rattle.restore.proofs.Areas.{Elsewhere, elsewhere-refl}

@@ -30,7 +30,7 @@ use Rattle.engine.specs.Step.{Step, step, regs, idle, storedIn, afterRect, copi
 use Rattle.restore.specs.Rectangles.{sourceRect, targetRect, Apart}
 use Rattle.restore.specs.Writes.{Write, by, launching, orderAt, order}
 use Rattle.restore.specs.Restore.{Plain}
-use Rattle.engine.proofs.Frame.{picked}
+use Rattle.engine.proofs.Cases.{picked}
 use Rattle.restore.proofs.Frames.{launch-copy, launch-host, launch-other}
 use Rattle.restore.proofs.Copies.{Came, taken, plain-copied}
 

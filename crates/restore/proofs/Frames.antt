@@ -4,12 +4,11 @@ use mathlib.Core.Path.{_≡_, refl, ap, ap₂, subst, _∙_}
 use mathlib.Core.Bool.{Bool, true, false, cond, _&&_}
 use mathlib.Core.List.{List, [], _∷_}
 use mathlib.Core.Option.{none, some}
-use Prim.Native.Nat.{ℕ, _^_, _≤_}
+use Prim.Native.Nat.{ℕ, _^_}
 use native.Mathlib.Omega.{arith}
-use lib.Dec.{eqb, leb, ltb}
+use lib.Dec.{eqb, ltb}
 use lib.ListN.{length}
-use borrow.Author.Tests.{eqb-true, eq-eqb, ne-eqb, leb-true}
-use Rattle.surface.proofs.OnLaws.{and-left}
+use borrow.Author.Tests.{eqb-true, eq-eqb, ne-eqb}
 use Rattle.paint.proofs.Frame.{Bytes}
 use Rattle.registers.specs.declared.Regs.{Regs}
 use Rattle.registers.specs.declared.Place.{Place}
@@ -25,19 +24,8 @@ use Rattle.restore.specs.Rectangles.{Rectangle}
 use Rattle.restore.specs.Writes.{Write, Run, by, played, launching, orderAt, order}
 use Rattle.restore.specs.Restore.{Framed, AllFramed}
 use Rattle.restore.proofs.Areas.{Elsewhere, elsewhere-refl, elsewhere-trans}
-use Rattle.engine.proofs.Frame.{picked}
+use Rattle.engine.proofs.Cases.{picked, by-number}
 use Rattle.restore.proofs.Commands.{Held, Kept, Asked, not-waiting, still, filled-kept, copied-kept, lined-kept, begun-kept, fed-kept}
-
--- ---- by the number of the command
-by-number : (P : Step → Type 0) (n : ℕ) (nop copy host fill line other : Step) → (n ≡ 0 → P nop) → (n ≡ 1 → P copy) → (n ≡ 3 → P host) → (n ≡ 5 → P fill)
-    → (6 ≤ n → P line) → P other
-    → P (cond (eqb n 0) nop (cond (eqb n 1) copy (cond (eqb n 3) host (cond (eqb n 5) fill (cond (leb 6 n && ltb n 8) line other)))))
-by-number P n nop copy host fill line other a b c d f g =
-    picked P (eqb n 0) _ _ (λ t. a (eqb-true n 0 t))
-    (λ u. picked P (eqb n 1) _ _ (λ t. b (eqb-true n 1 t))
-    (λ u. picked P (eqb n 3) _ _ (λ t. c (eqb-true n 3 t))
-    (λ u. picked P (eqb n 5) _ _ (λ t. d (eqb-true n 5 t))
-    (λ u. picked P (leb 6 n && ltb n 8) _ _ (λ t. f (leb-true 6 n (and-left (leb 6 n) (ltb n 8) t))) (λ t. g)))))
 
 -- a command written with bit 8, from an engine with no blit waiting
 carried-kept : {t : Rectangle} (old e : Engine) (m : List ℕ) → e .opened ≡ old .opened → Held t old → e .blit .waiting ≡ false
