@@ -1,24 +1,48 @@
--- What holds of each outcome of a test holds of the one that it picks.
+-- What holds for each outcome of a test, or of the tests of a command's number, holds.
 -- Assumes nothing.
 use mathlib.Core.Path.{_≡_, refl}
 use mathlib.Core.Bool.{Bool, true, false, cond, _&&_}
-use Prim.Native.Nat.{ℕ, _≤_}
+use Prim.Native.Nat.{ℕ, _<_, _≤_}
 use lib.Dec.{eqb, leb, ltb}
-use borrow.Author.Tests.{eqb-true, leb-true}
-use Rattle.surface.proofs.OnLaws.{and-left}
-use Rattle.engine.specs.Step.{Step}
+use borrow.Author.Tests.{eqb-true, leb-true, ltb-true}
+use Rattle.surface.proofs.OnLaws.{and-left, and-right}
+use Rattle.engine.specs.Step.{byNumber}
+
+pub by-test : (Q : Bool → Type 0) (t : Bool) → (t ≡ true → Q true) → (t ≡ false → Q false) → Q t
+by-test Q true yes′ no′ = yes′ refl
+by-test Q false yes′ no′ = no′ refl
 
 pub picked : {A : Type 0} (P : A → Type 0) (t : Bool) (x y : A) → (t ≡ true → P x) → (t ≡ false → P y) → P (cond t x y)
-picked P true x y f g = f refl
-picked P false x y f g = g refl
+picked P t x y = by-test (λ b. P (cond b x y)) t
 
--- the same by the number of a command
-pub by-number : (P : Step → Type 0) (n : ℕ) (nop copy host fill line other : Step) → (n ≡ 0 → P nop) → (n ≡ 1 → P copy) → (n ≡ 3 → P host) → (n ≡ 5 → P fill)
-    → (6 ≤ n → P line) → P other
-    → P (cond (eqb n 0) nop (cond (eqb n 1) copy (cond (eqb n 3) host (cond (eqb n 5) fill (cond (leb 6 n && ltb n 8) line other)))))
-by-number P n nop copy host fill line other a b c d f g =
-    picked P (eqb n 0) _ _ (λ t. a (eqb-true n 0 t))
-    (λ u. picked P (eqb n 1) _ _ (λ t. b (eqb-true n 1 t))
-    (λ u. picked P (eqb n 3) _ _ (λ t. c (eqb-true n 3 t))
-    (λ u. picked P (eqb n 5) _ _ (λ t. d (eqb-true n 5 t))
-    (λ u. picked P (leb 6 n && ltb n 8) _ _ (λ t. f (leb-true 6 n (and-left (leb 6 n) (ltb n 8) t))) (λ t. g)))))
+-- no test of the number holds
+pub record Unbuilt (n : ℕ) : Type 0 where
+  pub not0 : eqb n 0 ≡ false
+  pub not1 : eqb n 1 ≡ false
+  pub not3 : eqb n 3 ≡ false
+  pub not5 : eqb n 5 ≡ false
+  pub not6 : (leb 6 n && ltb n 8) ≡ false
+
+abbrev pub pick : {A : Type 0} → Bool → Bool → Bool → Bool → Bool → A → A → A → A → A → A → A
+pick t0 t1 t3 t5 t6 nop copy host fill line other = cond t0 nop (cond t1 copy (cond t3 host (cond t5 fill (cond t6 line other))))
+
+pub by-tests : (Q : Bool → Bool → Bool → Bool → Bool → Type 0) (n : ℕ)
+    → (n ≡ 0 → Q true (eqb n 1) (eqb n 3) (eqb n 5) (leb 6 n && ltb n 8))
+    → (n ≡ 1 → Q false true (eqb n 3) (eqb n 5) (leb 6 n && ltb n 8))
+    → (n ≡ 3 → Q false false true (eqb n 5) (leb 6 n && ltb n 8))
+    → (n ≡ 5 → Q false false false true (leb 6 n && ltb n 8))
+    → (6 ≤ n → n < 8 → Q false false false false true)
+    → (Unbuilt n → Q false false false false false)
+    → Q (eqb n 0) (eqb n 1) (eqb n 3) (eqb n 5) (leb 6 n && ltb n 8)
+by-tests Q n nop copy host fill line other =
+    by-test (λ t. Q t (eqb n 1) (eqb n 3) (eqb n 5) (leb 6 n && ltb n 8)) (eqb n 0) (λ t. nop (eqb-true n 0 t))
+    (λ t0. by-test (λ t. Q false t (eqb n 3) (eqb n 5) (leb 6 n && ltb n 8)) (eqb n 1) (λ t. copy (eqb-true n 1 t))
+    (λ t1. by-test (λ t. Q false false t (eqb n 5) (leb 6 n && ltb n 8)) (eqb n 3) (λ t. host (eqb-true n 3 t))
+    (λ t3. by-test (λ t. Q false false false t (leb 6 n && ltb n 8)) (eqb n 5) (λ t. fill (eqb-true n 5 t))
+    (λ t5. by-test (λ t. Q false false false false t) (leb 6 n && ltb n 8)
+    (λ t. line (leb-true 6 n (and-left (leb 6 n) (ltb n 8) t)) (ltb-true n 8 (and-right (leb 6 n) (ltb n 8) t)))
+    (λ t6. other (record { not0 = t0; not1 = t1; not3 = t3; not5 = t5; not6 = t6 }))))))
+
+pub by-number : {A : Type 0} (P : A → Type 0) (n : ℕ) (nop copy host fill line other : A) → (n ≡ 0 → P nop) → (n ≡ 1 → P copy) → (n ≡ 3 → P host) → (n ≡ 5 → P fill)
+    → (6 ≤ n → n < 8 → P line) → (Unbuilt n → P other) → P (byNumber n nop copy host fill line other)
+by-number P n nop copy host fill line other = by-tests (λ t0 t1 t3 t5 t6. P (pick t0 t1 t3 t5 t6 nop copy host fill line other)) n

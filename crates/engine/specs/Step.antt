@@ -5,7 +5,7 @@ use mathlib.Core.List.{List}
 use Prim.Native.Nat.{ℕ, _+_, _^_}
 use lib.Dec.{eqb, leb, ltb}
 use lib.ListN.{length}
-use Rattle.paint.specs.Paint.{State, state, paint}
+use Rattle.paint.specs.Paint.{State, state, Touch, paint}
 use Rattle.paint.specs.Copy.{asBefore}
 use Rattle.line.specs.Line.{points, pointCount}
 use Rattle.line.specs.Stipple.{styleAfter}
@@ -99,25 +99,41 @@ step e m a = record { engine = e; memory = m; answer = a }
 abbrev pub done : Engine → State → Step
 done e st = step e (st .mem) (Taken (st .count))
 
+-- ---- what each command touches: its covered pixels, in their order, each with what it is given
+abbrev pub fillTouches : Engine → List ℕ → List Touch
+fillTouches e m = asBefore (fillTask (regs e)) (e .bank .pattern) m (covered (fillCut (regs e)))
+
+abbrev pub copyTouches : Engine → List ℕ → List Touch
+copyTouches e m = asBefore (copyTask (regs e)) (e .bank .pattern) m (covered (copyCut (regs e)))
+
+abbrev pub drawTouches : Engine → List Touch
+drawTouches e = lineTouches (inkOf (regs e)) (e .bank .pattern) (clipOf (regs e)) (penOf (regs e)) (regs e .lineStyle) (points (lineOf (regs e)))
+
+-- of a host blit, those that this word finishes
+abbrev pub wordTouches : Engine → ℕ → List Touch
+wordTouches e word =
+    hostTouches (inkOf (regs e)) (e .bank .pattern) (clipOf (regs e)) (feedOf (regs e)) (byWord (feedOf (regs e)) (e .blit .last) word (e .blit .taken))
+
+abbrev pub painted : Engine → List Touch → List ℕ → State
+painted e ts m = paint (target (regs e)) ts (state m 0)
+
 -- ---- the commands; a refusal gives back the engine as it was before the write
 unfoldable pub filled : Engine → Engine → List ℕ → Step
 filled old e m =
     cond (eqb (fillVerdict (regs e) (length m)) 0)
-    (done (afterRect e) (paint (target (regs e)) (asBefore (fillTask (regs e)) (e .bank .pattern) m (covered (fillCut (regs e)))) (state m 0)))
+    (done (afterRect e) (painted e (fillTouches e m) m))
     (step old m (refusal (fillVerdict (regs e) (length m))))
 
 unfoldable pub copied : Engine → Engine → List ℕ → Step
 copied old e m =
     cond (eqb (copyVerdict (regs e) (length m)) 0)
-    (done (afterRect e) (paint (target (regs e)) (asBefore (copyTask (regs e)) (e .bank .pattern) m (covered (copyCut (regs e)))) (state m 0)))
+    (done (afterRect e) (painted e (copyTouches e m) m))
     (step old m (refusal (copyVerdict (regs e) (length m))))
 
 unfoldable pub lined : Engine → Engine → List ℕ → Step
 lined old e m =
     cond (eqb (lineVerdict (regs e) (length m)) 0)
-    (done (afterLine e (styleAfter (penOf (regs e)) (pointCount (lineOf (regs e))) (regs e .lineStyle)))
-    (paint (target (regs e))
-    (lineTouches (inkOf (regs e)) (e .bank .pattern) (clipOf (regs e)) (penOf (regs e)) (regs e .lineStyle) (points (lineOf (regs e)))) (state m 0)))
+    (done (afterLine e (styleAfter (penOf (regs e)) (pointCount (lineOf (regs e))) (regs e .lineStyle))) (painted e (drawTouches e) m))
     (step old m (refusal (lineVerdict (regs e) (length m))))
 
 -- a host blit opened: it waits for its first word, or ends at once where it needs none
@@ -130,42 +146,33 @@ begun old e m =
     (step old m (refusal (hostVerdict (regs e) (length m))))
 
 -- a word of data: the first also opens the blit, the last ends it
-abbrev pub wordPainted : Engine → List ℕ → ℕ → State
-wordPainted e m word =
-    paint (target (regs e))
-    (hostTouches (inkOf (regs e)) (e .bank .pattern) (clipOf (regs e)) (feedOf (regs e)) (byWord (feedOf (regs e)) (e .blit .last) word (e .blit .taken))) (state m 0)
-
 unfoldable pub fed : Engine → List ℕ → ℕ → Step
 fed e m word =
     cond (eqb (hostVerdict (regs e) (length m)) 0)
     (cond (ltb (e .blit .taken) (wordsOf (feedOf (regs e))))
     (cond (ltb (e .blit .taken + 1) (wordsOf (feedOf (regs e))))
-    (done (withBlit e (record { waiting = true; taken = e .blit .taken + 1; last = word })) (wordPainted e m word))
-    (done (afterRect (idle e)) (wordPainted e m word)))
+    (done (withBlit e (record { waiting = true; taken = e .blit .taken + 1; last = word })) (painted e (wordTouches e word) m))
+    (done (afterRect (idle e)) (painted e (wordTouches e word) m)))
     (step (afterRect (idle e)) m (Taken 0)))
     (step e m (refusal (hostVerdict (regs e) (length m))))
 
 -- ---- the writes
 
--- the command that e holds is carried out; numbers 6 and 7 are line and polyline
+-- by a command's number: nop, screen copy, host blit, fill, line and polyline, and those that are not built
+abbrev pub byNumber : {A : Type 0} → ℕ → A → A → A → A → A → A → A
+byNumber n nop copy host fill line other =
+    cond (eqb n 0) nop (cond (eqb n 1) copy (cond (eqb n 3) host (cond (eqb n 5) fill (cond (leb 6 n && ltb n 8) line other))))
+
+-- the command that e holds is carried out
 unfoldable pub carried : Engine → Engine → List ℕ → Step
 carried old e m =
-    cond (eqb (number (regs e)) 0) (step e m (Taken 0))
-    (cond (eqb (number (regs e)) 1) (copied old e m)
-    (cond (eqb (number (regs e)) 3) (begun old e m)
-    (cond (eqb (number (regs e)) 5) (filled old e m)
-    (cond (leb 6 (number (regs e)) && ltb (number (regs e)) 8) (lined old e m)
-    (step old m NotBuilt)))))
+    byNumber (number (regs e)) (step e m (Taken 0)) (copied old e m) (begun old e m) (filled old e m) (lined old e m) (step old m NotBuilt)
 
 -- a launch write puts its data into srcXY or dstXY, or it is a host blit's; with nop it is dropped
 unfoldable pub launched : Engine → List ℕ → ℕ → Step
 launched e m d =
-    cond (eqb (number (regs e)) 0) (step e m (Taken 0))
-    (cond (eqb (number (regs e)) 1) (copied e (storedIn e 0x5c d) m)
-    (cond (eqb (number (regs e)) 3) (fed e m d)
-    (cond (eqb (number (regs e)) 5) (filled e (storedIn e 0x6c d) m)
-    (cond (leb 6 (number (regs e)) && ltb (number (regs e)) 8) (lined e (storedIn e 0x6c d) m)
-    (step e m NotBuilt)))))
+    byNumber (number (regs e)) (step e m (Taken 0)) (copied e (storedIn e 0x5c d) m) (fed e m d) (filled e (storedIn e 0x6c d) m) (lined e (storedIn e 0x6c d) m)
+    (step e m NotBuilt)
 
 -- a write to command abandons what waits, and runs with bit 8
 unfoldable pub commanded : Engine → List ℕ → ℕ → Step

@@ -3,15 +3,13 @@
 use mathlib.Core.Path.{_≡_, refl, sym, ap, subst, subst⁻¹, _∙_}
 use mathlib.Core.Bool.{true, false, cond, _&&_, false≢true}
 use mathlib.Core.List.{List}
-use mathlib.Core.Option.{Option, none, some}
+use mathlib.Core.Option.{Option, some}
 use Prim.Native.Nat.{ℕ, _*_, _^_, _≤_}
 use native.Mathlib.Omega.{arith}
-use native.Mathlib.Decide.{ℕ-discrete}
 use lib.Dec.{eqb}
 use lib.ListN.{length}
 use borrow.Author.Tests.{eqb-true, eq-eqb, ne-eqb, le-ltb}
 use Rattle.surface.proofs.OnLaws.{and-left, and-right}
-use Rattle.surface.proofs.Lists.{by-cases}
 use Rattle.paint.specs.Paint.{state, paint}
 use Rattle.paint.specs.Copy.{asBefore}
 use Rattle.paint.proofs.Frame.{Bytes, paint-bytes}
@@ -19,19 +17,18 @@ use Rattle.registers.specs.declared.Regs.{Regs}
 use Rattle.registers.specs.declared.Place.{Place}
 use Rattle.registers.specs.declared.Place.the-variants.{Register, Pattern, Launch, Nowhere}
 use Rattle.registers.specs.Offsets.{placeOf}
-use Rattle.registers.specs.Bank.{stored}
-use Rattle.registers.specs.Regs.{putReg}
 use Rattle.command.specs.Decode.{bit, number, width, height, target, copyCut, covered, copyTask}
 use Rattle.command.specs.Table.{copyVerdict}
 use Rattle.engine.specs.declared.Engine.{Engine}
 use Rattle.engine.specs.declared.Answer.{Answer}
 use Rattle.engine.specs.declared.Answer.the-variants.{Taken, Waiting}
 use Rattle.engine.specs.Step.{Step, step, regs, idle, storedIn, afterRect, copied, carried, launched, commanded, toRegister, toPlace, written}
+use Rattle.engine.specs.Orders.{launching}
 use Rattle.restore.specs.Rectangles.{sourceRect, targetRect, Apart}
-use Rattle.restore.specs.Writes.{Write, by, launching, orderAt, order}
+use Rattle.restore.specs.Writes.{Write, by, startAt, starts}
 use Rattle.restore.specs.Restore.{Plain}
 use Rattle.engine.proofs.Cases.{picked}
-use Rattle.restore.proofs.Frames.{launch-copy, launch-host, launch-other}
+use Rattle.engine.proofs.Orders.{launch-number, launch-copy, the-same, nothing-ordered}
 use Rattle.restore.proofs.Copies.{Came, taken, plain-copied}
 
 -- the write's outcome is that of the copy, with the registers r
@@ -50,12 +47,6 @@ launched-copy : (e : Engine) (m : List ℕ) (d : ℕ) → number (regs e) ≡ 1 
 unfolding launched
 launched-copy e m d n = rw (ne-eqb (number (regs e)) 0 (λ z. omega arith), eq-eqb (number (regs e)) 1 n)
 
-pub the-same : (r s : Regs) → some r ≡ some s → r ≡ s
-the-same r s e = cc
-
-pub nothing-ordered : {A : Type 0} (r : Regs) → none ≡ some r → A
-nothing-ordered r e = let z : _≡_ {A = ℕ} 0 1 = cc in absurd (omega arith)
-
 module _ (e : Engine) (m : List ℕ) (w : Write) (r : Regs) (copy : number r ≡ 1) where
   commanded-issues : w .offset ≡ 0x70 → bit (w .word) 8 ≡ true → regs (storedIn e 0x70 (w .word)) ≡ r → Issued e m r (toRegister e m (w .offset) (w .word))
   unfolding toRegister commanded storedIn
@@ -73,21 +64,18 @@ module _ (e : Engine) (m : List ℕ) (w : Write) (r : Regs) (copy : number r ≡
       }
 
   launched-issues : e .blit .waiting ≡ false → launching e (w .word) ≡ r → Issued e m r (launched e m (w .word))
-  unfolding storedIn stored putReg
+  unfolding storedIn
   launched-issues rests h =
-      by-cases (ℕ-discrete (number (regs e)) 1)
-      (λ n. record {
+      let one : number (regs e) ≡ 1 = sym (launch-number e (w .word)) ∙ ap (λ (q : Regs). number q) h ∙ copy in
+      record {
         next = storedIn e 0x5c (w .word);
-        holds = sym (launch-copy e (w .word) n) ∙ h;
-        carries = launched-copy e m (w .word) n;
+        holds = sym (launch-copy e (w .word) one) ∙ h;
+        carries = launched-copy e m (w .word) one;
         opened = refl;
         rests = rests;
-      })
-      (λ n. absurd (by-cases (ℕ-discrete (number (regs e)) 3)
-      (λ k. n (ap (λ (q : Regs). number q) (sym (launch-host e (w .word) k) ∙ h) ∙ copy))
-      (λ k. n (ap (λ (q : Regs). number q) (sym (launch-other e (w .word) n k) ∙ h) ∙ copy))))
+      }
 
-  place-issues : (q : Place) → orderAt q e w ≡ some r → Issued e m r (toPlace q e m (w .offset) (w .word))
+  place-issues : (q : Place) → startAt q e w ≡ some r → Issued e m r (toPlace q e m (w .offset) (w .word))
   place-issues Register =
       picked (λ (o : Option Regs). o ≡ some r → Issued e m r (toRegister e m (w .offset) (w .word))) (eqb (w .offset) 0x70 && bit (w .word) 8) _ _
       (λ t h. commanded-issues (eqb-true (w .offset) 0x70 (and-left (eqb (w .offset) 0x70) (bit (w .word) 8) t)) (and-right (eqb (w .offset) 0x70) (bit (w .word) 8) t)
@@ -100,7 +88,7 @@ module _ (e : Engine) (m : List ℕ) (w : Write) (r : Regs) (copy : number r ≡
       (λ t h. launched-issues t (the-same _ r h))
   place-issues Nowhere = nothing-ordered r
 
-  pub issues : length m ≤ 2 ^ 24 → length m ≡ e .opened → order e w ≡ some r → Issued e m r (by e m w)
+  pub issues : length m ≤ 2 ^ 24 → length m ≡ e .opened → starts e w ≡ some r → Issued e m r (by e m w)
   unfolding written
   issues limit opened h =
       let k = place-issues (placeOf (w .offset)) h in
@@ -138,7 +126,7 @@ copied-made e next m o rests bytes plain apart =
     })
     (λ v. absurd (false≢true (sym v ∙ eq-eqb (copyVerdict r (length m)) 0 (taken (length m) r plain apart))))
 
-pub write-made : (e : Engine) (m : List ℕ) (w : Write) (r : Regs) → length m ≤ 2 ^ 24 → length m ≡ e .opened → Bytes m → order e w ≡ some r
+pub write-made : (e : Engine) (m : List ℕ) (w : Write) (r : Regs) → length m ≤ 2 ^ 24 → length m ≡ e .opened → Bytes m → starts e w ≡ some r
     → Plain (length m) r → Apart (targetRect r) (sourceRect r) → Made e m r (by e m w)
 write-made e m w r limit opened bytes h plain apart =
     let k = issues e m w r (plain .copy) limit opened h in

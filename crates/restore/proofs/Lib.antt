@@ -1,5 +1,5 @@
 pub mod Areas
-pub mod Commands
+pub mod Waits
 pub mod Frames
 pub mod Copies
 pub mod CopyWrites

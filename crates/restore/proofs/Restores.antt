@@ -18,7 +18,7 @@ use Rattle.restore.specs.Rectangles.{Rectangle, sourceRect, targetRect, 
 use Rattle.restore.specs.Writes.{Write, Run, run, before, by, played}
 use Rattle.restore.specs.Restore.{Plain, Saves, Restored, Demand}
 use Rattle.restore.proofs.Areas.{outside}
-use Rattle.restore.proofs.Commands.{not-waiting}
+use Rattle.restore.proofs.Waits.{not-waiting}
 use Rattle.restore.proofs.Frames.{AllKept, writes-kept}
 use Rattle.restore.proofs.Copies.{Came}
 use Rattle.restore.proofs.Back.{apart-swap, comes-back}

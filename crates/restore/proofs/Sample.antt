@@ -28,10 +28,11 @@ use Rattle.command.specs.Decode.{inkOf, clipOf, cutAt, fillCut, copyCut, fillTa
 use Rattle.command.specs.Table.{allOnAt, fillVerdict, copyVerdict}
 use Rattle.engine.specs.declared.Engine.{Engine}
 use Rattle.engine.specs.Step.{freshEngine, storedIn, afterRect, filled, copied, launched, toRegister, commanded, written}
+use Rattle.engine.specs.Orders.{launching}
 use Rattle.restore.specs.Rectangles.{sourceRect}
-use Rattle.restore.specs.Writes.{Write, played, launching}
+use Rattle.restore.specs.Writes.{Write, played}
 use Rattle.restore.specs.Restore.{Framed, Saves}
-use Rattle.restore.proofs.CopyWrites.{the-same, nothing-ordered}
+use Rattle.engine.proofs.Orders.{the-same, nothing-ordered}
 
 abbrev write : ℕ → ℕ → Write
 write o d = record { offset = o; word = d }

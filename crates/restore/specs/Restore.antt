@@ -16,7 +16,7 @@ use Rattle.engine.specs.declared.Answer.{Answer}
 use Rattle.engine.specs.declared.Answer.the-variants.{Taken}
 use Rattle.engine.specs.Step.{numberOf}
 use Rattle.restore.specs.Rectangles.{Rectangle, sourceRect, targetRect, positions, Has, addressesIn, Apart}
-use Rattle.restore.specs.Writes.{Write, by, Run, played, order}
+use Rattle.restore.specs.Writes.{Write, by, Run, played, starts}
 
 -- ---- what is asked
 
@@ -45,7 +45,7 @@ pub record Framed (home : Rectangle) (r : Regs) : Type 0 where
 abbrev pub AllFramed : Rectangle → Engine → List ℕ → List Write → Type 0
 AllFramed home e m [] = Unit {0}
 AllFramed home e m (w ∷ ws) =
-    ((r : Regs) → order e w ≡ some r → numberOf (by e m w .answer) ≡ 0 → (number r ≡ 0 → ⊥) → Framed home r)
+    ((r : Regs) → starts e w ≡ some r → numberOf (by e m w .answer) ≡ 0 → (number r ≡ 0 → ⊥) → Framed home r)
     × AllFramed home (by e m w .engine) (by e m w .memory) ws
 
 -- the write `first` has the copy aside carried out, with the registers `aside`; then come any writes; then `last` has the copy back
@@ -54,12 +54,12 @@ pub record Saves (e : Engine) (m : List ℕ) (first : Write) (middle : List Writ
   pub opened : length m ≡ e .opened
   pub bytes : (a : ℕ) → getD m a 0 < 256
   pub rests : e .blit .waiting ≡ false
-  pub goes : order e first ≡ some aside
+  pub goes : starts e first ≡ some aside
   pub plain : Plain (length m) aside
   pub apart : Apart (sourceRect aside) (targetRect aside)
   pub framed : AllFramed (sourceRect aside) (by e m first .engine) (by e m first .memory) middle
   pub ended : played e m (first ∷ middle) .engine .blit .waiting ≡ false
-  pub returns : order (played e m (first ∷ middle) .engine) last ≡ some back
+  pub returns : starts (played e m (first ∷ middle) .engine) last ≡ some back
   pub again : Plain (length m) back
   pub from : sourceRect back ≡ targetRect aside
   pub to : targetRect back ≡ sourceRect aside

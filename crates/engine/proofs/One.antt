@@ -1,0 +1,24 @@
+-- Each contract says what the outcome equals, and so allows one.
+-- Assumes nothing.
+use mathlib.Core.Path.{_≡_, sym, _∙_}
+use Rattle.surface.specs.View.{viewAnswer, viewed}
+use Rattle.engine.specs.Step.{freshEngine, readFrom, written}
+use Rattle.engine.specs.Promises.{OneOutcome, OneFresh, OneReading, OneView, OneViewAnswer}
+
+settled : {A : Type 0} (f x y : A) → x ≡ f → y ≡ f → x ≡ y
+settled f x y p q = p ∙ sym q
+
+pub one-outcome : OneOutcome
+one-outcome e m o d x y = settled (written e m o d) x y
+
+pub one-fresh : OneFresh
+one-fresh len x y = settled (freshEngine len) x y
+
+pub one-reading : OneReading
+one-reading e o x y = settled (readFrom e o) x y
+
+pub one-view : OneView
+one-view m base format px py width x y = settled (viewed m base format px py width) x y
+
+pub one-view-answer : OneViewAnswer
+one-view-answer len base format px py width x y = settled (viewAnswer len base format px py width) x y

@@ -1,0 +1,95 @@
+-- Demand 1: a refused write leaves engine and memory as they were, and counts nothing.
+-- Assumes nothing.
+use mathlib.Core.Path.{_≡_, refl}
+use mathlib.Core.Bool.{Bool, true, false, cond}
+use mathlib.Core.List.{List}
+use Prim.Native.Nat.{ℕ, _+_, _^_}
+use lib.Dec.{eqb, ltb}
+use lib.ListN.{length}
+use Rattle.registers.specs.declared.Place.{Place}
+use Rattle.registers.specs.declared.Place.the-variants.{Register, Pattern, Launch, Nowhere}
+use Rattle.registers.specs.Offsets.{placeOf}
+use Rattle.host.specs.Host.{wordsOf}
+use Rattle.command.specs.Decode.{bit, number, feedOf}
+use Rattle.command.specs.Table.{fillVerdict, copyVerdict, hostVerdict, lineVerdict}
+use Rattle.engine.specs.declared.Engine.{Engine}
+use Rattle.engine.specs.declared.Answer.{Answer}
+use Rattle.engine.specs.declared.Answer.the-variants.{Taken, Memory, Offset, Waiting, NotBuilt, Format, Host, Off, Meet}
+use Rattle.engine.specs.Step.{Step, step, numberOf, countOf, refusal, regs, idle, storedIn, filled, copied, lined, begun, fed, carried, launched, commanded, toRegister, toPattern, toPlace, written}
+use Rattle.engine.specs.Promises.{RefusedUndone}
+use Rattle.engine.proofs.Cases.{picked, by-number}
+
+record Kept (e : Engine) (m : List ℕ) (s : Step) : Type 0 where
+  undone : (numberOf (s .answer) ≡ 0 → ⊥) → (s .engine ≡ e) × (s .memory ≡ m) × (countOf (s .answer) ≡ 0)
+
+-- a step that is taken, and one that hands back what came
+taken : {e : Engine} {m : List ℕ} (k : Engine) (left : List ℕ) (n : ℕ) → Kept e m (step k left (Taken n))
+taken k left n = record { undone = λ no′. absurd (no′ refl) }
+
+same-back : (e : Engine) (m : List ℕ) (a : Answer) → countOf a ≡ 0 → Kept e m (step e m a)
+same-back e m a z = record { undone = λ _. (refl, refl, z) }
+
+refused-count : (n : ℕ) → countOf (refusal n) ≡ 0
+unfolding refusal
+refused-count n = cases (eqb n 5) (eqb n 6) (eqb n 7)
+  where
+    cases : (a b c : Bool) → countOf (cond a Format (cond b Host (cond c Off Meet))) ≡ 0
+    cases true b c = refl
+    cases false true c = refl
+    cases false false true = refl
+    cases false false false = refl
+
+-- a command that its verdict v refuses, or carries out
+judged-kept : {old : Engine} {m : List ℕ} (v : ℕ) (s : Step) → Kept old m s → Kept old m (cond (eqb v 0) s (step old m (refusal v)))
+judged-kept {old} {m} v s k = picked (Kept old m) (eqb v 0) _ _ (λ _. k) (λ _. same-back old m (refusal v) (refused-count v))
+
+filled-kept : (old e : Engine) (m : List ℕ) → Kept old m (filled old e m)
+unfolding filled
+filled-kept old e m = judged-kept (fillVerdict (regs e) (length m)) _ (taken _ _ _)
+
+copied-kept : (old e : Engine) (m : List ℕ) → Kept old m (copied old e m)
+unfolding copied
+copied-kept old e m = judged-kept (copyVerdict (regs e) (length m)) _ (taken _ _ _)
+
+lined-kept : (old e : Engine) (m : List ℕ) → Kept old m (lined old e m)
+unfolding lined
+lined-kept old e m = judged-kept (lineVerdict (regs e) (length m)) _ (taken _ _ _)
+
+begun-kept : (old e : Engine) (m : List ℕ) → Kept old m (begun old e m)
+unfolding begun
+begun-kept old e m =
+    judged-kept (hostVerdict (regs e) (length m)) _ (picked (Kept old m) (ltb 0 (wordsOf (feedOf (regs e)))) _ _ (λ _. taken _ _ _) (λ _. taken _ _ _))
+
+fed-kept : (e : Engine) (m : List ℕ) (d : ℕ) → Kept e m (fed e m d)
+unfolding fed
+fed-kept e m d =
+    judged-kept (hostVerdict (regs e) (length m)) _
+    (picked (Kept e m) (ltb (e .blit .taken) (wordsOf (feedOf (regs e)))) _ _
+    (λ _. picked (Kept e m) (ltb (e .blit .taken + 1) (wordsOf (feedOf (regs e)))) _ _ (λ _. taken _ _ _) (λ _. taken _ _ _)) (λ _. taken _ _ _))
+
+carried-kept : (old e : Engine) (m : List ℕ) → Kept old m (carried old e m)
+unfolding carried
+carried-kept old e m =
+    by-number (Kept old m) (number (regs e)) _ _ _ _ _ _ (λ _. taken _ _ _) (λ _. copied-kept old e m) (λ _. begun-kept old e m) (λ _. filled-kept old e m)
+    (λ _ _. lined-kept old e m) (λ _. same-back old m NotBuilt refl)
+
+launched-kept : (e : Engine) (m : List ℕ) (d : ℕ) → Kept e m (launched e m d)
+unfolding launched
+launched-kept e m d =
+    by-number (Kept e m) (number (regs e)) _ _ _ _ _ _ (λ _. taken _ _ _) (λ _. copied-kept e (storedIn e 0x5c d) m) (λ _. fed-kept e m d)
+    (λ _. filled-kept e (storedIn e 0x6c d) m) (λ _ _. lined-kept e (storedIn e 0x6c d) m) (λ _. same-back e m NotBuilt refl)
+
+place-kept : (p : Place) (e : Engine) (m : List ℕ) (o d : ℕ) → Kept e m (toPlace p e m o d)
+unfolding toRegister toPattern commanded
+place-kept Register e m o d =
+    picked (Kept e m) (eqb o 0x70) _ _ (λ _. picked (Kept e m) (bit d 8) _ _ (λ _. carried-kept e (idle (storedIn e 0x70 d)) m) (λ _. taken _ _ _))
+    (λ _. picked (Kept e m) (e .blit .waiting) _ _ (λ _. same-back e m Waiting refl) (λ _. taken _ _ _))
+place-kept (Pattern i) e m o d = picked (Kept e m) (e .blit .waiting) _ _ (λ _. same-back e m Waiting refl) (λ _. taken _ _ _)
+place-kept Launch e m o d = launched-kept e m d
+place-kept Nowhere e m o d = same-back e m Offset refl
+
+pub refused-undone : RefusedUndone
+unfolding written
+refused-undone e m o d =
+    picked (Kept e m) (ltb (2 ^ 24) (length m)) _ _ (λ _. same-back e m Memory refl)
+    (λ _. picked (Kept e m) (eqb (length m) (e .opened)) _ _ (λ _. place-kept (placeOf o) e m o d) (λ _. same-back e m Memory refl)) .undone
