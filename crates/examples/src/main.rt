@@ -55,7 +55,7 @@ fn say_pixel(low: u8) {
     }
 }
 
-// A row of pixels of 16 bits, 800 bytes from the row above.
+// A row of pixels of 16 bits; rows are 2048 bytes apart.
 fn say_row(mem: &[u8; 16384], y: usize, width: usize) {
     for x in 0..width {
         say_pixel(mem[y % 8 * 2048 + x % 1024 * 2]);
@@ -196,7 +196,7 @@ fn words_of(source: u32, target: u32, size: u32) -> u64 {
     words_taken(e, &mut mem)
 }
 
-// Four steps of a source are the bytes by which five rows need more data than one row; they are as many words as a step has bytes.
+// Five rows need four steps more than one row does, which is as many words more as the step has bytes.
 fn say_step(source: u32, target: u32, width: u32) {
     let one = words_of(source, target, 0x1_0000 | width);
     let five = words_of(source, target, 0x5_0000 | width);
