@@ -1,6 +1,7 @@
 pub mod MixLaws
 pub mod PatternLaws
 pub mod Turns
+pub mod Even
 pub mod TaskLaws
 pub mod Owners
 pub mod Settle

@@ -3,7 +3,6 @@
 use mathlib.Core.Path.{_≡_, refl, sym, ap, ap₂, _∙_}
 use mathlib.Core.Bool.{Bool, true, false}
 use mathlib.Core.List.{List}
-use mathlib.Core.Option.{Option}
 use Prim.Native.Nat.{ℕ, _+_, _-_, _^_, _<_, _≤_}
 use native.Mathlib.Omega.{arith}
 use lib.ListN.{getD}
@@ -12,19 +11,18 @@ use Rattle.surface.specs.Pixels.{Px, px, rect, Inside}
 use Rattle.surface.proofs.Rects.{rect-in}
 use Rattle.surface.proofs.Corner.{all-each}
 use Rattle.paint.specs.declared.Task.{Task}
-use Rattle.paint.specs.Mix.{mixed}
-use Rattle.paint.specs.Pattern.{patternColumn, patternRow, patternBit, patternIn, RowOf}
-use Rattle.paint.specs.Copy.{sourceBy, giving, HasSource, RowReady, CanPaint}
+use Rattle.paint.specs.Pattern.{patternColumn, patternRow, patternBit, RowOf}
+use Rattle.paint.specs.Copy.{giving, HasSource, RowReady, CanPaint}
+use Rattle.paint.specs.Fast.{rowGiving}
 
-pub given-by : (t : Task) (pattern m : List ℕ) (x y : ℕ) {column row bit value : ℕ} {values : List ℕ}
-    → column ≡ patternColumn (t .ink) x → column < 8 → row ≡ patternRow (t .ink) y → bit ≡ patternBit pattern column row
-    → RowOf (t .ink) pattern row values → value ≡ getD values column 0
-    → mixed (t .ink) value (sourceBy t bit m (px x y)) (readPx m (t .ink .target) x y) ≡ giving t pattern m m (px x y)
-unfolding giving
-given-by t pattern m x y {column} {row} p l q b rows e =
-    let v = e ∙ rows .at column l ∙ ap₂ (patternIn (t .ink) pattern) p q in
-    let k = b ∙ ap₂ (patternBit pattern) p q in
-    rw (v, k)
+-- a row's pixels are given what the pattern's row gives them
+pub by-row : (t : Task) (pattern now : List ℕ) (p : Px) {row bits : ℕ} {values : List ℕ} → row ≡ patternRow (t .ink) (p .y) → bits ≡ getD pattern row 0
+    → RowOf (t .ink) pattern row values → rowGiving t values bits now p ≡ giving t pattern now now p
+unfolding rowGiving giving patternBit
+by-row t pattern now p {row} e b rows =
+    let column = patternColumn (t .ink) (p .x) in
+    let v = rows .at column (omega arith) in
+    rw (v, b, e)
 
 -- the pixels of the rectangle, one by one
 pub can-pixel : {t : Task} {w h len : ℕ} → CanPaint t w h len → (x y : ℕ) → Inside (t .x) (t .y) w h (px x y)

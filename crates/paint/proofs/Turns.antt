@@ -2,12 +2,13 @@
 -- Assumes nothing.
 use mathlib.Core.Path.{_≡_, refl, sym, ap, _∙_}
 use mathlib.Core.Bool.{Bool, true, false}
-use mathlib.Core.List.{List, [], _∷_, _++_, map}
+use mathlib.Core.List.{List, [], _∷_, _++_, map, List·Memᴰ, List·Memᴰ·head, List·Memᴰ·tail}
+use mathlib.Core.Option.{Option}
 use Prim.Native.Nat.{ℕ, suc, _+_, _-_, _<_, _≤_}
 use native.Mathlib.Omega.{arith}
 use Rattle.surface.specs.declared.Surface.{Surface}
 use Rattle.surface.specs.Pixels.{Px, px, across, rect}
-use Rattle.paint.specs.Paint.{State, Touch, dab, paint}
+use Rattle.paint.specs.Paint.{State, Touch, touch, dab, paint}
 use Rattle.paint.specs.Copy.{nth}
 
 -- ---- what remains after i turns
@@ -85,3 +86,12 @@ module _ (s : Surface) (f : Px → Touch) where
   pub rows-end : (l t : Bool) (x y w h j : ℕ) (st : State) → h ≤ j → st ≡ paint s (map f (rows-left l t x y w h j)) st
   unfolding paint
   rows-end l t x y w h j st g = rw (rows-done l t x y w h j g)
+
+-- painting asks only what each pixel is given
+pub paint-same : (s : Surface) (f g : Px → List ℕ → Option ℕ) (ps : List Px) → ((p : Px) → List·Memᴰ p ps → (now : List ℕ) → f p now ≡ g p now) → (st : State)
+    → paint s (map (λ p. touch p (f p)) ps) st ≡ paint s (map (λ p. touch p (g p)) ps) st
+unfolding paint
+paint-same s f g [] h st = refl
+paint-same s f g (p ∷ ps) h st =
+    ap (λ (o : Option ℕ). paint s (map (λ p. touch p (f p)) ps) (dab s p o st)) (h p (List·Memᴰ·head refl) (st .mem))
+    ∙ paint-same s f g ps (λ q i. h q (List·Memᴰ·tail i)) (dab s p (g p (st .mem)) st)

@@ -3,3 +3,4 @@ pub mod Mix
 pub mod Pattern
 pub mod Clip
 pub mod Copy
+pub mod Fast

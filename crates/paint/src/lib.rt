@@ -2,7 +2,7 @@
 use surface::Surface;
 ghost use mathlib.Core.Path.{_≡_};
 ghost use mathlib.Core.Bool.{true, false};
-ghost use Prim.Native.Nat.{_+_, _-_, _*_, _^_, _<_, _≤_};
+ghost use Prim.Native.Nat.{_+_, _-_, _*_, _/_, _%_, _^_, _<_, _≤_};
 ghost use lib.ListN.{length, getD};
 ghost use Rattle.surface.specs.Place.{readPx, Colour, OnColour};
 ghost use Rattle.surface.specs.Pixels.{px, across, rect};
@@ -11,6 +11,7 @@ ghost use Rattle.paint.specs.Mix.{source, colourSource, bitSource, fillS
 ghost use Rattle.paint.specs.Pattern.{patternColumn, patternRow, patternBit, patternPixel, patternIn, patternValue, Cell, RowOf};
 ghost use Rattle.paint.specs.Clip.{inClip, Bits12};
 ghost use Rattle.paint.specs.Copy.{sourceBy, asBefore, inTurn, backward, nth, HasSource, RowReady, CanPaint, Orderly};
+ghost use Rattle.paint.specs.Fast.{inRow, evenly, solid, RowOn, RectOn};
 
 // What does not change within a command: the target, the colours, the four raster operations, the two keys, and how the pattern lies.
 pub struct Ink {
@@ -77,11 +78,19 @@ fn wide(x: u8) -> u32
     x as u32
 }
 
+// The bit of one row of a mono pattern.
+fn bit_of(byte: u32, column: u32) -> u32
+    requires { ⌜ column < 8 ⌝ }
+    ensures { λ r. ⌜ r ≡ byte / 2 ^ (7 - column) % 2 ⌝ }
+{
+    (byte >> (7 - column)) % 2
+}
+
 fn pattern_bit(pattern: [u8; 256], column: u32, row: u32) -> u32
     requires { ⌜ (column < 8) × (row < 8) ⌝ }
     ensures { λ r. ⌜ r ≡ patternBit pattern column row ⌝ }
 {
-    (pattern_byte(pattern, row) >> (7 - column)) % 2
+    bit_of(pattern_byte(pattern, row), column)
 }
 
 fn pattern_pixel(bytes: u32, pattern: [u8; 256], column: u32, row: u32) -> u32
@@ -287,7 +296,34 @@ fn place(down: bool, at: u32, n: u32, i: u32) -> u32
     at + i
 }
 
-// The w pixels of row y, from the left or from the right, after n that were written.
+// The w pixels of row y, from the left or from the right, after n that were written; `values` and `bits` are the pattern's row there.
+fn paint_across(
+    mem: &mut [u8],
+    t: Task,
+    values: [u32; 8],
+    bits: u32,
+    w: u32,
+    y: u32,
+    back: bool,
+    n: u32,
+) -> u32
+    requires { ⌜ RowReady t w y (length (now mem)) n ⌝ }
+    ensures { λ r. ⌜ (state (now (mem .exit)) r ≡ paint (t .ink .target) (inRow t values bits (across back (t .x) w y)) (state (now (mem .entry)) n)) × (r ≤ n + w) ⌝ }
+{
+    let ink = t.ink;
+    let mut r = n;
+    let mut i = 0;
+    while i < w {
+        let x = place(back, t.x, w, i);
+        let column = pattern_column(ink, x);
+        let bit = bit_of(bits, column);
+        r = paint_pixel(mem, t, values[column as usize], bit, x, y, r);
+        i += 1;
+    }
+    r
+}
+
+// The same, of any pattern.
 fn paint_row(mem: &mut [u8], t: Task, pattern: [u8; 256], w: u32, y: u32, back: bool, n: u32) -> u32
     requires { ⌜ RowReady t w y (length (now mem)) n ⌝ }
     ensures { λ r. ⌜ (state (now (mem .exit)) r ≡ paint (t .ink .target) (inTurn t pattern (across back (t .x) w y)) (state (now (mem .entry)) n)) × (r ≤ n + w) ⌝ }
@@ -295,16 +331,43 @@ fn paint_row(mem: &mut [u8], t: Task, pattern: [u8; 256], w: u32, y: u32, back: 
     let ink = t.ink;
     let row = pattern_row(ink, y);
     let values = row_values(ink, pattern, row);
-    let mut r = n;
-    let mut i = 0;
-    while i < w {
-        let x = place(back, t.x, w, i);
-        let column = pattern_column(ink, x);
-        let bit = pattern_bit(pattern, column, row);
-        r = paint_pixel(mem, t, values[column as usize], bit, x, y, r);
-        i += 1;
+    let bits = pattern_byte(pattern, row);
+    paint_across(mem, t, values, bits, w, y, back, n)
+}
+
+// The w pixels of row y from x0 on, each of value v, after n that were written.
+fn solid_row(mem: &mut [u8], s: Surface, v: u32, x0: u32, w: u32, y: u32, n: u32) -> u32
+    requires { ⌜ RowOn s (length (now mem)) x0 w y n ⌝ }
+    ensures { λ r. ⌜ (state (now (mem .exit)) r ≡ paint s (evenly v (across false x0 w y)) (state (now (mem .entry)) n)) × (r ≤ n + w) ⌝ }
+{
+    let end = x0 + w;
+    let mut x = x0;
+    while x < end {
+        surface::put_pixel(mem, s, x, y, v);
+        x += 1;
     }
-    r
+    n + w
+}
+
+// A rectangle, row by row from the upper left corner, of one value.
+fn solid_rows(mem: &mut [u8], s: Surface, v: u32, x0: u32, y0: u32, w: u32, h: u32) -> u32
+    requires { ⌜ RectOn s (length (now mem)) x0 y0 w h ⌝ }
+    ensures { λ r. ⌜ state (now (mem .exit)) r ≡ paint s (evenly v (rect false false x0 y0 w h)) (state (now (mem .entry)) 0) ⌝ }
+{
+    let mut n = 0;
+    let mut j = 0;
+    while j < h {
+        n = solid_row(mem, s, v, x0, w, y0 + j, n);
+        j += 1;
+    }
+    n
+}
+
+// Whether a fill gives each pixel colorFore.
+fn is_solid(t: Task) -> bool
+    ensures { λ r. ⌜ r ≡ solid t ⌝ }
+{
+    !t.copies & (t.ink.rop0 == 0xcc) & !t.ink.dstKey & !(t.ink.clear & t.ink.mono)
 }
 
 // A rectangle, row by row from the upper left corner or from the lower right one.
@@ -342,6 +405,10 @@ pub fn paint_rect(mem: &mut [u8], t: Task, pattern: [u8; 256], w: u32, h: u32) -
     requires { ⌜ CanPaint t w h (length (now mem)) × (t .copies ≡ true → Orderly t w h) ⌝ }
     ensures { λ r. ⌜ state (now (mem .exit)) r ≡ paint (t .ink .target) (asBefore t pattern (now (mem .entry)) (rect false false (t .x) (t .y) w h)) (state (now (mem .entry)) 0) ⌝ }
 {
+    if is_solid(t) {
+        let v = colour::raster(0xcc, 0, t.ink.fore, 0);
+        return solid_rows(mem, t.ink.target, v, t.x, t.y, w, h);
+    }
     let back = goes_back(t);
     paint_rows(mem, t, pattern, w, h, back)
 }

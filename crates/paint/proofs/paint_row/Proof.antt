@@ -1,121 +1,54 @@
--- `paint::paint_row` meets its contract: what remains of the row, painted on the memory now, is the row painted on the memory at the start.
+-- `paint::paint_row` meets its contract: the pattern's row gives each pixel what the pattern does.
 -- Assumes nothing.
-use native.Mathlib.Omega.{arith}
-use mathlib.Core.Path.{_≡_, refl, sym, ap, subst, _∙_}
-use mathlib.Core.Option.{Option}
-use mathlib.Core.List.{List, map}
-use Prim.Native.Nat.{ℕ, _+_, _-_, _<_, _≤_}
-use lib.ListN.{length}
+use mathlib.Core.Path.{_≡_, sym, ap, _∙_}
+use Prim.Native.Nat.{ℕ}
 use borrow.Author.Needs.{needs}
-use Rattle.surface.specs.Pixels.{Px, px, across}
-use Rattle.paint.specs.Paint.{state, Touch, touch, dab, paint}
-use Rattle.paint.specs.Copy.{giving, inTurn, HasSource}
-use Rattle.paint.specs.Mix.{Ready}
-use Rattle.paint.proofs.Turns.{row-left, row-whole, row-again, row-ends, nth-in}
-use Rattle.paint.proofs.TaskLaws.{given-by}
+use Rattle.surface.specs.Pixels.{across}
+use Rattle.surface.proofs.Rects.{in-across}
+use Rattle.paint.specs.Paint.{state}
+use Rattle.paint.specs.Pattern.{patternRow}
+use Rattle.paint.specs.Copy.{giving}
+use Rattle.paint.specs.Fast.{rowGiving}
+use Rattle.paint.proofs.Turns.{paint-same}
+use Rattle.paint.proofs.TaskLaws.{by-row}
 use Rattle.paint.proofs.paint_row.Statement.{statement}
 use Rattle.paint.proofs.paint_row.Tie as tie
 
-abbrev Inv-loop : tie.InvT-loop
-Inv-loop mem₀ t pattern w y back n ink row values r₀ i₀ mem r i =
-    (paint (t .ink .target) (inTurn t pattern (row-left back (t .x) w i y)) (state mem r) ≡ paint (t .ink .target) (inTurn t pattern (across back (t .x) w y)) (state mem₀ n))
-    × (length mem ≡ length mem₀) × (i ≤ w) × (r ≤ n + i)
-
-abbrev μ-loop : tie.MeasureT-loop
-μ-loop mem₀ t pattern w y back n ink row values r₀ i₀ mem r i = w - i
-
-pattern-row-requires : tie.Need-pattern-row-requires Inv-loop μ-loop
+pattern-row-requires : tie.Need-pattern-row-requires
 pattern-row-requires c κs = search needs
 
-row-values-requires : tie.Need-row-values-requires Inv-loop μ-loop
+row-values-requires : tie.Need-row-values-requires
 row-values-requires c κs = search needs
 
-loop-holds : tie.Need-loop-holds Inv-loop μ-loop
-loop-holds c =
-    let a = c .before .before .before .before .args in (
-      ap (λ (ps : List Px). paint (a .t .ink .target) (inTurn (a .t) (a .pattern) ps) (state (a .mem .now) (a .n))) (row-whole (a .back) (a .t .x) (a .w) (a .y)),
-      refl,
-      omega arith,
-      omega arith,
-    )
+pattern-byte-requires : tie.Need-pattern-byte-requires
+pattern-byte-requires c κs = search needs
 
-place-requires : tie.Need-place-requires Inv-loop μ-loop
-place-requires c κs = (c .loop-test .taken, c .before .before .before .before .before .before .pre .wide)
+paint-across-requires : tie.Need-paint-across-requires
+paint-across-requires c κs = search needs
 
-pattern-column-requires : tie.Need-pattern-column-requires Inv-loop μ-loop
-pattern-column-requires c κs = search needs
-
-pattern-bit-requires : tie.Need-pattern-bit-requires Inv-loop μ-loop
-pattern-bit-requires c κs = search needs
-
-cast-paint-pixel : tie.Need-cast-paint-pixel Inv-loop μ-loop
-cast-paint-pixel c = search needs
-
-mul-paint-pixel : tie.Need-mul-paint-pixel Inv-loop μ-loop
-mul-paint-pixel c = search needs
-
-array-read-paint-pixel : tie.Need-array-read-paint-pixel Inv-loop μ-loop
-array-read-paint-pixel c = search needs
-
-paint-pixel-requires : tie.Need-paint-pixel-requires Inv-loop μ-loop
-paint-pixel-requires c κs =
-    let a = c .before .before .before .before .before .before .before .before .before .before .args in
-    let k = c .before .before .before .before .before .loop in
-    let in-row = nth-in (a .back) (a .t .x) (a .w) (k .i) (c .before .before .before .before .loop-test .taken) in
-    let e = c .before .before .before .place .ensures in
-    let both = c .before .before .before .before .before .before .before .before .before .before .pre .each (c .before .before .before .place .result) (omega arith) (omega arith) in
-    rw (k .inv .1) (record { on = both .0; room = omega (arith, c .before .before .before .before .before .before .before .before .before .before .pre) }, both .1)
-
-add-i : tie.Need-add-i Inv-loop μ-loop
-add-i c = search needs
-
-loop-less : tie.Need-loop-less Inv-loop μ-loop
-loop-less c = search needs
-
-loop-again : tie.Need-loop-again Inv-loop μ-loop
-loop-again c =
-    let a = c .before .before .before .before .before .before .before .before .before .before .before .before .before .args in
-    let k = c .before .before .before .before .before .before .before .before .loop in
-    let x = c .before .before .before .before .before .before .place .result in (
-      row-again (a .t .ink .target) (λ p. touch p (λ now. giving (a .t) (a .pattern) now now p)) (a .back) (a .t .x) (a .w) (k .i) (a .y) x (state (k .mem) (k .r)) _
-          (c .before .before .before .before .before .before .before .loop-test .taken) (c .before .before .before .before .before .before .place .ensures)
-          (c .before .before .paint-pixel .ensures .0 ∙ ap (λ (o : Option ℕ). dab (a .t .ink .target) (px x (a .y)) o (state (k .mem) (k .r)))
-          (given-by (a .t) (a .pattern) (k .mem) x (a .y) (c .before .before .before .before .before .pattern-column .ensures .0) (c .before .before .before .before .before .pattern-column .ensures .1) (c .before .before .before .before .before .before .before .before .before .before .pattern-row .ensures .0)
-          (c .before .before .before .before .pattern-bit .ensures) (c .before .before .before .before .before .before .before .before .before .row-values .ensures) refl)) ∙ k .inv .0,
-      c .before .before .paint-pixel .kept .0 ∙ k .inv .1,
-      omega arith,
-      omega (arith, c .before .before .paint-pixel .ensures .1),
-    )
-
-same-length : tie.Need-same-length Inv-loop μ-loop
+same-length : tie.Need-same-length
 same-length c = search needs
 
-returns : tie.Need-returns Inv-loop μ-loop
+returns : tie.Need-returns
 returns c =
-    let a = c .before .before .before .before .before .before .args in
-    let k = c .before .loop in (
-      row-ends (a .t .ink .target) (λ p. touch p (λ now. giving (a .t) (a .pattern) now now p)) (a .back) (a .t .x) (a .w) (k .i) (a .y) (state (k .mem) (k .r)) (c .loop-test .left) ∙ k .inv .0,
-      omega arith,
+    let a = c .before .before .before .before .before .before .before .before .before .args in
+    let values = c .before .before .before .before .before .row-values .ensures in
+    let bits = c .before .before .before .before .pattern-byte .ensures .0 in
+    let row = c .before .before .before .before .before .before .pattern-row .ensures .0 in (
+      c .before .before .paint-across .ensures .0
+          ∙ paint-same (a .t .ink .target) (λ p now. rowGiving (a .t) _ _ now p) (λ p now. giving (a .t) (a .pattern) now now p) (across (a .back) (a .t .x) (a .w) (a .y))
+          (λ p i now. by-row (a .t) (a .pattern) now p (row ∙ ap (λ (y : ℕ). patternRow (a .t .ink) y) (sym (in-across (a .back) (a .t .x) (a .w) (a .y) p i .2))) bits values)
+          (state (a .mem .now) (a .n)),
+      c .before .before .paint-across .ensures .1,
     )
 
 pub paint-row-spec : {M : Type 1} → statement M
 paint-row-spec =
     tie.close
     (tie.spec
-    Inv-loop
-    μ-loop
     pattern-row-requires
     row-values-requires
-    loop-holds
-    place-requires
-    pattern-column-requires
-    pattern-bit-requires
-    cast-paint-pixel
-    mul-paint-pixel
-    array-read-paint-pixel
-    paint-pixel-requires
-    add-i
-    loop-less
-    loop-again
+    pattern-byte-requires
+    paint-across-requires
     same-length
     returns)

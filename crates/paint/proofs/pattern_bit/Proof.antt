@@ -1,5 +1,7 @@
 -- `paint::pattern_bit` meets its contract.
 -- Assumes nothing.
+use mathlib.Core.Path.{_≡_, ap, _∙_}
+use Prim.Native.Nat.{ℕ, _-_, _/_, _%_, _^_}
 use borrow.Author.Needs.{needs}
 use Rattle.paint.specs.Pattern.{patternBit}
 use Rattle.paint.proofs.pattern_bit.Statement.{statement}
@@ -8,15 +10,12 @@ use Rattle.paint.proofs.pattern_bit.Tie as tie
 pattern-byte-requires : tie.Need-pattern-byte-requires
 pattern-byte-requires c κs = search needs
 
-sub-result : tie.Need-sub-result
-sub-result c = search needs
-
-shr-result : tie.Need-shr-result
-shr-result c = search needs
+bit-of-requires : tie.Need-bit-of-requires
+bit-of-requires c κs = search needs
 
 returns : tie.Need-returns
 unfolding patternBit
-returns c = rw (c .pattern-byte .ensures .0)
+returns c = rw (c .bit-of .ensures, c .before .pattern-byte .ensures .0)
 
 pub pattern-bit-spec : {M : Type 1} → statement M
-pattern-bit-spec = tie.close (tie.spec pattern-byte-requires sub-result shr-result returns)
+pattern-bit-spec = tie.close (tie.spec pattern-byte-requires bit-of-requires returns)
