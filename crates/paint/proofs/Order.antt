@@ -12,11 +12,12 @@ use lib.Dec.{eqb, ltb}
 use lib.ListN.{getD}
 use borrow.Author.Tests.{ltb-true, ltb-false, lt-ltb, eqb-true, eqb-false}
 use Rattle.surface.specs.declared.Surface.{Surface}
-use Rattle.surface.specs.Place.{readPx, monoBit, onSurface, rowPixels}
+use Rattle.surface.specs.Place.{byteOf, readPx, monoBit, onSurface, rowPixels}
 use Rattle.surface.specs.Pixels.{Px, px, rect, Inside}
 use Rattle.surface.specs.Span.{spanOf, meet}
 use Rattle.surface.proofs.OnLaws.{on-column, pos-of-ne}
 use Rattle.surface.proofs.Lists.{In, Pairs, pairs-map}
+use Rattle.surface.proofs.Pixels.{same-byte}
 use Rattle.surface.proofs.Rects.{in-rect, rect-in, rect-pairs, rect-distinct, Past, Ahead}
 use Rattle.surface.proofs.Spans.{IsByte, span-holds}
 use Rattle.paint.specs.declared.Task.{Task}
@@ -25,7 +26,7 @@ use Rattle.paint.specs.Paint.{state, paint}
 use Rattle.paint.specs.Mix.{mixed, bitSource, colourSource, fillSource}
 use Rattle.paint.specs.Pattern.{patternColumn, patternRow, patternBit, patternValue}
 use Rattle.paint.specs.Copy.{sourcePlace, sourceBy, giving, asBefore, inTurn, CanPaint, Orderly, backward}
-use Rattle.paint.proofs.Owners.{one-owner, read-px, read-bit}
+use Rattle.paint.proofs.Owners.{byte-of, one-owner, read-px, read-bit}
 use Rattle.paint.proofs.Settle.{Local, Unread, Columns, in-place, any-order}
 use Rattle.paint.proofs.TaskLaws.{can-pixel}
 
@@ -136,13 +137,28 @@ module _ (t : Task) (w h len : ℕ) (can : CanPaint t w h len) (orderly : t .cop
       (rect-in false false (t .sx) (t .sy) w h (sourcePlace t q) (source-inside t w h q iq)) r in
       false≢true (sym apart ∙ ap₂ (λ c d. c && d) (lt-ltb (S .low) (R .past) (omega arith)) (lt-ltb (R .low) (S .past) (omega arith)))
 
+  pub not-read : t .copies ≡ true → (p q : Px) → Inside (t .x) (t .y) w h p → Inside (t .x) (t .y) w h q → Ahead (backward t) (backward t) p q
+      → (a : ℕ) → IsByte (t .from) (sourcePlace t q) a → IsByte (t .ink .target) p a → ⊥
+  not-read copies p q ip iq ahead a r b = ⊎-elim (λ same. within same copies p q ip iq ahead a r b) (λ apart. between apart p q ip iq a r b) (orderly copies)
+
+  -- of one pixel, a byte is none of the source's other bytes
+  pub own-byte : t .copies ≡ true → (p : Px) → Inside (t .x) (t .y) w h p → (j k : ℕ) → j < t .ink .target .bytes → k < t .from .bytes → (j ≡ k → ⊥)
+      → byteOf (t .ink .target) (p .x) (p .y) j ≡ byteOf (t .from) (sourcePlace t p .x) (sourcePlace t p .y) k → ⊥
+  unfolding sourcePlace
+  own-byte copies p i j k hj hk n e =
+      let q = sourcePlace t p in
+      let column = on-column (t .from) len (q .x) (q .y) (can-pixel can (p .x) (p .y) i .1 .on copies) in
+      ⊎-elim
+      (λ same. let c = subst (λ (s : Surface). (q .x < rowPixels s) × ((k < s .bytes) × (byteOf (t .ink .target) (p .x) (p .y) j ≡ byteOf s (q .x) (q .y) k))) same (column, (hk, e)) in
+      n (same-byte (t .ink .target) (p .x) (p .y) j (q .x) (q .y) k (target-column p i) (c .0) hj (c .1 .0) (c .1 .1) .2))
+      (λ apart. between apart p p i i (byteOf (t .ink .target) (p .x) (p .y) j)
+      (subst (IsByte (t .from) q) (sym e) (byte-of (t .from) (omega arith) q k hk)) (byte-of (t .ink .target) (can .colour .some) p j hj)) (orderly copies)
+
   unread : Pairs (Unread (t .ink .target) (Reads t)) (all (backward t))
   unread =
       pairs-map (all (backward t))
       (λ p q i j ahead a r b.
-      let ip = in-rect (backward t) (backward t) (t .x) (t .y) w h p i in
-      let iq = in-rect (backward t) (backward t) (t .x) (t .y) w h q j in
-      ⊎-elim (λ same. within same (r .0) p q ip iq ahead a (r .1) b) (λ apart. between apart p q ip iq a (r .1) b) (orderly (r .0)))
+      not-read (r .0) p q (in-rect (backward t) (backward t) (t .x) (t .y) w h p i) (in-rect (backward t) (backward t) (t .x) (t .y) w h q j) ahead a (r .1) b)
       (rect-pairs (backward t) (backward t) (t .x) (t .y) w h)
 
   pub in-order : (pattern m : List ℕ) (n : ℕ)

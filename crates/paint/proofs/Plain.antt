@@ -1,14 +1,14 @@
 -- The plain copy: raster operation CC, the same format, no keys. It moves the bytes of a rectangle exactly, and counts every pixel.
 -- Assumes nothing.
 use mathlib.Core.Path.{_≡_, refl, sym, ap, ap₂, subst, _∙_}
-use mathlib.Core.Bool.{Bool, true, false, cond, _&&_}
+use mathlib.Core.Bool.{Bool, true, false, cond, not, _&&_}
 use mathlib.Core.List.{List, [], _∷_, map, List·Memᴰ·head, List·Memᴰ·tail}
 use mathlib.Core.Option.{Option, none, some}
 use Prim.Native.Nat.{ℕ, zero, suc, _+_, _-_, _*_, _/_, _%_, _^_, _<_, _≤_}
 use native.Mathlib.Nat.{mod-eq-of-lt, pow-le-pow-right, lt-of-lt-of-le, add-zero, zero-add}
 use native.Mathlib.Omega.{arith}
 use native.Mathlib.Decide.{ℕ-discrete}
-use borrow.Author.Tests.{ne-eqb}
+use borrow.Author.Tests.{ne-eqb, eqb-true}
 use lib.Dec.{eqb}
 use lib.ListN.{length, getD, set}
 use lib.Seq.{getD-set-same, lt-length-set}
@@ -21,7 +21,7 @@ use Rattle.surface.specs.declared.Surface.{Surface}
 use Rattle.surface.specs.Place.{byteOf, readBytes, writeBytes, readPx, writePx, monoBit, onSurface, OnColour}
 use Rattle.surface.specs.Pixels.{Px, px, rect, Inside}
 use Rattle.surface.proofs.Bytes.{written-other}
-use Rattle.surface.proofs.OnLaws.{colour-byte, on-column}
+use Rattle.surface.proofs.OnLaws.{and-left, and-right, colour-byte, on-column}
 use Rattle.surface.proofs.Pixels.{same-byte, read-small}
 use Rattle.surface.proofs.Lists.{In, by-cases}
 use Rattle.surface.proofs.Rects.{same-px, in-rect, rect-in, rect-distinct, rect-length}
@@ -32,10 +32,12 @@ use Rattle.paint.specs.declared.Source.{Source}
 use Rattle.paint.specs.Mix.{source, mixed, chosen, bitSource, colourSource, fillSource}
 use Rattle.paint.specs.Pattern.{patternColumn, patternRow, patternBit, patternValue}
 use Rattle.paint.specs.Copy.{sourcePlace, sourceBy, giving, asBefore, CanPaint}
-use Rattle.paint.proofs.Owners.{byte-of}
+use Rattle.paint.specs.Fast.{Given, sourceByte, plainly}
+use Rattle.paint.proofs.Owners.{byte-of, of-byte}
 use Rattle.paint.proofs.Settle.{Settled, settled, tally, counted}
 use Rattle.paint.proofs.Frame.{Bytes}
 use Rattle.paint.proofs.TaskLaws.{can-pixel}
+use Rattle.paint.proofs.Even.{not-true}
 use Rattle.paint.proofs.Order.{Reads, giving-local}
 
 pub record PlainCopy (t : Task) : Type 0 where
@@ -44,6 +46,25 @@ pub record PlainCopy (t : Task) : Type 0 where
   pub sourceKey : t .ink .srcKey ≡ false
   pub targetKey : t .ink .dstKey ≡ false
   pub format : t .from .bytes ≡ t .ink .target .bytes
+
+pub plainly-plain : (t : Task) → plainly t ≡ true → PlainCopy t
+plainly-plain t e =
+    let ink = t .ink in
+    let c = t .copies in
+    let r = eqb (ink .rop0) 0xcc in
+    let s = not (ink .srcKey) in
+    let d = not (ink .dstKey) in
+    let f = eqb (t .from .bytes) (ink .target .bytes) in
+    let four = and-left (((c && r) && s) && d) f e in
+    let three = and-left ((c && r) && s) d four in
+    let two = and-left (c && r) s three in
+    record {
+      copies = and-left c r two;
+      operation = eqb-true (ink .rop0) 0xcc (and-right c r two);
+      sourceKey = not-true (ink .srcKey) (and-right (c && r) s three);
+      targetKey = not-true (ink .dstKey) (and-right ((c && r) && s) d four);
+      format = eqb-true (t .from .bytes) (ink .target .bytes) (and-right (((c && r) && s) && d) f e);
+    }
 
 -- ---- a pixel is given its source pixel
 module _ (t : Task) (plain : PlainCopy t) where
@@ -110,13 +131,7 @@ copied-pixel from to m p q k e on bytes l =
     (λ a b f g w. same-byte to (p .x) (p .y) a (p .x) (p .y) b column column (omega arith) (omega arith) w .2)
     (λ b f. colour-byte on b (omega arith) .inside)
 
--- ---- a rectangle moved: its bytes have come across, and no other has changed
-pub record Moved (t : Task) (w h : ℕ) (m m′ : List ℕ) : Type 0 where
-  pub given : (p : Px) → Inside (t .x) (t .y) w h p → (k : ℕ) → k < t .ink .target .bytes
-      → getD m′ (byteOf (t .ink .target) (p .x) (p .y) k) 0 ≡ getD m (byteOf (t .from) (sourcePlace t p .x) (sourcePlace t p .y) k) 0
-  pub others : (a : ℕ) → ((p : Px) → Inside (t .x) (t .y) w h p → IsByte (t .ink .target) p a → ⊥) → getD m′ a 0 ≡ getD m a 0
-  pub long : length m′ ≡ length m
-
+-- ---- a rectangle
 tally-all : (f : Px → Option ℕ) (ps : List Px) → ((p : Px) → counted (f p) ≡ 1) → tally (λ p. counted (f p)) ps ≡ length ps
 unfolding tally
 tally-all f [] h = refl
@@ -135,14 +150,15 @@ module _ (t : Task) (pattern m : List ℕ) (w h : ℕ) (plain : PlainCopy t) (ca
       (rect-distinct false false (t .x) (t .y) w h)
       (λ p i. on-column (t .ink .target) (length m) (p .x) (p .y) (can-pixel can (p .x) (p .y) (in-rect false false (t .x) (t .y) w h p i) .0 .on))
 
-  pub plain-moves : Moved t w h m (whole .mem)
+  pub plain-moves : Given (t .ink .target) (sourceByte t m) (t .x) (t .y) w h m (whole .mem)
   unfolding dab
   plain-moves = record {
-    given = λ p i k l.
+    inside = λ p i k l.
         here .given p (rect-in false false (t .x) (t .y) w h p i) (byteOf (t .ink .target) (p .x) (p .y) k) (byte-of (t .ink .target) (can .colour .some) p k l)
         ∙ ap (λ (o : Option ℕ). getD (dab (t .ink .target) p o (state m 0) .mem) (byteOf (t .ink .target) (p .x) (p .y) k) 0) (gives p)
         ∙ copied-pixel (t .from) (t .ink .target) m p (sourcePlace t p) k (plain .format) (can-pixel can (p .x) (p .y) i .0) bytes l;
-    others = λ a f. here .others a (λ p i. f p (in-rect false false (t .x) (t .y) w h p i));
+    others = λ a f. here .others a (λ p i b. let k = of-byte (t .ink .target) (can .colour .some) p a b in
+        f p (in-rect false false (t .x) (t .y) w h p i) (b .k) (k .0) (k .1));
     long = here .long;
   }
 

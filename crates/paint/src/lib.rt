@@ -11,7 +11,7 @@ ghost use Rattle.paint.specs.Mix.{source, colourSource, bitSource, fillS
 ghost use Rattle.paint.specs.Pattern.{patternColumn, patternRow, patternBit, patternPixel, patternIn, patternValue, Cell, RowOf};
 ghost use Rattle.paint.specs.Clip.{inClip, Bits12};
 ghost use Rattle.paint.specs.Copy.{sourceBy, asBefore, inTurn, backward, nth, HasSource, RowReady, CanPaint, Orderly};
-ghost use Rattle.paint.specs.Fast.{inRow, evenly, solid, RowOn, RectOn};
+ghost use Rattle.paint.specs.Fast.{inRow, evenly, solid, plainly, Shifted, Given, sourceByte, toRow, fromRow, RowOn, RectOn, Run, Up, Down, RowMoves, Moves};
 
 // What does not change within a command: the target, the colours, the four raster operations, the two keys, and how the pattern lies.
 pub struct Ink {
@@ -349,18 +349,88 @@ fn solid_row(mem: &mut [u8], s: Surface, v: u32, x0: u32, w: u32, y: u32, n: u32
     n + w
 }
 
-// A rectangle, row by row from the upper left corner, of one value.
+// The n bytes from s on go to d, the first one first.
+fn run_up(mem: &mut [u8], d: usize, s: usize, n: usize)
+    requires { ⌜ Run d s n (length (now mem)) × Up d s n ⌝ }
+    ensures { λ _. ⌜ Shifted d s 0 n (now (mem .entry)) (now (mem .exit)) ⌝ }
+{
+    let mut i = 0;
+    while i < n {
+        mem[d + i] = mem[s + i];
+        i += 1;
+    }
+}
+
+// The same, the last one first.
+fn run_down(mem: &mut [u8], d: usize, s: usize, n: usize)
+    requires { ⌜ Run d s n (length (now mem)) × Down d s n ⌝ }
+    ensures { λ _. ⌜ Shifted d s 0 n (now (mem .entry)) (now (mem .exit)) ⌝ }
+{
+    let mut i = n;
+    while 0 < i {
+        i -= 1;
+        mem[d + i] = mem[s + i];
+    }
+}
+
+// Row y of a plain copy, as a run of n bytes.
+fn move_row(mem: &mut [u8], t: Task, n: usize, y: u32, back: bool)
+    requires { ⌜ RowMoves t n y (length (now mem)) back ⌝ }
+    ensures { λ _. ⌜ Shifted (toRow t y) (fromRow t y) 0 n (now (mem .entry)) (now (mem .exit)) ⌝ }
+{
+    let d = surface::byte_of(t.ink.target, t.x, y, 0);
+    let s = surface::byte_of(t.from, t.sx, t.sy + (y - t.y), 0);
+    if back {
+        run_down(mem, d, s, n);
+        return;
+    }
+    run_up(mem, d, s, n);
+}
+
+// A plain copy, row by row from the upper left corner or from the lower right one.
+fn move_rows(mem: &mut [u8], t: Task, w: u32, h: u32, back: bool)
+    requires { ⌜ Moves t w h (length (now mem)) back ⌝ }
+    ensures { λ _. ⌜ Given (t .ink .target) (sourceByte t (now (mem .entry))) (t .x) (t .y) w h (now (mem .entry)) (now (mem .exit)) ⌝ }
+{
+    let n = (w * t.from.bytes) as usize;
+    let mut j = 0;
+    while j < h {
+        let y = place(back, t.y, h, j);
+        move_row(mem, t, n, y, back);
+        j += 1;
+    }
+}
+
+// A rectangle of one value: its first row pixel by pixel, and the others as runs of that row's bytes.
 fn solid_rows(mem: &mut [u8], s: Surface, v: u32, x0: u32, y0: u32, w: u32, h: u32) -> u32
     requires { ⌜ RectOn s (length (now mem)) x0 y0 w h ⌝ }
     ensures { λ r. ⌜ state (now (mem .exit)) r ≡ paint s (evenly v (rect false false x0 y0 w h)) (state (now (mem .entry)) 0) ⌝ }
 {
-    let mut n = 0;
-    let mut j = 0;
+    if h == 0 {
+        return 0;
+    }
+    let first = surface::byte_of(s, x0, y0, 0);
+    let n = (w * s.bytes) as usize;
+    let mut count = solid_row(mem, s, v, x0, w, y0, 0);
+    let mut j = 1;
     while j < h {
-        n = solid_row(mem, s, v, x0, w, y0 + j, n);
+        let d = surface::byte_of(s, x0, y0 + j, 0);
+        run_up(mem, d, first, n);
+        count += w;
         j += 1;
     }
-    n
+    count
+}
+
+// Whether a copy moves the bytes of its source.
+fn is_plain(t: Task) -> bool
+    ensures { λ r. ⌜ r ≡ plainly t ⌝ }
+{
+    t.copies
+        & (t.ink.rop0 == 0xcc)
+        & !t.ink.srcKey
+        & !t.ink.dstKey
+        & (t.from.bytes == t.ink.target.bytes)
 }
 
 // Whether a fill gives each pixel colorFore.
@@ -410,5 +480,9 @@ pub fn paint_rect(mem: &mut [u8], t: Task, pattern: [u8; 256], w: u32, h: u32) -
         return solid_rows(mem, t.ink.target, v, t.x, t.y, w, h);
     }
     let back = goes_back(t);
+    if is_plain(t) {
+        move_rows(mem, t, w, h, back);
+        return w * h;
+    }
     paint_rows(mem, t, pattern, w, h, back)
 }

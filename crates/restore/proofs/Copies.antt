@@ -20,9 +20,11 @@ use Rattle.paint.specs.declared.Clip.{Clip}
 use Rattle.paint.specs.Clip.{origin}
 use Rattle.paint.specs.Paint.{State, state, paint}
 use Rattle.paint.specs.Copy.{sourcePlace, asBefore}
+use Rattle.paint.specs.Fast.{Given, sourceByte}
+use Rattle.paint.proofs.Owners.{byte-of}
 use Rattle.paint.proofs.ClipLaws.{Covered, in-clip}
 use Rattle.paint.proofs.Frame.{Bytes}
-use Rattle.paint.proofs.Plain.{PlainCopy, Moved, plain-moves, plain-counts}
+use Rattle.paint.proofs.Plain.{PlainCopy, plain-moves, plain-counts}
 use Rattle.registers.specs.declared.Regs.{Regs}
 use Rattle.command.specs.declared.Cut.{Cut}
 use Rattle.command.specs.Decode.{width, height, target, origins, inkOf, clipOf, firstOf, cutAt, copyCut, covered, needed, copyTask}
@@ -156,7 +158,7 @@ module _ (m : List ℕ) (r : Regs) (plain : Plain (length m) r) where
   unfolding copyTask inkOf
   plain-task = record { copies = refl; operation = plain .operation; sourceKey = plain .sourceKey; targetKey = plain .targetKey; format = plain .format }
 
-  pub comes : (m′ : List ℕ) → Moved (copyTask r) (copyCut r .w) (copyCut r .h) m m′ → Came (sourceRect r) (targetRect r) m m′
+  pub comes : (m′ : List ℕ) → Given (copyTask r .ink .target) (sourceByte (copyTask r) m) (copyTask r .x) (copyTask r .y) (copyCut r .w) (copyCut r .h) m m′ → Came (sourceRect r) (targetRect r) m m′
   unfolding copyTask inkOf sourcePlace
   comes m′ moved = record {
     given = λ i j k wi hj kb.
@@ -172,12 +174,12 @@ module _ (m : List ℕ) (r : Regs) (plain : Plain (length m) r) where
         let p = px (targetRect r .x + i - origin) (targetRect r .y + j - origin) in
         let across = on-axis (targetRect r .x) i (width r) (t .0) wi x w in
         let down = on-axis (targetRect r .y) j (height r) (t .1) hj y h in
-        moved .given p (record { left = across .0; right = across .1; top = down .0; bottom = down .1 }) k kb
+        moved .inside p (record { left = across .0; right = across .1; top = down .0; bottom = down .1 }) k kb
         ∙ ap₂ (λ (u v : ℕ). getD m (byteOf (origins r) u v k) 0)
         (source-of (targetRect r .x) (sourceRect r .x) i (t .0) (s .0) x sx) (source-of (targetRect r .y) (sourceRect r .y) j (t .1) (s .1) y sy);
-    others = λ a f. moved .others a (λ p i b. f p
+    others = λ a f. moved .others a (λ p i k l b. f p
         (left-in (clipOf r) (targetRect r .x) (targetRect r .y) (width r) (height r) (sourceRect r .x) (sourceRect r .y) p
-        (subst (λ (c : Cut). Inside (c .x) (c .y) (c .w) (c .h) p) (straight (length m) r plain) i)) b);
+        (subst (λ (c : Cut). Inside (c .x) (c .y) (c .w) (c .h) p) (straight (length m) r plain) i)) (subst (IsByte (target r) p) (sym b) (byte-of (target r) (omega arith) p k l)));
     long = moved .long;
   }
 

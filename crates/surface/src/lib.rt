@@ -38,7 +38,7 @@ fn byte_at(s: Surface, column: usize, y: usize) -> usize
 }
 
 // The address of byte k of pixel (x, y).
-fn byte_of(s: Surface, x: u32, y: u32, k: u32) -> usize
+pub fn byte_of(s: Surface, x: u32, y: u32, k: u32) -> usize
     requires { ⌜ Colour s × (k < s .bytes) ⌝ }
     ensures { λ r. ⌜ r ≡ byteOf s x y k ⌝ }
 {
