@@ -1,0 +1,137 @@
+"""The picture of a recorded stream of register writes.
+
+  python3 tools/sheet.py STREAM PICTURE.ppm|PICTURE.png
+
+STREAM holds pairs of little-endian 32-bit words, offset then data. The proved program target/bin/sheet plays them on
+65,536 zero bytes; it is built first where it is missing or older than its sources (`rt check sheet`). Where the
+program prints a fault and no picture, nothing is written, the fault is said in a sentence, and the exit status is 1.
+"""
+
+import os
+import platform
+import re
+import shutil
+import struct
+import subprocess
+import sys
+import zlib
+from pathlib import Path
+
+ROOT = Path(__file__).resolve().parent.parent
+PROGRAM = ROOT / "target/bin/sheet"
+ANSWERS = {
+    1: "the memory is too long, or not of the length that the engine was opened with",
+    2: "the offset names no register",
+    3: "a host blit waits for its data, and this write is neither launch data nor to command",
+    4: "the command is not built",
+    5: "a surface it uses is tiled or has a format that is not listed, or the conversion is not allowed",
+    6: "host blit: swizzle bits, direction bits or srcXY not 0, or a stride below the row's bytes",
+    7: "a covered pixel, or a source pixel that it needs, is off its surface",
+    8: "a screen copy between different surfaces whose spans meet",
+}
+
+
+def crates() -> set[str]:
+    """The repository's crates that the program stands on, itself included."""
+    lines = (line.split("#")[0].split(":") for line in (ROOT / "crates.txt").read_text().splitlines())
+    needs = {parts[0].strip(): parts[1].split() for parts in lines if len(parts) == 2}
+    found, todo = set(), ["sheet"]
+    while todo:
+        name = todo.pop()
+        if name in needs and name not in found:
+            found.add(name)
+            todo += needs[name]
+    return found
+
+
+def is_old() -> bool:
+    """The program is missing, or one of its sources is newer."""
+    if not PROGRAM.exists():
+        return True
+    files = (path for name in crates() for path in (ROOT / "crates" / name).rglob("*") if path.suffix in (".rt", ".antt"))
+    return max(path.stat().st_mtime for path in files) > PROGRAM.stat().st_mtime
+
+
+def build() -> None:
+    if shutil.which("rt") is None:
+        sys.exit("The program is not built, and there is no rt on the path to build it with.")
+    print("Building the program (rt check sheet) ...", file=sys.stderr)
+    run = subprocess.run(["rt", "check", "sheet"], cwd=ROOT, stdout=subprocess.PIPE, stderr=subprocess.STDOUT, text=True)
+    if run.returncode != 0:
+        sys.exit("rt check sheet did not succeed. Its last lines:\n" + "\n".join(run.stdout.splitlines()[-10:]))
+    os.utime(PROGRAM)
+
+
+def command() -> list[str]:
+    """How the program is started: on another processor than x86-64 by the emulator of the kit that rt belongs to."""
+    machine = platform.machine()
+    if machine == "x86_64":
+        return [str(PROGRAM)]
+    rt = shutil.which("rt")
+    home = Path(os.environ.get("RATTLE_HOME") or (Path(rt).resolve().parent.parent if rt else "."))
+    tools = home / "on" / machine / "toolchain"
+    emulator, library = tools / "bin/qemu-x86_64", tools / "lib"
+    if not os.access(emulator, os.X_OK):
+        sys.exit(f"The program is for x86-64, and no emulator for it was found beside rt on this processor, {machine}.")
+    return [str(emulator), str(library / "ld-linux-x86-64.so.2"), "--library-path", str(library), str(PROGRAM)]
+
+
+def play(stream: bytes) -> str:
+    """What the program prints."""
+    run = subprocess.run(command(), input=stream, stdout=subprocess.PIPE, check=False)
+    if run.returncode != 0:
+        sys.exit(f"The program ended with status {run.returncode}.")
+    return run.stdout.decode("ascii")
+
+
+def meaning(text: str) -> str | None:
+    """A sentence for a fault line; none for a picture."""
+    refused = re.fullmatch(r"refused (\d+) at (\d+)\n", text)
+    if refused:
+        number, index = int(refused[1]), int(refused[2])
+        return f"Write {index} of the stream, counted from 0, was refused with answer {number}: {ANSWERS[number]}."
+    return {
+        "short write\n": "The stream ends inside a write: its length is no multiple of 8 bytes.",
+        "no picture\n": "All writes were taken, and there is no picture: clip0 is empty or reaches off the target surface, "
+                        "or the target is tiled or has a format that is not listed.",
+    }.get(text)
+
+
+def png(text: str) -> bytes:
+    """A plain PPM of 8-bit channels as a PNG."""
+    numbers = [int(word) for word in text.split()[1:]]
+    width, height, values = numbers[0], numbers[1], bytes(numbers[3:])
+    rows = b"".join(b"\0" + values[y * 3 * width:(y + 1) * 3 * width] for y in range(height))
+
+    def chunk(kind: bytes, body: bytes) -> bytes:
+        return struct.pack(">I", len(body)) + kind + body + struct.pack(">I", zlib.crc32(kind + body))
+
+    head = struct.pack(">IIBBBBB", width, height, 8, 2, 0, 0, 0)
+    return b"\x89PNG\r\n\x1a\n" + chunk(b"IHDR", head) + chunk(b"IDAT", zlib.compress(rows, 9)) + chunk(b"IEND", b"")
+
+
+def main(words: list[str]) -> None:
+    if len(words) != 2 or not words[1].lower().endswith((".ppm", ".png")):
+        print(__doc__.strip(), file=sys.stderr)
+        sys.exit(2)
+    try:
+        stream = Path(words[0]).read_bytes()
+    except OSError as error:
+        sys.exit(f"The stream cannot be read: {error}.")
+    if is_old():
+        build()
+    text = play(stream)
+    fault = meaning(text)
+    if fault:
+        sys.exit(fault)
+    body = png(text) if words[1].lower().endswith(".png") else text.encode()
+    try:
+        Path(words[1]).write_bytes(body)
+    except OSError as error:
+        sys.exit(f"The picture cannot be written: {error}.")
+    width, height = text.split()[1:3]
+    print(f"{words[1]}: {width} by {height} pixels, from {len(stream) // 8} writes.")
+
+
+if __name__ == "__main__":
+    main(sys.argv[1:])

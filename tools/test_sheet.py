@@ -1,0 +1,190 @@
+"""The program compared with the model on named and on seeded streams, and tools/sheet.py on its faults and its PNG.
+It needs target/bin/sheet (rt check sheet). Run: python3 tools/test_sheet.py"""
+
+import random
+import struct
+import subprocess
+import sys
+import tempfile
+import time
+import unittest
+import zlib
+from pathlib import Path
+
+import model
+import sheet
+
+TOOL = Path(__file__).resolve().parent / "sheet.py"
+
+
+def pairs(text: str) -> bytes:
+    """`offset=word` in hexadecimal, as a stream."""
+    return b"".join(struct.pack("<II", *(int(part, 16) for part in token.split("="))) for token in text.split())
+
+
+FILL = "68=00040005 64=00C3A5F1 70=CC000005 80=00010002 "  # 5 by 4 pixels at (2, 1)
+DOT = "68=00010001 64=FFFFFFFF 70=CC000005 "
+TO8, TO16, TO24, TO32 = "14=00010010 ", "14=00030020 ", "14=00040031 ", "14=00050040 "
+CLIP = "0C=00080008 "
+EXAMPLE = "14=00050008 0C=00020002 68=00010001 64=00FF8000 70=CC000005 80=00010000 "
+
+NAMED = {
+    "the paper's example": pairs(EXAMPLE),
+    "no input": b"",
+    "one byte": b"\x0c",
+    "half a pair": pairs(EXAMPLE)[:4],
+    "seven bytes": pairs(EXAMPLE)[:7],
+    "a pair and a byte": pairs(EXAMPLE)[:9],
+    "all but the last byte": pairs(EXAMPLE)[:-1],
+    "megabytes of zeros": bytes(3 << 20),
+    "a refusal, then an unfinished pair": pairs(EXAMPLE + "04=0") + b"\x01\x02\x03",
+    "a refusal, then another": pairs(EXAMPLE + "02=0 04=0"),
+    "8 bpp": pairs(TO8 + CLIP + FILL),
+    "16 bpp": pairs(TO16 + CLIP + FILL),
+    "24 bpp": pairs(TO24 + CLIP + FILL),
+    "32 bpp": pairs(TO32 + CLIP + FILL),
+    "16 bpp, every green": pairs("14=00030080 0C=00010040 68=00010001 70=CC000005 " + "".join(f"64={n << 5:X} 80={n:X} " for n in range(64))),
+    "16 bpp, every red and blue": pairs("14=00030080 0C=00010020 68=00010001 70=CC000005 " + "".join(f"64={n << 11 | 31 - n:X} 80={n:X} " for n in range(32))),
+    "24 bpp, a stride of no whole pixels": pairs("14=00040007 0C=00030002 " + DOT + "80=00020001"),
+    "24 bpp, the pixel that the stride cuts": pairs("14=00040007 0C=00030003 " + DOT),
+    "32 bpp, a top byte": pairs("14=00050008 0C=00010002 68=00010001 64=FF102030 70=CC000005 80=0"),
+    "clip from a corner that is not 0": pairs(TO32 + "08=00020003 " + CLIP + FILL),
+    "clip max below min in x": pairs(TO32 + "08=00000005 0C=00080004"),
+    "clip max below min in y": pairs(TO32 + "08=00050000 0C=00040008"),
+    "clip empty in x": pairs(TO32 + "08=00000004 0C=00080004"),
+    "clip empty in y": pairs(TO32 + "08=00040000 0C=00040008"),
+    "one pixel": pairs(TO32 + "08=00030003 0C=00040004"),
+    "clip1 selected, clip0 shown": pairs(TO32 + CLIP + "4C=00020002 50=00040004 68=00080008 64=FF 70=CC800005 80=0"),
+    "all of memory at 8 bpp": pairs("14=00010100 08=0 0C=01000100 68=00100100 64=5A 70=CC000005 80=00F00000"),
+    "one byte past memory": pairs("10=1 14=00010100 0C=01000100"),
+    "the last pixel at 24 bpp": pairs("10=FFFD 14=00040003 0C=00010001 " + DOT + "80=0"),
+    "one byte past it": pairs("10=FFFE 14=00040003 0C=00010001"),
+    "the last row at 32 bpp": pairs("10=FF80 14=00050080 0C=00010020"),
+    "a row more": pairs("10=FF80 14=00050080 0C=00020020"),
+    "a base past memory": pairs("10=00FFFFFF 14=00010010 0C=00010001"),
+    "a base of many bits": pairs("10=7F000000 14=00010010 0C=00010001"),
+    "tiled": pairs("10=80000000 14=00010010 0C=00010001"),
+    "stride 0": pairs("14=00010000 0C=00010001"),
+    "stride 1": pairs("14=00010001 0C=00FF0001"),
+    "a column past the stride": pairs(TO16 + "0C=00010011"),
+    "the last column of the stride": pairs(TO16 + "0C=00010010"),
+    "format 0": pairs("14=00000010 0C=00010001"),
+    "format 2": pairs("14=00020010 0C=00010001"),
+    "format 6": pairs("14=00060010 0C=00010001"),
+    "format 7": pairs("14=00070010 0C=00010001"),
+    "the largest clip": pairs("14=00011000 0C=0FFF0FFF"),
+    "4095 columns": pairs("14=00010FFF 0C=00100FFF"),
+    "4095 rows": pairs("14=00010010 0C=0FFF0010"),
+    "the target moved before the end": pairs(TO32 + CLIP + FILL + "10=40"),
+    "a line": pairs(TO8 + "0C=00100010 64=9C 5C=0 70=CC000006 80=0007000F"),
+    "a stippled polyline": pairs(TO16 + "0C=00100010 60=1234 64=FEDC 3C=5A5A 40=01000100 70=CC001007 80=0005000F 80=000F0002"),
+    "a copy": pairs(TO24 + "34=0 54=00040031 0C=00100010 " + FILL + "6C=00080009 70=CC000001 80=00010002"),
+    "a mono host blit": pairs(TO32 + CLIP + "54=00400000 68=00040008 6C=0 64=FFFFFF 60=102030 70=CC000003 80=A55A3CC3"),
+    "a host blit that still waits": pairs(TO32 + CLIP + "54=00050020 68=00040008 6C=0 70=CC000003 80=112233 80=445566"),
+    "answer 3": pairs(TO32 + CLIP + "54=00050020 68=00040008 70=CC000003 80=112233 64=0"),
+    "answer 4": pairs(TO32 + CLIP + "70=CC000102"),
+    "answer 5": pairs("14=00020010 0C=00080008 70=CC000105"),
+    "answer 6": pairs(TO32 + CLIP + "54=00150020 68=00040008 70=CC000103"),
+    "answer 7": pairs(TO32 + "0C=00080FFF 68=00010020 70=CC000105"),
+    "answer 8": pairs(TO32 + CLIP + "34=4 54=00050040 68=00020002 70=CC000101"),
+    "a refusal after many writes": pairs("14=00050008 " * 12345 + "78=0"),
+}
+
+
+def seeded(seed: int) -> bytes:
+    """Fills of a small surface, with now and then a write that may be refused."""
+    dice = random.Random(seed)
+    number, size = dice.choice([(1, 1), (3, 2), (4, 3), (5, 4)])
+    words = [(0x10, dice.randrange(600)), (0x14, number << 16 | (16 * size + dice.randrange(3))),
+             (0x08, dice.randrange(3) << 16 | dice.randrange(3)), (0x0C, dice.randrange(2, 14) << 16 | dice.randrange(2, 14))]
+    for _ in range(dice.randrange(12)):
+        words += [(0x64, dice.getrandbits(32)), (0x68, dice.randrange(7) << 16 | dice.randrange(7)), (0x70, dice.choice([0xCC, 0x5A, 0x66]) << 24 | 5),
+                  (0x100 + 4 * dice.randrange(64), dice.getrandbits(32)), (0x80, dice.randrange(12) << 16 | dice.randrange(12))]
+    if dice.randrange(4) == 0:
+        words.insert(dice.randrange(len(words)), (dice.randrange(0x210), dice.getrandbits(32)))
+    stream = b"".join(struct.pack("<II", *word) for word in words)
+    return stream[:-dice.randrange(1, 8)] if dice.randrange(6) == 0 else stream
+
+
+class Program(unittest.TestCase):
+    @classmethod
+    def setUpClass(cls):
+        if sheet.is_old():
+            sheet.build()
+
+    def test_named_streams(self):
+        for name, stream in NAMED.items():
+            with self.subTest(name):
+                self.assertEqual(sheet.play(stream), model.play(stream))
+
+    def test_seeded_streams(self):
+        for seed in range(40):
+            with self.subTest(seed=seed):
+                self.assertEqual(sheet.play(seeded(seed)), model.play(seeded(seed)))
+
+    def test_each_kind_of_output_occurs(self):
+        firsts = {model.play(stream).split("\n")[0].split(" at")[0] for stream in NAMED.values()}
+        self.assertEqual(firsts, {"P3", "short write", "no picture"} | {f"refused {n}" for n in range(2, 9)})
+
+    def one_at_a_time(self, stream: bytes) -> str:
+        run = subprocess.Popen(sheet.command(), stdin=subprocess.PIPE, stdout=subprocess.PIPE, bufsize=0)
+        for byte in stream:
+            run.stdin.write(bytes([byte]))
+            time.sleep(0.001)
+        return run.communicate()[0].decode()
+
+    def test_a_pipe_that_gives_one_byte_at_a_time(self):
+        for name in ("the paper's example", "all but the last byte", "24 bpp", "a mono host blit"):
+            with self.subTest(name):
+                self.assertEqual(self.one_at_a_time(NAMED[name]), model.play(NAMED[name]))
+
+    def test_it_ends_at_the_first_refusal(self):
+        run = subprocess.Popen(sheet.command(), stdin=subprocess.PIPE, stdout=subprocess.PIPE, bufsize=0)
+        run.stdin.write(bytes(8))
+        self.assertEqual(run.stdout.read(), b"refused 2 at 0\n")  # while the pipe is still open
+        run.stdin.close()
+        self.assertEqual(run.wait(), 0)
+        run.stdout.close()
+
+
+class Tool(unittest.TestCase):
+    def run_tool(self, stream: bytes, name: str) -> tuple[int, str, bytes | None]:
+        with tempfile.TemporaryDirectory() as folder:
+            source, picture = Path(folder) / "stream", Path(folder) / name
+            source.write_bytes(stream)
+            run = subprocess.run([sys.executable, TOOL, source, picture], capture_output=True, text=True, check=False)
+            return run.returncode, run.stderr, picture.read_bytes() if picture.exists() else None
+
+    def test_a_ppm(self):
+        status, _, body = self.run_tool(NAMED["24 bpp"], "a.ppm")
+        self.assertEqual((status, body), (0, model.play(NAMED["24 bpp"]).encode()))
+
+    def test_a_png(self):
+        status, _, body = self.run_tool(NAMED["24 bpp"], "a.png")
+        self.assertEqual((status, body[:8]), (0, b"\x89PNG\r\n\x1a\n"))
+        chunks, at = {}, 8
+        while at < len(body):
+            length = int.from_bytes(body[at:at + 4], "big")
+            kind, data = body[at + 4:at + 8], body[at + 8:at + 8 + length]
+            self.assertEqual(int.from_bytes(body[at + 8 + length:at + 12 + length], "big"), zlib.crc32(kind + data))
+            chunks[kind] = data
+            at += 12 + length
+        width, height, *form = struct.unpack(">IIBBBBB", chunks[b"IHDR"])
+        self.assertEqual((width, height, form), (8, 8, [8, 2, 0, 0, 0]))
+        rows = zlib.decompress(chunks[b"IDAT"])
+        values = [value for y in range(8) for value in rows[y * 25 + 1:y * 25 + 25]]
+        self.assertEqual(values, [int(word) for word in model.play(NAMED["24 bpp"]).split()[4:]])
+
+    def test_faults_are_said_and_nothing_is_written(self):
+        for name, said in (("answer 7", "refused with answer 7"), ("seven bytes", "ends inside a write"), ("no input", "no picture")):
+            with self.subTest(name):
+                status, words, body = self.run_tool(NAMED[name], "a.png")
+                self.assertEqual((status, body), (1, None))
+                self.assertIn(said, words)
+
+    def test_another_ending_is_refused(self):
+        self.assertEqual(self.run_tool(NAMED["24 bpp"], "a.gif")[0], 2)
+
+
+if __name__ == "__main__":
+    unittest.main()
