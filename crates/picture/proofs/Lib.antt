@@ -1,3 +1,5 @@
 pub mod TextLaws
 pub mod PictureLaws
 pub mod PlayerLaws
+pub mod Fits
+pub mod Promises

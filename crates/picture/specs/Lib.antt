@@ -1,3 +1,4 @@
 pub mod Text
 pub mod Picture
 pub mod Player
+pub mod Promises

@@ -1,0 +1,58 @@
+-- What is promised of the player and of its text beyond the contracts, each of which is one equation.
+-- Assumes nothing.
+use mathlib.Core.Path.{_≡_}
+use mathlib.Core.Bool.{cond}
+use mathlib.Core.List.{List, [], _∷_, _++_}
+use Prim.Native.Nat.{ℕ, _+_, _-_, _*_, _^_, _<_, _≤_}
+use lib.Dec.{eqb}
+use lib.ListN.{length, take}
+use Rattle.engine.specs.Step.{written}
+use Rattle.picture.specs.declared.Player.{Player}
+use Rattle.picture.specs.Text.{Page, page, said, decimal}
+use Rattle.picture.specs.Player.{Sheet, freshPlayer, taken, fed, wrote, printed}
+
+-- ---- the contracts allow one outcome
+abbrev pub OneOpen : Type 0
+OneOpen = (len : ℕ) (x y : Player) → x ≡ freshPlayer len → y ≡ freshPlayer len → x ≡ y
+
+abbrev pub OneTake : Type 0
+OneTake = (b : ℕ) (s x y : Sheet) → x ≡ taken b s → y ≡ taken b s → x ≡ y
+
+abbrev pub OneFeed : Type 0
+OneFeed = (bytes : List ℕ) (s x y : Sheet) → x ≡ fed bytes s → y ≡ fed bytes s → x ≡ y
+
+abbrev pub OneText : Type 0
+OneText = (s : Sheet) (out : List ℕ) (x y : Page) → x ≡ said (printed s) (page out 0) → y ≡ said (printed s) (page out 0) → x ≡ y
+
+-- ---- it does not matter in which pieces a stream comes
+abbrev pub AnyPieces : Type 0
+AnyPieces = (a b : List ℕ) (s : Sheet) → fed (a ++ b) s ≡ fed b (fed a s)
+
+-- ---- on 65,536 bytes of memory the text of any stream is whole in 786,449 bytes: three lines, and 65,536 lines of 12
+abbrev pub WholeText : Type 0
+WholeText = (s : Sheet) (out : List ℕ) → length (s .memory) ≤ 65536 → 786449 ≤ length out
+    → (said (printed s) (page out 0) .used ≡ length (printed s)) × (take (length (printed s)) (said (printed s) (page out 0) .bytes) ≡ printed s)
+
+-- ---- a number's text is read back as the number
+abbrev pub valueFrom : ℕ → List ℕ → ℕ
+valueFrom n [] = n
+valueFrom n (d ∷ t) = valueFrom (n * 10 + (d - 48)) t
+
+abbrev pub ReadBack : Type 0
+ReadBack = (n : ℕ) → n < 2 ^ 64 → valueFrom 0 (decimal n) ≡ n
+
+-- ---- eight bytes at the end of whole pairs, with no refusal before them, are one register write of the words that they spell
+abbrev pub word : ℕ → ℕ → ℕ → ℕ → ℕ
+word a b c d = a + b * 2 ^ 8 + c * 2 ^ 16 + d * 2 ^ 24
+
+abbrev pub pairOf : ℕ → ℕ → ℕ
+pairOf offset data′ = offset + data′ * 2 ^ 32
+
+pub record Byte (b : ℕ) : Type 0 where
+  pub small : b < 2 ^ 8
+
+abbrev pub PairPlayed : Type 0
+PairPlayed = (s : Sheet) (a b c d e f g h : ℕ) → Byte a → Byte b → Byte c → Byte d → Byte e → Byte f → Byte g → Byte h
+    → s .player .held ≡ 0 → s .player .refused ≡ 0 → s .player .window < 2 ^ 64
+    → fed (a ∷ b ∷ c ∷ d ∷ e ∷ f ∷ g ∷ h ∷ []) s
+    ≡ wrote (s .player) (pairOf (word a b c d) (word e f g h)) (written (s .player .engine) (s .memory) (word a b c d) (word e f g h))
