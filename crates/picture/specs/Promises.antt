@@ -1,15 +1,14 @@
 -- What is promised of the player and of its text beyond the contracts, each of which is one equation.
 -- Assumes nothing.
 use mathlib.Core.Path.{_≡_}
-use mathlib.Core.Bool.{cond}
 use mathlib.Core.List.{List, [], _∷_, _++_}
 use Prim.Native.Nat.{ℕ, _+_, _-_, _*_, _^_, _<_, _≤_}
-use lib.Dec.{eqb}
 use lib.ListN.{length, take}
+use Rattle.engine.specs.declared.Engine.{Engine}
 use Rattle.engine.specs.Step.{written}
 use Rattle.picture.specs.declared.Player.{Player}
 use Rattle.picture.specs.Text.{Page, page, said, decimal}
-use Rattle.picture.specs.Player.{Sheet, freshPlayer, taken, fed, wrote, printed}
+use Rattle.picture.specs.Player.{Sheet, sheet, freshPlayer, taken, fed, wrote, printed}
 
 -- ---- the contracts allow one outcome
 abbrev pub OneOpen : Type 0
@@ -41,18 +40,21 @@ valueFrom n (d ∷ t) = valueFrom (n * 10 + (d - 48)) t
 abbrev pub ReadBack : Type 0
 ReadBack = (n : ℕ) → n < 2 ^ 64 → valueFrom 0 (decimal n) ≡ n
 
--- ---- eight bytes at the end of whole pairs, with no refusal before them, are one register write of the words that they spell
+-- ---- eight bytes are one register write of the two words that they spell, low byte first
 abbrev pub word : ℕ → ℕ → ℕ → ℕ → ℕ
 word a b c d = a + b * 2 ^ 8 + c * 2 ^ 16 + d * 2 ^ 24
 
-abbrev pub pairOf : ℕ → ℕ → ℕ
-pairOf offset data′ = offset + data′ * 2 ^ 32
+-- a player between two pairs, with no refusal met
+abbrev pub between : Engine → ℕ → ℕ → Player
+between e window played = record { engine = e; window = window; held = 0; played = played; refused = 0 }
 
-pub record Byte (b : ℕ) : Type 0 where
-  pub small : b < 2 ^ 8
+pub record Bytes (a b c d : ℕ) : Type 0 where
+  pub first : a < 2 ^ 8
+  pub second : b < 2 ^ 8
+  pub third : c < 2 ^ 8
+  pub fourth : d < 2 ^ 8
 
 abbrev pub PairPlayed : Type 0
-PairPlayed = (s : Sheet) (a b c d e f g h : ℕ) → Byte a → Byte b → Byte c → Byte d → Byte e → Byte f → Byte g → Byte h
-    → s .player .held ≡ 0 → s .player .refused ≡ 0 → s .player .window < 2 ^ 64
-    → fed (a ∷ b ∷ c ∷ d ∷ e ∷ f ∷ g ∷ h ∷ []) s
-    ≡ wrote (s .player) (pairOf (word a b c d) (word e f g h)) (written (s .player .engine) (s .memory) (word a b c d) (word e f g h))
+PairPlayed = (e : Engine) (m : List ℕ) (window played a b c d p q r s : ℕ) → window < 2 ^ 64 → Bytes a b c d → Bytes p q r s
+    → fed (a ∷ b ∷ c ∷ d ∷ p ∷ q ∷ r ∷ s ∷ []) (sheet (between e window played) m)
+    ≡ wrote (between e window played) (word a b c d + word p q r s * 2 ^ 32) (written e m (word a b c d) (word p q r s))

@@ -304,7 +304,7 @@ impl Player {
     pub fn take(self, mem: &mut [u8], byte: u8) -> Player
         ensures { λ r. ⌜ sheet r (now (mem .exit)) ≡ taken byte (sheet self (now (mem .entry))) ⌝ }
     {
-        if self.refused != 0 {
+        if 0 < self.refused {
             return self;
         }
         self.arrive(mem, shift(self.window, byte))
@@ -329,10 +329,10 @@ impl Player {
         ensures within { λ r. ⌜ r ≤ length (now (out .exit)) ⌝ }
     {
         let refused = self.refused;
-        if refused != 0 {
+        if 0 < refused {
             return say_refusal(out, 0, refused, self.played);
         }
-        if self.held != 0 {
+        if 0 < self.held {
             return say(out, 0, b"short write\n");
         }
         let engine = self.engine;

@@ -6,6 +6,7 @@ use Rattle.picture.specs.Picture.{picture}
 use Rattle.picture.specs.Player.{refusal, shortWrite, printed}
 use Rattle.picture.proofs.TextLaws.{text-within}
 use borrow.Author.Needs.{needs}
+use native.Mathlib.Omega.{arith}
 use Rattle.picture.proofs.Player.text.Statement.{statement}
 use Rattle.picture.proofs.Player.text.Tie as tie
 
@@ -19,7 +20,7 @@ returns : tie.Need-returns
 unfolding printed
 returns c =
     let a = c .before .before .before .before .before .before .before .args in
-    (rw (ne-eqb _ _ (c .before .before .before .before .if1 .taken)) (c .before .before .say-refusal .ensures), text-within (refusal (a .self .refused) (a .self .played)) (a .out .now) _ (c .before .before .say-refusal .ensures))
+    (rw (ne-eqb (a .self .refused) 0 (λ e. omega arith)) (c .before .before .say-refusal .ensures), text-within (refusal (a .self .refused) (a .self .played)) (a .out .now) _ (c .before .before .say-refusal .ensures))
 
 slice-aggregate-say : tie.Need-slice-aggregate-say
 slice-aggregate-say c = search needs
@@ -34,7 +35,7 @@ returns-2 : tie.Need-returns-2
 unfolding printed
 returns-2 c =
     let a = c .before .before .before .before .before .before .before .before .before .before .args in
-    (rw (eq-eqb _ _ (c .before .before .before .before .before .before .before .if1 .left), ne-eqb _ _ (c .before .before .before .before .before .if2 .taken)) (c .before .before .say .ensures), text-within (shortWrite) (a .out .now) _ (c .before .before .say .ensures))
+    (rw (eq-eqb (a .self .refused) 0 (omega arith), ne-eqb (a .self .held) 0 (λ e. omega arith)) (c .before .before .say .ensures), text-within (shortWrite) (a .out .now) _ (c .before .before .say .ensures))
 
 say-picture-requires : tie.Need-say-picture-requires
 say-picture-requires c κs = search needs
@@ -46,7 +47,7 @@ returns-3 : tie.Need-returns-3
 unfolding printed
 returns-3 c =
     let a = c .before .before .before .before .before .before .before .before .before .before .before .before .args in
-    (rw (eq-eqb _ _ (c .before .before .before .before .before .before .before .before .before .if1 .left), eq-eqb _ _ (c .before .before .before .before .before .before .before .if2 .left)) (c .before .before .say-picture .ensures), text-within (picture (regs (a .self .engine)) (a .mem .now)) (a .out .now) _ (c .before .before .say-picture .ensures))
+    (rw (eq-eqb (a .self .refused) 0 (omega arith), eq-eqb (a .self .held) 0 (omega arith)) (c .before .before .say-picture .ensures), text-within (picture (regs (a .self .engine)) (a .mem .now)) (a .out .now) _ (c .before .before .say-picture .ensures))
 
 pub text-spec : {M : Type 1} → statement M
 text-spec =
