@@ -12,9 +12,10 @@ use borrow.Author.Tests.{ltb-true}
 use Rattle.engine.specs.Step.{written}
 use Rattle.surface.proofs.OnLaws.{and-left}
 use Rattle.picture.specs.Text.{page, each, said, digit, digits, decimal}
-use Rattle.picture.specs.Player.{freshPlayer, shifted, wrote, arrived, taken, fed, printed}
-use Rattle.picture.specs.Promises.{OneOpen, OneTake, OneFeed, OneText, AnyPieces, WholeText, valueFrom, ReadBack, word, between, PairPlayed}
+use Rattle.picture.specs.Player.{freshPlayer, shifted, wrote, arrived, taken, fed, printed, start, sheetOf}
+use Rattle.picture.specs.Promises.{OneOpen, OneTake, OneFeed, OneText, AnyPieces, WholeText, WholeSheet, valueFrom, ReadBack, word, between, PairPlayed}
 use Rattle.picture.proofs.TextLaws.{each-append}
+use Rattle.picture.proofs.PlayerLaws.{fed-long, start-long}
 use Rattle.picture.proofs.Fits.{printed-short, said-whole}
 
 -- a contract that says what the outcome equals allows one
@@ -40,6 +41,10 @@ pub whole-text : WholeText
 whole-text s out small room =
     let none : 0 + length (printed s) ≡ length (printed s) = omega arith in
     rw none at (said-whole (printed s) (page out 0) (omega (arith, printed-short s small)))
+
+pub whole-sheet : WholeSheet
+unfolding sheetOf
+whole-sheet input out room = let long = fed-long input start ∙ start-long in whole-text (fed input start) out (omega arith) room
 
 -- ---- numbers
 abbrev Reads : ℕ → ℕ → Type 0

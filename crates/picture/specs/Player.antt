@@ -71,6 +71,9 @@ printed s =
     (cond (eqb (s .player .held) 0) (picture (regs (s .player .engine)) (s .memory)) shortWrite)
     (refusal (s .player .refused) (s .player .played))
 
--- the program: the bytes of its input on 65,536 zero bytes
+-- the program: what it prints of the bytes of its input, on 65,536 zero bytes
+unfoldable pub start : Sheet
+start = sheet (freshPlayer 65536) (replicate 65536 0)
+
 unfoldable pub sheetOf : List ℕ → List ℕ
-sheetOf input = printed (fed input (sheet (freshPlayer 65536) (replicate 65536 0)))
+sheetOf input = printed (fed input start)

@@ -8,7 +8,7 @@ use Rattle.engine.specs.declared.Engine.{Engine}
 use Rattle.engine.specs.Step.{written}
 use Rattle.picture.specs.declared.Player.{Player}
 use Rattle.picture.specs.Text.{Page, page, said, decimal}
-use Rattle.picture.specs.Player.{Sheet, sheet, freshPlayer, taken, fed, wrote, printed}
+use Rattle.picture.specs.Player.{Sheet, sheet, freshPlayer, taken, fed, wrote, printed, start, sheetOf}
 
 -- ---- the contracts allow one outcome
 abbrev pub OneOpen : Type 0
@@ -31,6 +31,12 @@ AnyPieces = (a b : List ℕ) (s : Sheet) → fed (a ++ b) s ≡ fed b (fed a s)
 abbrev pub WholeText : Type 0
 WholeText = (s : Sheet) (out : List ℕ) → length (s .memory) ≤ 65536 → 786449 ≤ length out
     → (said (printed s) (page out 0) .used ≡ length (printed s)) × (take (length (printed s)) (said (printed s) (page out 0) .bytes) ≡ printed s)
+
+-- so the program's text is whole there
+abbrev pub WholeSheet : Type 0
+WholeSheet = (input out : List ℕ) → 786449 ≤ length out
+    → (said (printed (fed input start)) (page out 0) .used ≡ length (sheetOf input))
+    × (take (length (sheetOf input)) (said (printed (fed input start)) (page out 0) .bytes) ≡ sheetOf input)
 
 -- ---- a number's text is read back as the number
 abbrev pub valueFrom : ℕ → List ℕ → ℕ
