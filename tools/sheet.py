@@ -7,6 +7,7 @@ STREAM holds pairs of little-endian 32-bit words, offset then data. The proved p
 program prints a fault and no picture, nothing is written, the fault is said in a sentence, and the exit status is 1.
 """
 
+import functools
 import os
 import platform
 import re
@@ -62,17 +63,19 @@ def build() -> None:
     os.utime(PROGRAM)
 
 
+@functools.cache
 def command() -> list[str]:
     """How the program is started: on another processor than x86-64 by the emulator of the kit that rt belongs to."""
     machine = platform.machine()
     if machine == "x86_64":
         return [str(PROGRAM)]
-    rt = shutil.which("rt")
-    home = Path(os.environ.get("RATTLE_HOME") or (Path(rt).resolve().parent.parent if rt else "."))
-    tools = home / "on" / machine / "toolchain"
+    if shutil.which("rt") is None:
+        sys.exit(f"The program is for x86-64; on this processor, {machine}, rt must be on the path, for its kit's emulator.")
+    guide = subprocess.run(["rt", "doc"], stdout=subprocess.PIPE, text=True, check=True).stdout.strip()
+    tools = Path(guide).resolve().parent.parent / "on" / machine / "toolchain"
     emulator, library = tools / "bin/qemu-x86_64", tools / "lib"
     if not os.access(emulator, os.X_OK):
-        sys.exit(f"The program is for x86-64, and no emulator for it was found beside rt on this processor, {machine}.")
+        sys.exit(f"The program is for x86-64, and rt's kit has no emulator of it for this processor, {machine}.")
     return [str(emulator), str(library / "ld-linux-x86-64.so.2"), "--library-path", str(library), str(PROGRAM)]
 
 

@@ -56,6 +56,7 @@ NAMED = {
     "one pixel": pairs(TO32 + "08=00030003 0C=00040004"),
     "clip1 selected, clip0 shown": pairs(TO32 + CLIP + "4C=00020002 50=00040004 68=00080008 64=FF 70=CC800005 80=0"),
     "all of memory at 8 bpp": pairs("14=00010100 08=0 0C=01000100 68=00100100 64=5A 70=CC000005 80=00F00000"),
+    "the longest text": pairs("14=00010100 0C=01000100 68=01000100 64=FF 70=CC000005 80=0"),
     "one byte past memory": pairs("10=1 14=00010100 0C=01000100"),
     "the last pixel at 24 bpp": pairs("10=FFFD 14=00040003 0C=00010001 " + DOT + "80=0"),
     "one byte past it": pairs("10=FFFE 14=00040003 0C=00010001"),
@@ -121,6 +122,9 @@ class Program(unittest.TestCase):
         for seed in range(40):
             with self.subTest(seed=seed):
                 self.assertEqual(sheet.play(seeded(seed)), model.play(seeded(seed)))
+
+    def test_the_longest_text(self):
+        self.assertEqual(sheet.play(NAMED["the longest text"]), "P3\n256 256\n255\n" + "255 255 255\n" * 65536)
 
     def test_each_kind_of_output_occurs(self):
         firsts = {model.play(stream).split("\n")[0].split(" at")[0] for stream in NAMED.values()}

@@ -1,7 +1,7 @@
 -- Laws of the picture's lines: what a turn of a loop over a row or over rows leaves to be said.
 -- Assumes nothing.
 use mathlib.Core.Path.{_≡_, refl, sym, ap, _∙_}
-use mathlib.Core.Bool.{Bool, true, false, _&&_}
+use mathlib.Core.Bool.{true, false, _&&_}
 use mathlib.Core.List.{List, [], _∷_, _++_, append-assoc}
 use Prim.Native.Nat.{ℕ, zero, suc, _+_, _-_, _<_, _≤_}
 use native.Mathlib.Omega.{arith}
@@ -10,7 +10,7 @@ use lib.ListN.{length}
 use borrow.Author.Tests.{ltb-true}
 use Rattle.surface.specs.declared.Surface.{Surface}
 use Rattle.surface.specs.Place.{readPx, onSurface, OnColour}
-use Rattle.surface.specs.Pixels.{Px, px, across, rect}
+use Rattle.surface.specs.Pixels.{Px, across, rect}
 use Rattle.surface.specs.Span.{allOn}
 use Rattle.surface.specs.Format.{targetNamed}
 use Rattle.surface.proofs.OnLaws.{and-left, and-right}

@@ -5,7 +5,6 @@ use mathlib.Core.List.{List, [], _∷_, _++_}
 use Prim.Native.Nat.{ℕ, _+_, _*_, _/_, _%_, _^_}
 use lib.Dec.{eqb, ltb}
 use lib.ListN.{replicate}
-use Rattle.engine.specs.declared.Engine.{Engine}
 use Rattle.engine.specs.Step.{Step, written, numberOf, freshEngine, regs}
 use Rattle.picture.specs.declared.Player.{Player}
 use Rattle.picture.specs.Text.{each, numeral}
@@ -55,12 +54,12 @@ fed bytes s = each taken bytes s
 
 -- ---- what is printed
 
--- `refused N at K`
+-- the line `refused N at K`: the bytes of `refused `, the number, those of `at `, the index
 unfoldable pub refusal : ℕ → ℕ → List ℕ
 refusal number index =
     (0x72 ∷ 0x65 ∷ 0x66 ∷ 0x75 ∷ 0x73 ∷ 0x65 ∷ 0x64 ∷ 0x20 ∷ []) ++ (numeral number 0x20 ++ ((0x61 ∷ 0x74 ∷ 0x20 ∷ []) ++ numeral index 10))
 
--- `short write`
+-- the line `short write`
 abbrev pub shortWrite : List ℕ
 shortWrite = 0x73 ∷ 0x68 ∷ 0x6f ∷ 0x72 ∷ 0x74 ∷ 0x20 ∷ 0x77 ∷ 0x72 ∷ 0x69 ∷ 0x74 ∷ 0x65 ∷ 10 ∷ []
 

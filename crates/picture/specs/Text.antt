@@ -1,6 +1,6 @@
 -- Text put into a lent buffer byte by byte, and the decimal text of a number. A byte that finds the buffer full is left out.
 -- Assumes nothing.
-use mathlib.Core.Bool.{Bool, cond, _&&_}
+use mathlib.Core.Bool.{cond, _&&_}
 use mathlib.Core.List.{List, [], _∷_, _++_}
 use Prim.Native.Nat.{ℕ, zero, suc, _+_, _/_, _%_, _^_}
 use lib.Dec.{ltb}
@@ -27,7 +27,7 @@ each take (b ∷ t) s = each take t (take b s)
 abbrev pub said : List ℕ → Page → Page
 said t p = each put t p
 
--- the digit of n at 10 ^ k; none above the number's first digit, but always one at 10 ^ 0
+-- the digit of n at a power of ten, as a byte of text; none above the number's first digit, but always one at 1
 unfoldable pub digit : ℕ → ℕ → List ℕ
 digit n power = cond (ltb n power && ltb 1 power) [] ((48 + n / power % 10) ∷ [])
 

@@ -10,7 +10,7 @@ ghost use lib.ListN.{length};
 ghost use Rattle.surface.specs.Place.{readPx, OnColour};
 ghost use Rattle.surface.specs.Pixels.{across, rect};
 ghost use Rattle.engine.specs.Step.{numberOf, written};
-ghost use Rattle.picture.specs.Text.{page, put as Text·put, said, digit, decimal, numeral};
+ghost use Rattle.picture.specs.Text.{page, put as Text·put, said, digit, numeral};
 ghost use Rattle.picture.specs.Picture.{shade as Picture·shade, line, lines, header, noPicture, shows, picture, RowOn, RectOn};
 ghost use Rattle.picture.specs.Player.{sheet, freshPlayer, shifted, counted, wrote, arrived, taken, fed, refusal, printed};
 

@@ -43,7 +43,7 @@ fn write_text(p: Player, mem: &[u8; 65536], out: &mut [u8]) {
     io::write_all(STDOUT_FILENO, &out[..n]);
 }
 
-// No text is longer than 786,449 bytes: three lines, and 65,536 lines of 12.
+// No text is longer than 786,449 bytes, three lines and 65,536 lines of 12: WholeSheet of the crate picture.
 fn show(p: Player, mem: &[u8; 65536], out: &mut [u8; 786449]) {
     write_text(p, mem, out);
 }

@@ -1,14 +1,12 @@
 -- `picture::has_picture` meets its contract: by the tests.
 -- Assumes nothing.
+use borrow.Author.Needs.{needs}
 use mathlib.Core.Path.{ap, _∙_}
-use mathlib.Core.Bool.{false}
-use Prim.Native.Nat.{_-_, _/_, _%_, _^_}
 use borrow.Author.Tests.{lt-ltb, le-ltb, not-true, not-false}
 use Rattle.surface.specs.declared.Surface.{Surface}
 use Rattle.surface.specs.Span.{allOn}
 use Rattle.surface.proofs.FormatLaws.{target-small}
 use Rattle.picture.specs.Picture.{pixels, shows}
-use borrow.Author.Needs.{needs}
 use Rattle.picture.proofs.has_picture.Statement.{statement}
 use Rattle.picture.proofs.has_picture.Tie as tie
 

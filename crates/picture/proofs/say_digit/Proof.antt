@@ -1,7 +1,6 @@
 -- `picture::say_digit` meets its contract: by the test for a place above the number's first digit.
 -- Assumes nothing.
 use borrow.Author.Needs.{needs}
-use mathlib.Core.Path.{_≡_}
 use Rattle.picture.specs.Text.{each, digit}
 use Rattle.picture.proofs.say_digit.Statement.{statement}
 use Rattle.picture.proofs.say_digit.Tie as tie

@@ -1,11 +1,10 @@
 -- `picture::say_header` meets its contract: the three lines, one after the other.
 -- Assumes nothing.
-use mathlib.Core.Path.{_≡_}
+use borrow.Author.Needs.{needs}
 use mathlib.Core.List.{[], _∷_}
 use Rattle.picture.specs.Text.{page, numeral}
 use Rattle.picture.specs.Picture.{header}
 use Rattle.picture.proofs.TextLaws.{four}
-use borrow.Author.Needs.{needs}
 use Rattle.picture.proofs.say_header.Statement.{statement}
 use Rattle.picture.proofs.say_header.Tie as tie
 

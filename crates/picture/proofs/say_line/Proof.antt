@@ -1,11 +1,10 @@
 -- `picture::say_line` meets its contract: the three numbers, one after the other.
 -- Assumes nothing.
-use mathlib.Core.Path.{_≡_}
+use borrow.Author.Needs.{needs}
 use Prim.Native.Nat.{_/_, _%_, _^_}
 use Rattle.picture.specs.Text.{page, numeral}
 use Rattle.picture.specs.Picture.{line}
 use Rattle.picture.proofs.TextLaws.{three}
-use borrow.Author.Needs.{needs}
 use Rattle.picture.proofs.say_line.Statement.{statement}
 use Rattle.picture.proofs.say_line.Tie as tie
 

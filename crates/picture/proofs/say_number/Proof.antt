@@ -1,12 +1,11 @@
 -- `picture::say_number` meets its contract: the places that are left, said on the page now, are the number said on the page at the start.
 -- Assumes nothing.
 use borrow.Author.Needs.{needs}
-use native.Mathlib.Omega.{arith}
 use mathlib.Core.Path.{_≡_, refl, sym, ap, _∙_}
-use mathlib.Core.List.{List, [], _∷_}
-use Prim.Native.Nat.{ℕ, _/_, _^_, _≤_}
+use mathlib.Core.List.{[], _∷_}
+use Prim.Native.Nat.{_/_, _^_}
 use lib.ListN.{length}
-use Rattle.picture.specs.Text.{Page, page, each, put, said, digits, decimal, numeral}
+use Rattle.picture.specs.Text.{page, each, put, said, digits, decimal, numeral}
 use Rattle.picture.proofs.TextLaws.{each-append, power-some, power-again, digits-again, digits-end}
 use Rattle.picture.proofs.say_number.Statement.{statement}
 use Rattle.picture.proofs.say_number.Tie as tie

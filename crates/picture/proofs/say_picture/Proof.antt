@@ -1,12 +1,12 @@
 -- `picture::say_picture` meets its contract: where the test holds, the rectangle is on the surface and its numbers are in range.
 -- Assumes nothing.
+use borrow.Author.Needs.{needs}
 use native.Mathlib.Omega.{arith}
-use mathlib.Core.Path.{_≡_, sym, _∙_}
+use mathlib.Core.Path.{sym, _∙_}
 use lib.ListN.{length}
 use borrow.Author.Tests.{not-true, not-false}
 use Rattle.picture.specs.Text.{page}
 use Rattle.picture.proofs.PictureLaws.{shown, rect-shown, picture-shown, picture-none}
-use borrow.Author.Needs.{needs}
 use Rattle.picture.proofs.say_picture.Statement.{statement}
 use Rattle.picture.proofs.say_picture.Tie as tie
 

@@ -1,6 +1,5 @@
 -- `picture::say_pixel` meets its contract: the line of what is read there.
 -- Assumes nothing.
-use mathlib.Core.Path.{_≡_}
 use borrow.Author.Needs.{needs}
 use Rattle.picture.proofs.say_pixel.Statement.{statement}
 use Rattle.picture.proofs.say_pixel.Tie as tie

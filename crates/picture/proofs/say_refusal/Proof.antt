@@ -1,11 +1,10 @@
 -- `picture::say_refusal` meets its contract: the words and the two numbers, one after the other.
 -- Assumes nothing.
-use mathlib.Core.Path.{_≡_}
+use borrow.Author.Needs.{needs}
 use mathlib.Core.List.{[], _∷_}
 use Rattle.picture.specs.Text.{page, numeral}
 use Rattle.picture.specs.Player.{refusal}
 use Rattle.picture.proofs.TextLaws.{four}
-use borrow.Author.Needs.{needs}
 use Rattle.picture.proofs.say_refusal.Statement.{statement}
 use Rattle.picture.proofs.say_refusal.Tie as tie
 

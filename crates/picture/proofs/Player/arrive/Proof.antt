@@ -1,8 +1,8 @@
 -- `picture::Player::arrive` meets its contract: by the test for a whole pair.
 -- Assumes nothing.
+use borrow.Author.Needs.{needs}
 use borrow.Author.Tests.{lt-ltb, le-ltb}
 use Rattle.picture.specs.Player.{arrived}
-use borrow.Author.Needs.{needs}
 use Rattle.picture.proofs.Player.arrive.Statement.{statement}
 use Rattle.picture.proofs.Player.arrive.Tie as tie
 

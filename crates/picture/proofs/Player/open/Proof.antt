@@ -1,9 +1,6 @@
 -- `picture::Player::open` meets its contract: the engine is a fresh one.
 -- Assumes nothing.
 use borrow.Author.Needs.{needs}
-use mathlib.Core.Path.{ap}
-use Rattle.engine.specs.declared.Engine.{Engine}
-use Rattle.picture.specs.declared.Player.{Player}
 use Rattle.picture.specs.Player.{freshPlayer}
 use Rattle.picture.proofs.Player.open.Statement.{statement}
 use Rattle.picture.proofs.Player.open.Tie as tie

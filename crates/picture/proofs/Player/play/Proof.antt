@@ -1,7 +1,7 @@
 -- `picture::Player::play` meets its contract: the parts of the engine's step.
 -- Assumes nothing.
-use Rattle.picture.proofs.PlayerLaws.{wrote-by}
 use borrow.Author.Needs.{needs}
+use Rattle.picture.proofs.PlayerLaws.{wrote-by}
 use Rattle.picture.proofs.Player.play.Statement.{statement}
 use Rattle.picture.proofs.Player.play.Tie as tie
 

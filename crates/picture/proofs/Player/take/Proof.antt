@@ -1,10 +1,10 @@
 -- `picture::Player::take` meets its contract: by the test for a refusal.
 -- Assumes nothing.
-use borrow.Author.Tests.{eq-eqb, ne-eqb}
-use mathlib.Core.Path.{ap, _∙_}
-use Rattle.picture.specs.Player.{sheet, arrived, taken}
 use borrow.Author.Needs.{needs}
 use native.Mathlib.Omega.{arith}
+use mathlib.Core.Path.{ap, _∙_}
+use borrow.Author.Tests.{eq-eqb, ne-eqb}
+use Rattle.picture.specs.Player.{sheet, arrived, taken}
 use Rattle.picture.proofs.Player.take.Statement.{statement}
 use Rattle.picture.proofs.Player.take.Tie as tie
 
