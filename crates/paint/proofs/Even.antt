@@ -1,8 +1,8 @@
 -- Laws of pixels that are all given one value: a turn of the loop over a row of them, and when a fill's are.
 -- Assumes nothing.
-use mathlib.Core.Path.{_≡_, refl, sym, ap, ap₂, subst, _∙_}
-use mathlib.Core.Bool.{Bool, true, false, cond, not, _&&_, true≢false}
-use mathlib.Core.List.{List, [], _∷_, map}
+use mathlib.Core.Path.{_≡_, refl, sym, ap, subst, _∙_}
+use mathlib.Core.Bool.{Bool, true, false, not, _&&_, true≢false}
+use mathlib.Core.List.{List, [], _∷_}
 use mathlib.Core.Option.{Option, some}
 use Prim.Native.Nat.{ℕ, zero, suc, _+_, _-_, _*_, _/_, _%_, _^_, _<_, _≤_}
 use native.Mathlib.Nat.{div-one, pow-suc, mul-comm, div-div-eq-div-mul}
@@ -13,7 +13,6 @@ use native.Mathlib.Omega.{arith}
 use borrow.Author.Tests.{eqb-true}
 use lib.Dec.{eqb}
 use Rattle.colour.specs.Rop.{ropBits}
-use Rattle.colour.specs.Key.{keyMatch}
 use Rattle.colour.proofs.RopLaws.{copies}
 use Rattle.surface.specs.declared.Surface.{Surface}
 use Rattle.surface.specs.Place.{byteOf, writeBytes, readPx, writePx, OnColour}
@@ -21,15 +20,15 @@ use Rattle.surface.specs.Pixels.{Px, across, rect, Inside}
 use Rattle.surface.proofs.Bytes.{written-other}
 use Rattle.surface.proofs.OnLaws.{and-left, and-right, colour-byte, on-column}
 use Rattle.surface.proofs.Pixels.{same-byte}
-use Rattle.surface.proofs.Lists.{In, by-cases}
+use Rattle.surface.proofs.Lists.{by-cases}
 use Rattle.surface.proofs.Rects.{in-rect, rect-in, rect-distinct, rect-length}
 use Rattle.paint.specs.declared.Task.{Task}
-use Rattle.paint.specs.declared.Source.{Source}
 use Rattle.paint.specs.Paint.{State, state, touch, dab, paint}
-use Rattle.paint.specs.Mix.{source, mixed, chosen, fillSource}
+use Rattle.paint.specs.Mix.{mixed, chosen, fillSource}
 use Rattle.paint.specs.Pattern.{patternColumn, patternRow, patternBit, patternIn, patternValue}
 use Rattle.paint.specs.Copy.{sourceBy, giving}
 use Rattle.paint.specs.Fast.{Given, RectOn, evenly, solid}
+use Rattle.paint.proofs.MixLaws.{not-true}
 use Rattle.paint.proofs.Owners.{byte-of, of-byte}
 use Rattle.paint.proofs.Settle.{Settled, settled, tally, counted}
 use Rattle.paint.proofs.Turns.{row-left, row-whole, row-again, row-ends}
@@ -58,10 +57,6 @@ module _ (s : Surface) (v x0 w y n : ℕ) where
       rw i (row-ends s (λ p. touch p (λ now. some v)) false x0 w w y (state m (n + w)) (omega arith))
 
 -- ---- a solid fill gives each pixel colorFore
-
-pub not-true : (b : Bool) → not b ≡ true → b ≡ false
-not-true true e = sym e
-not-true false e = refl
 
 pub solid-gives : (t : Task) (pattern m now : List ℕ) (p : Px) → solid t ≡ true → giving t pattern m now p ≡ some (ropBits 32 0xcc 0 (t .ink .fore) 0)
 unfolding giving sourceBy fillSource mixed chosen patternIn

@@ -1,17 +1,24 @@
 -- Laws of one covered pixel: a pixel that is left, and one that is put there by the steps of the code.
 -- Assumes nothing.
 use mathlib.Core.Path.{_≡_, refl, sym, ap, _∙_}
-use mathlib.Core.Bool.{Bool, true, false}
+use mathlib.Core.Bool.{Bool, true, false, cond, not, _&&_}
 use mathlib.Core.Option.{Option, none, some}
 use mathlib.Core.List.{List}
-use Prim.Native.Nat.{ℕ, _+_}
+use Prim.Native.Nat.{ℕ, _+_, _^_, _<_}
+use native.Mathlib.Nat.{mod-eq-of-lt}
+use lib.Dec.{eqb}
+use borrow.Author.Tests.{eqb-true}
 use Rattle.colour.specs.Rop.{ropBits}
+use Rattle.colour.specs.Key.{keyMatch}
+use Rattle.colour.proofs.RopLaws.{copies}
 use Rattle.surface.specs.Place.{readPx, writePx}
 use Rattle.surface.specs.Pixels.{px}
+use Rattle.surface.proofs.OnLaws.{and-left, and-right}
 use Rattle.paint.specs.declared.Ink.{Ink}
 use Rattle.paint.specs.declared.Source.{Source}
 use Rattle.paint.specs.Paint.{state, dab}
-use Rattle.paint.specs.Mix.{chosen, targetMatch, mixed}
+use Rattle.paint.specs.Mix.{source, chosen, targetMatch, mixed}
+use Rattle.paint.specs.Fast.{direct}
 
 pub left-alone : (ink : Ink) (pattern : ℕ) (s : Source) (x y n : ℕ) (m : List ℕ) → s .left ≡ true
     → state m n ≡ dab (ink .target) (px x y) (mixed ink pattern s (readPx m (ink .target) x y)) (state m n)
@@ -24,3 +31,18 @@ pub put-there : (ink : Ink) (pattern : ℕ) (s : Source) (x y n : ℕ) (m m′ :
     → state m′ (n + 1) ≡ dab (ink .target) (px x y) (mixed ink pattern s (readPx m (ink .target) x y)) (state m n)
 unfolding mixed dab
 put-there ink pattern s x y n m m′ e o t k r w = rw (e, ← o, ← t, ← k, ← r, w)
+
+-- ---- a pixel that gets its source
+pub not-true : (b : Bool) → not b ≡ true → b ≡ false
+not-true true e = sym e
+not-true false e = refl
+
+pub direct-mixed : (ink : Ink) (pattern v old : ℕ) (left : Bool) → direct ink ≡ true → v < 2 ^ 32
+    → mixed ink pattern (source v false left) old ≡ cond left none (some v)
+unfolding mixed chosen
+direct-mixed ink pattern v old left e small =
+    let key = not-true (ink .dstKey) (and-right (eqb (ink .rop0) 0xcc) (not (ink .dstKey)) e) in
+    let code = eqb-true (ink .rop0) 0xcc (and-left (eqb (ink .rop0) 0xcc) (not (ink .dstKey)) e) in
+    ap {B = Option ℕ} (λ (k : Bool). cond left none (some (ropBits 32 (chosen ink false (k && keyMatch (ink .target .bytes) (ink .dstMin) (ink .dstMax) old)) pattern v old))) key
+    ∙ ap {B = Option ℕ} (λ (c : ℕ). cond left none (some (ropBits 32 c pattern v old))) code
+    ∙ ap {B = Option ℕ} (λ (u : ℕ). cond left none (some u)) (copies 32 pattern v old ∙ mod-eq-of-lt small)

@@ -8,9 +8,8 @@ use Prim.Native.Nat.{ℕ, _+_, _-_, _*_, _/_, _%_, _<_, _≤_}
 use native.Mathlib.Nat.{mod-lt, div-add-mod', div-mul-le-self, le-div-iff-mul-le}
 use native.Mathlib.Omega.{arith}
 use native.Mathlib.Decide.{ℕ-discrete}
-use lib.ListN.{length, getD}
-use Rattle.surface.specs.declared.Surface.{Surface}
-use Rattle.surface.specs.Place.{byteOf, rowPixels, Colour, OnColour}
+use lib.ListN.{getD}
+use Rattle.surface.specs.Place.{byteOf, Colour, OnColour}
 use Rattle.surface.specs.Pixels.{Px, px, Inside}
 use Rattle.surface.proofs.Lists.{by-cases}
 use Rattle.surface.proofs.OnLaws.{colour-byte, on-column}
@@ -18,7 +17,7 @@ use Rattle.surface.proofs.Rects.{Past}
 use Rattle.surface.proofs.Spans.{IsByte}
 use Rattle.paint.specs.declared.Task.{Task}
 use Rattle.paint.specs.Copy.{sourcePlace, nth, backward}
-use Rattle.paint.specs.Fast.{Shifted, Given, sourceByte, toRow, fromRow, Run, Up, Down, RowMoves, Moves}
+use Rattle.paint.specs.Fast.{Shifted, Given, sourceByte, toRow, fromRow, RowMoves, Moves}
 use Rattle.paint.proofs.Owners.{byte-of}
 use Rattle.paint.proofs.TaskLaws.{can-pixel}
 use Rattle.paint.proofs.Order.{not-read, own-byte}

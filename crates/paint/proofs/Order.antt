@@ -5,18 +5,17 @@ use mathlib.Core.Path.{_≡_, refl, sym, ap, ap₂, subst, _∙_}
 use mathlib.Core.Logic.{_≢_, _⊎_, inl, inr, ⊎-elim}
 use mathlib.Core.Bool.{Bool, true, false, cond, _&&_, _||_, false≢true}
 use mathlib.Core.List.{List}
-use mathlib.Core.Option.{Option}
 use Prim.Native.Nat.{ℕ, _+_, _-_, _<_, _≤_}
 use native.Mathlib.Omega.{arith}
 use lib.Dec.{eqb, ltb}
 use lib.ListN.{getD}
 use borrow.Author.Tests.{ltb-true, ltb-false, lt-ltb, eqb-true, eqb-false}
 use Rattle.surface.specs.declared.Surface.{Surface}
-use Rattle.surface.specs.Place.{byteOf, readPx, monoBit, onSurface, rowPixels}
-use Rattle.surface.specs.Pixels.{Px, px, rect, Inside}
+use Rattle.surface.specs.Place.{byteOf, readPx, monoBit, rowPixels}
+use Rattle.surface.specs.Pixels.{Px, rect, Inside}
 use Rattle.surface.specs.Span.{spanOf, meet}
 use Rattle.surface.proofs.OnLaws.{on-column, pos-of-ne}
-use Rattle.surface.proofs.Lists.{In, Pairs, pairs-map}
+use Rattle.surface.proofs.Lists.{Pairs, pairs-map}
 use Rattle.surface.proofs.Pixels.{same-byte}
 use Rattle.surface.proofs.Rects.{in-rect, rect-in, rect-pairs, rect-distinct, Past, Ahead}
 use Rattle.surface.proofs.Spans.{IsByte, span-holds}
@@ -27,7 +26,7 @@ use Rattle.paint.specs.Mix.{mixed, bitSource, colourSource, fillSource}
 use Rattle.paint.specs.Pattern.{patternColumn, patternRow, patternBit, patternValue}
 use Rattle.paint.specs.Copy.{sourcePlace, sourceBy, giving, asBefore, inTurn, CanPaint, Orderly, backward}
 use Rattle.paint.proofs.Owners.{byte-of, one-owner, read-px, read-bit}
-use Rattle.paint.proofs.Settle.{Local, Unread, Columns, in-place, any-order}
+use Rattle.paint.proofs.Settle.{Local, Unread, in-place, any-order}
 use Rattle.paint.proofs.TaskLaws.{can-pixel}
 
 -- ---- what a task reads: for a copy, the bytes of the source pixel

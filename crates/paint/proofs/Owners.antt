@@ -17,7 +17,7 @@ use Rattle.surface.proofs.Pixels.{same-byte, write-leaves, read-same, length-wr
 use Rattle.surface.proofs.Lists.{In, by-cases}
 use Rattle.surface.proofs.Rects.{same-px}
 use Rattle.surface.proofs.Spans.{IsByte}
-use Rattle.paint.specs.Paint.{State, state, dab}
+use Rattle.paint.specs.Paint.{State, dab}
 
 -- ---- the bytes of a colour pixel are its bytes by number
 module _ (s : Surface) (colour : 0 < s .bytes) where

@@ -2,42 +2,40 @@
 -- Assumes nothing.
 use mathlib.Core.Path.{_≡_, refl, sym, ap, ap₂, subst, _∙_}
 use mathlib.Core.Bool.{Bool, true, false, cond, not, _&&_}
-use mathlib.Core.List.{List, [], _∷_, map, List·Memᴰ·head, List·Memᴰ·tail}
-use mathlib.Core.Option.{Option, none, some}
-use Prim.Native.Nat.{ℕ, zero, suc, _+_, _-_, _*_, _/_, _%_, _^_, _<_, _≤_}
-use native.Mathlib.Nat.{mod-eq-of-lt, pow-le-pow-right, lt-of-lt-of-le, add-zero, zero-add}
+use mathlib.Core.List.{List, [], _∷_}
+use mathlib.Core.Option.{Option, some}
+use Prim.Native.Nat.{ℕ, zero, suc, _+_, _*_, _/_, _%_, _^_, _<_, _≤_}
+use native.Mathlib.Nat.{pow-le-pow-right, lt-of-lt-of-le, zero-add}
 use native.Mathlib.Omega.{arith}
 use native.Mathlib.Decide.{ℕ-discrete}
 use borrow.Author.Tests.{ne-eqb, eqb-true}
 use lib.Dec.{eqb}
 use lib.ListN.{length, getD, set}
 use lib.Seq.{getD-set-same, lt-length-set}
-use Rattle.colour.specs.Rop.{ropBits}
 use Rattle.colour.proofs.RopLaws.{copies}
 use Rattle.colour.proofs.ConvertLaws.{converted-same}
 use Rattle.colour.specs.Convert.{converted}
 use Rattle.colour.specs.Key.{keyMatch}
 use Rattle.surface.specs.declared.Surface.{Surface}
-use Rattle.surface.specs.Place.{byteOf, readBytes, writeBytes, readPx, writePx, monoBit, onSurface, OnColour}
-use Rattle.surface.specs.Pixels.{Px, px, rect, Inside}
+use Rattle.surface.specs.Place.{byteOf, readBytes, writeBytes, readPx, writePx, monoBit, OnColour}
+use Rattle.surface.specs.Pixels.{Px, rect}
 use Rattle.surface.proofs.Bytes.{written-other}
 use Rattle.surface.proofs.OnLaws.{and-left, and-right, colour-byte, on-column}
 use Rattle.surface.proofs.Pixels.{same-byte, read-small}
-use Rattle.surface.proofs.Lists.{In, by-cases}
-use Rattle.surface.proofs.Rects.{same-px, in-rect, rect-in, rect-distinct, rect-length}
-use Rattle.surface.proofs.Spans.{IsByte}
+use Rattle.surface.proofs.Lists.{by-cases}
+use Rattle.surface.proofs.Rects.{in-rect, rect-in, rect-distinct, rect-length}
 use Rattle.paint.specs.declared.Task.{Task}
 use Rattle.paint.specs.Paint.{State, state, dab, paint}
 use Rattle.paint.specs.declared.Source.{Source}
-use Rattle.paint.specs.Mix.{source, mixed, chosen, bitSource, colourSource, fillSource}
+use Rattle.paint.specs.Mix.{source, mixed, bitSource, colourSource, fillSource}
 use Rattle.paint.specs.Pattern.{patternColumn, patternRow, patternBit, patternValue}
 use Rattle.paint.specs.Copy.{sourcePlace, sourceBy, giving, asBefore, CanPaint}
-use Rattle.paint.specs.Fast.{Given, sourceByte, plainly}
+use Rattle.paint.specs.Fast.{Given, sourceByte, direct, plainly}
 use Rattle.paint.proofs.Owners.{byte-of, of-byte}
 use Rattle.paint.proofs.Settle.{Settled, settled, tally, counted}
 use Rattle.paint.proofs.Frame.{Bytes}
 use Rattle.paint.proofs.TaskLaws.{can-pixel}
-use Rattle.paint.proofs.Even.{not-true}
+use Rattle.paint.proofs.MixLaws.{not-true, direct-mixed}
 use Rattle.paint.proofs.Order.{Reads, giving-local}
 
 pub record PlainCopy (t : Task) : Type 0 where
@@ -81,12 +79,8 @@ module _ (t : Task) (plain : PlainCopy t) where
       ∙ ap (λ (b : ℕ). source (converted (t .from .bytes) b v) false false) (sym (plain .format))
       ∙ ap (λ (u : ℕ). source u false false) (converted-same (t .from .bytes) v)
 
-  plain-mixed : (pattern v old : ℕ) → v < 2 ^ 32 → mixed (t .ink) pattern (source v false false) old ≡ some v
-  unfolding mixed chosen
-  plain-mixed pattern v old word =
-      ap {B = Option ℕ} (λ (k : Bool). some (ropBits 32 (chosen (t .ink) false (k && keyMatch (t .ink .target .bytes) (t .ink .dstMin) (t .ink .dstMax) old)) pattern v old)) (plain .targetKey)
-      ∙ ap {B = Option ℕ} (λ (code : ℕ). some (ropBits 32 code pattern v old)) (plain .operation)
-      ∙ ap {B = Option ℕ} some (copies 32 pattern v old ∙ mod-eq-of-lt word)
+  plain-direct : direct (t .ink) ≡ true
+  plain-direct = ap₂ (λ (c : ℕ) (k : Bool). eqb c 0xcc && not k) (plain .operation) (plain .targetKey)
 
 pub plain-gives : (t : Task) (pattern m now : List ℕ) (p : Px) → PlainCopy t → 0 < t .ink .target .bytes → t .ink .target .bytes < 5 → Bytes m
     → giving t pattern m now p ≡ some (readPx m (t .from) (sourcePlace t p .x) (sourcePlace t p .y))
@@ -99,7 +93,7 @@ plain-gives t pattern m now p plain some-byte four bytes =
     let old = readPx now (t .ink .target) (p .x) (p .y) in
     ap (λ (s : Source). mixed (t .ink) pv s old)
     (plain-source t plain (patternBit pattern (patternColumn (t .ink) (p .x)) (patternRow (t .ink) (p .y))) v m p (omega (arith, plain .format)) refl)
-    ∙ plain-mixed t plain pv v old word
+    ∙ direct-mixed (t .ink) pv v old false (plain-direct t plain) word
 
 -- ---- bytes read at one place and written at another
 module _ (at to : ℕ → ℕ) (m : List ℕ) (bytes : Bytes m) where

@@ -1,12 +1,12 @@
 -- Laws of a rectangle's pixels: what one is given, by the numbers that the loop has; and that a rectangle that can be painted has its rows ready.
 -- Assumes nothing.
-use mathlib.Core.Path.{_≡_, refl, sym, ap, ap₂, _∙_}
-use mathlib.Core.Bool.{Bool, true, false}
+use mathlib.Core.Path.{_≡_}
+use mathlib.Core.Bool.{false}
 use mathlib.Core.List.{List}
 use Prim.Native.Nat.{ℕ, _+_, _-_, _^_, _<_, _≤_}
 use native.Mathlib.Omega.{arith}
 use lib.ListN.{getD}
-use Rattle.surface.specs.Place.{readPx, onSurface, OnColour}
+use Rattle.surface.specs.Place.{OnColour}
 use Rattle.surface.specs.Pixels.{Px, px, rect, Inside}
 use Rattle.surface.proofs.Rects.{rect-in}
 use Rattle.surface.proofs.Corner.{all-each}

@@ -7,11 +7,9 @@ use mathlib.Core.List.{List, map}
 use mathlib.Core.Option.{Option}
 use Prim.Native.Nat.{ℕ, _+_, _-_, _^_, _≤_, _<_}
 use lib.Dec.{eqb, ltb}
-use Rattle.surface.specs.declared.Surface.{Surface}
 use Rattle.surface.specs.Place.{readPx, monoBit, onSurface, Small, Colour, OnColour}
 use Rattle.surface.specs.Pixels.{Px, px, rect}
 use Rattle.surface.specs.Span.{allOn, spanOf, meet}
-use Rattle.paint.specs.declared.Ink.{Ink}
 use Rattle.paint.specs.declared.Source.{Source}
 use Rattle.paint.specs.declared.Task.{Task}
 use Rattle.paint.specs.Paint.{Touch, touch}

@@ -11,6 +11,7 @@ use lib.ListN.{length, getD}
 use Rattle.surface.specs.declared.Surface.{Surface}
 use Rattle.surface.specs.Place.{byteOf, readPx, Colour, OnColour}
 use Rattle.surface.specs.Pixels.{Px, Inside}
+use Rattle.paint.specs.declared.Ink.{Ink}
 use Rattle.paint.specs.declared.Task.{Task}
 use Rattle.paint.specs.Paint.{Touch, touch}
 use Rattle.paint.specs.Mix.{mixed}
@@ -33,6 +34,10 @@ evenly v ps = map (λ p. touch p (λ now. some v)) ps
 -- a fill that gives each pixel colorFore: raster operation CC, no target key, nothing left unwritten
 abbrev pub solid : Task → Bool
 solid t = ((not (t .copies) && eqb (t .ink .rop0) 0xcc) && not (t .ink .dstKey)) && not (t .ink .clear && t .ink .mono)
+
+-- a pixel gets its source, where the source matches no key: raster operation CC, no target key
+abbrev pub direct : Ink → Bool
+direct ink = eqb (ink .rop0) 0xcc && not (ink .dstKey)
 
 -- a copy that moves the bytes of its source: raster operation CC, no keys, one format
 abbrev pub plainly : Task → Bool

@@ -11,7 +11,7 @@ ghost use Rattle.paint.specs.Mix.{source, colourSource, bitSource, fillS
 ghost use Rattle.paint.specs.Pattern.{patternColumn, patternRow, patternBit, patternPixel, patternIn, patternValue, Cell, RowOf};
 ghost use Rattle.paint.specs.Clip.{inClip, Bits12};
 ghost use Rattle.paint.specs.Copy.{sourceBy, asBefore, inTurn, backward, nth, HasSource, RowReady, CanPaint, Orderly};
-ghost use Rattle.paint.specs.Fast.{inRow, evenly, solid, plainly, Shifted, Given, sourceByte, toRow, fromRow, RowOn, RectOn, Run, Up, Down, RowMoves, Moves};
+ghost use Rattle.paint.specs.Fast.{inRow, evenly, solid, direct, plainly, Shifted, Given, sourceByte, toRow, fromRow, RowOn, RectOn, Run, Up, Down, RowMoves, Moves};
 
 // What does not change within a command: the target, the colours, the four raster operations, the two keys, and how the pattern lies.
 pub struct Ink {
@@ -238,6 +238,13 @@ fn matches_target(ink: Ink, old: u32) -> bool
         return colour::key_match(ink.target.bytes, ink.dstMin, ink.dstMax, old);
     }
     false
+}
+
+// Whether a pixel gets its source, where the source matches no key.
+pub fn is_direct(ink: Ink) -> bool
+    ensures { λ r. ⌜ r ≡ direct ink ⌝ }
+{
+    (ink.rop0 == 0xcc) & !ink.dstKey
 }
 
 // The one store: the pixel is given what pattern, source and target make, and counted, or it is left.

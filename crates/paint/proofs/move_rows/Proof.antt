@@ -2,11 +2,10 @@
 -- Assumes nothing.
 use native.Mathlib.Omega.{arith}
 use mathlib.Core.Path.{_≡_, refl, subst}
-use Prim.Native.Nat.{ℕ, _+_, _-_, _*_, _<_, _≤_}
-use lib.ListN.{length}
+use Prim.Native.Nat.{ℕ, _-_, _*_, _≤_}
 use borrow.Author.Needs.{needs}
 use Rattle.surface.proofs.Bytes.{product-lt}
-use Rattle.paint.specs.Fast.{Shifted, Given, sourceByte, toRow, fromRow, RowMoves}
+use Rattle.paint.specs.Fast.{Given, sourceByte}
 use Rattle.paint.proofs.Turns.{nth-in}
 use Rattle.paint.proofs.Runs.{given-none}
 use Rattle.paint.proofs.Moves.{doneTop, done-all, row-moves, next-row}

@@ -1,17 +1,14 @@
 -- `paint::paint_across` meets its contract: what remains of the row, painted on the memory now, is the row painted on the memory at the start.
 -- Assumes nothing.
 use native.Mathlib.Omega.{arith}
-use mathlib.Core.Path.{_≡_, refl, sym, ap, subst, _∙_}
-use mathlib.Core.Option.{Option}
-use mathlib.Core.List.{List, map}
-use Prim.Native.Nat.{ℕ, _+_, _-_, _<_, _≤_}
+use mathlib.Core.Path.{_≡_, refl, ap, _∙_}
+use mathlib.Core.List.{List}
+use Prim.Native.Nat.{_+_, _-_, _≤_}
 use lib.ListN.{length}
 use borrow.Author.Needs.{needs}
-use Rattle.surface.specs.Pixels.{Px, px, across}
-use Rattle.paint.specs.Paint.{state, Touch, touch, dab, paint}
-use Rattle.paint.specs.Copy.{HasSource}
+use Rattle.surface.specs.Pixels.{Px, across}
+use Rattle.paint.specs.Paint.{state, touch, paint}
 use Rattle.paint.specs.Fast.{rowGiving, inRow}
-use Rattle.paint.specs.Mix.{Ready}
 use Rattle.paint.proofs.Turns.{row-left, row-whole, row-again, row-ends, nth-in}
 use Rattle.paint.proofs.paint_across.Statement.{statement}
 use Rattle.paint.proofs.paint_across.Tie as tie

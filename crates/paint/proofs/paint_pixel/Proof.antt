@@ -1,8 +1,6 @@
 -- `paint::paint_pixel` meets its contract: the source is read before the store.
 -- Assumes nothing.
 use borrow.Author.Needs.{needs}
-use native.Mathlib.Omega.{arith}
-use mathlib.Core.Path.{_≡_}
 use Rattle.paint.proofs.paint_pixel.Statement.{statement}
 use Rattle.paint.proofs.paint_pixel.Tie as tie
 

@@ -1,6 +1,6 @@
 -- `paint::paint_row` meets its contract: the pattern's row gives each pixel what the pattern does.
 -- Assumes nothing.
-use mathlib.Core.Path.{_≡_, sym, ap, _∙_}
+use mathlib.Core.Path.{sym, ap, _∙_}
 use Prim.Native.Nat.{ℕ}
 use borrow.Author.Needs.{needs}
 use Rattle.surface.specs.Pixels.{across}

@@ -1,7 +1,5 @@
 -- `paint::pattern_bit` meets its contract.
 -- Assumes nothing.
-use mathlib.Core.Path.{_≡_, ap, _∙_}
-use Prim.Native.Nat.{ℕ, _-_, _/_, _%_, _^_}
 use borrow.Author.Needs.{needs}
 use Rattle.paint.specs.Pattern.{patternBit}
 use Rattle.paint.proofs.pattern_bit.Statement.{statement}

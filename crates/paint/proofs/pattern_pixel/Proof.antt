@@ -2,12 +2,11 @@
 -- Assumes nothing.
 use borrow.Author.Needs.{needs}
 use native.Mathlib.Omega.{arith}
-use mathlib.Core.Path.{_≡_, ap}
+use mathlib.Core.Path.{ap}
 use Prim.Native.Nat.{ℕ, _+_, _*_}
 use native.Mathlib.Nat.{add-zero}
 use lib.ListN.{getD}
 use Rattle.surface.specs.Place.{readBytes}
-use Rattle.paint.specs.Pattern.{patternPixel}
 use Rattle.paint.proofs.PatternLaws.{in-pattern, pixel-of}
 use Rattle.paint.proofs.pattern_pixel.Statement.{statement}
 use Rattle.paint.proofs.pattern_pixel.Tie as tie

@@ -1,7 +1,6 @@
 -- `paint::place` meets its contract: by the direction.
 -- Assumes nothing.
 use borrow.Author.Needs.{needs}
-use native.Mathlib.Omega.{arith}
 use Rattle.paint.proofs.place.Statement.{statement}
 use Rattle.paint.proofs.place.Tie as tie
 

@@ -1,8 +1,8 @@
 -- `paint::run_down` meets its contract: a byte is read before it is overwritten.
 -- Assumes nothing.
 use native.Mathlib.Omega.{arith}
-use mathlib.Core.Path.{_≡_, refl, subst}
-use Prim.Native.Nat.{ℕ, _+_, _-_, _<_, _≤_}
+use mathlib.Core.Path.{_≡_, subst}
+use Prim.Native.Nat.{ℕ, _-_, _≤_}
 use borrow.Author.Needs.{needs}
 use Rattle.paint.specs.Fast.{Shifted}
 use Rattle.paint.proofs.Runs.{none-shifted, down-next}

@@ -1,15 +1,13 @@
 -- `paint::solid_row` meets its contract: what remains of the row, painted on the memory now, is the row painted on the memory at the start.
 -- Assumes nothing.
 use native.Mathlib.Omega.{arith}
-use mathlib.Core.Path.{_≡_, refl, ap, ap₂, _∙_}
+use mathlib.Core.Path.{_≡_, refl, _∙_}
 use mathlib.Core.Bool.{false}
-use mathlib.Core.List.{List}
-use mathlib.Core.Option.{some}
-use Prim.Native.Nat.{ℕ, _+_, _-_, _<_, _≤_}
+use Prim.Native.Nat.{_+_, _-_, _≤_}
 use lib.ListN.{length}
 use borrow.Author.Needs.{needs}
-use Rattle.surface.specs.Pixels.{Px, across}
-use Rattle.paint.specs.Paint.{state, touch, dab, paint}
+use Rattle.surface.specs.Pixels.{across}
+use Rattle.paint.specs.Paint.{state, paint}
 use Rattle.paint.specs.Fast.{evenly}
 use Rattle.paint.proofs.Turns.{row-left}
 use Rattle.paint.proofs.Even.{even-start, even-again, even-ends}

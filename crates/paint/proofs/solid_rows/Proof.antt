@@ -2,16 +2,13 @@
 -- Assumes nothing.
 use native.Mathlib.Omega.{arith}
 use native.Mathlib.Nat.{add-mul}
-use mathlib.Core.Path.{_≡_, refl, sym, ap, subst, _∙_}
-use mathlib.Core.Bool.{false}
-use Prim.Native.Nat.{ℕ, _+_, _-_, _*_, _<_, _≤_}
-use lib.ListN.{length}
+use mathlib.Core.Path.{_≡_, refl, ap, subst, _∙_}
+use Prim.Native.Nat.{ℕ, _-_, _*_, _<_, _≤_}
 use borrow.Author.Needs.{needs}
-use Rattle.surface.specs.Place.{byteOf}
 use Rattle.surface.specs.Pixels.{rect}
 use Rattle.surface.proofs.Bytes.{product-lt}
-use Rattle.paint.specs.Paint.{state, paint}
-use Rattle.paint.specs.Fast.{Shifted, Given, evenly}
+use Rattle.paint.specs.Paint.{paint}
+use Rattle.paint.specs.Fast.{Given}
 use Rattle.paint.proofs.Even.{byteNumber}
 use Rattle.paint.proofs.EvenRows.{row-run, row-free, one-row-more, row-itself, row-counts, whole-made}
 use Rattle.paint.proofs.solid_rows.Statement.{statement}
