@@ -1,16 +1,14 @@
 """A proof sheet of three picture discs as a recorded stream of register writes, for the program that prints pictures.
 
-python3 tools/demo.py docs/demo.stream                writes the stream: pairs of little-endian words, offset then data
-python3 tools/demo.py docs/demo.stream docs/demo.png  plays it on the model too, and writes the picture, enlarged
+python3 tools/demo.py docs/demo.stream    writes it: pairs of little-endian words, offset then data
 """
 
 import math
 import struct
 import sys
-import zlib
 from typing import Callable
 
-from model import OFFSETS, play
+from model import OFFSETS
 
 Colour = tuple[float, float, float]  # red, green, blue, 0 to 255
 Shade = Callable[[float, float], Colour]  # a picture over the unit square, v downward
@@ -313,28 +311,8 @@ def proof_sheet() -> Stream:
     return sheet
 
 
-def png(ppm: str, scale: int) -> bytes:
-    """A plain PPM as a PNG, each pixel a square."""
-    _, size, _, *lines = ppm.splitlines()
-    width, height = (int(part) for part in size.split())
-    pixels = [bytes(int(part) for part in line.split()) * scale for line in lines]
-    rows = [b"\0" + b"".join(pixels[y * width:(y + 1) * width]) for y in range(height)]
-
-    def chunk(kind: bytes, data: bytes) -> bytes:
-        return struct.pack(">I", len(data)) + kind + data + struct.pack(">I", zlib.crc32(kind + data))
-
-    head = struct.pack(">IIBBBBB", width * scale, height * scale, 8, 2, 0, 0, 0)
-    data = zlib.compress(b"".join(row * scale for row in rows), 9)
-    return b"\x89PNG\r\n\x1a\n" + chunk(b"IHDR", head) + chunk(b"IDAT", data) + chunk(b"IEND", b"")
-
-
 if __name__ == "__main__":
-    stream = proof_sheet()
+    if len(sys.argv) != 2:
+        sys.exit(__doc__.strip())
     with open(sys.argv[1], "wb") as out:
-        out.write(stream.bytes())
-    if len(sys.argv) > 2:
-        ppm = play(stream.bytes())
-        if not ppm.startswith("P3"):
-            sys.exit(ppm)
-        with open(sys.argv[2], "wb") as out:
-            out.write(png(ppm, 3))
+        out.write(proof_sheet().bytes())

@@ -1,7 +1,8 @@
 """The picture of a recorded stream of register writes.
 
-  python3 tools/sheet.py STREAM PICTURE.ppm|PICTURE.png
+  python3 tools/sheet.py STREAM PICTURE.ppm|PICTURE.png [TIMES]
 
+TIMES enlarges a PNG: each pixel becomes a square of so many pixels a side.
 STREAM holds pairs of little-endian 32-bit words, offset then data. The proved program target/bin/sheet plays them on
 65,536 zero bytes; it is built first where it is missing or older than its sources (`rt check sheet`). Where the
 program prints a fault and no picture, nothing is written, the fault is said in a sentence, and the exit status is 1.
@@ -100,21 +101,23 @@ def meaning(text: str) -> str | None:
     }.get(text)
 
 
-def png(text: str) -> bytes:
-    """A plain PPM of 8-bit channels as a PNG."""
+def png(text: str, times: int = 1) -> bytes:
+    """A plain PPM of 8-bit channels as a PNG, each pixel a square."""
     numbers = [int(word) for word in text.split()[1:]]
     width, height, values = numbers[0], numbers[1], bytes(numbers[3:])
-    rows = b"".join(b"\0" + values[y * 3 * width:(y + 1) * 3 * width] for y in range(height))
+    pixels = [values[at:at + 3] * times for at in range(0, len(values), 3)]
+    rows = b"".join((b"\0" + b"".join(pixels[y * width:(y + 1) * width])) * times for y in range(height))
 
     def chunk(kind: bytes, body: bytes) -> bytes:
         return struct.pack(">I", len(body)) + kind + body + struct.pack(">I", zlib.crc32(kind + body))
 
-    head = struct.pack(">IIBBBBB", width, height, 8, 2, 0, 0, 0)
+    head = struct.pack(">IIBBBBB", width * times, height * times, 8, 2, 0, 0, 0)
     return b"\x89PNG\r\n\x1a\n" + chunk(b"IHDR", head) + chunk(b"IDAT", zlib.compress(rows, 9)) + chunk(b"IEND", b"")
 
 
 def main(words: list[str]) -> None:
-    if len(words) != 2 or not words[1].lower().endswith((".ppm", ".png")):
+    times = words.pop() if len(words) == 3 and words[1].lower().endswith(".png") else "1"
+    if len(words) != 2 or not words[1].lower().endswith((".ppm", ".png")) or not re.fullmatch("[1-9][0-9]?", times):
         print(__doc__.strip(), file=sys.stderr)
         sys.exit(2)
     try:
@@ -127,7 +130,7 @@ def main(words: list[str]) -> None:
     fault = meaning(text)
     if fault:
         sys.exit(fault)
-    body = png(text) if words[1].lower().endswith(".png") else text.encode()
+    body = png(text, int(times)) if words[1].lower().endswith(".png") else text.encode()
     try:
         Path(words[1]).write_bytes(body)
     except OSError as error:

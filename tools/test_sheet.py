@@ -152,11 +152,11 @@ class Program(unittest.TestCase):
 
 
 class Tool(unittest.TestCase):
-    def run_tool(self, stream: bytes, name: str) -> tuple[int, str, bytes | None]:
+    def run_tool(self, stream: bytes, name: str, *more: str) -> tuple[int, str, bytes | None]:
         with tempfile.TemporaryDirectory() as folder:
             source, picture = Path(folder) / "stream", Path(folder) / name
             source.write_bytes(stream)
-            run = subprocess.run([sys.executable, TOOL, source, picture], capture_output=True, text=True, check=False)
+            run = subprocess.run([sys.executable, TOOL, source, picture, *more], capture_output=True, text=True, check=False)
             return run.returncode, run.stderr, picture.read_bytes() if picture.exists() else None
 
     def test_a_ppm(self):
@@ -178,6 +178,16 @@ class Tool(unittest.TestCase):
         rows = zlib.decompress(chunks[b"IDAT"])
         values = [value for y in range(8) for value in rows[y * 25 + 1:y * 25 + 25]]
         self.assertEqual(values, [int(word) for word in model.play(NAMED["24 bpp"]).split()[4:]])
+
+    def test_an_enlarged_png(self):
+        status, _, body = self.run_tool(NAMED["24 bpp"], "a.png", "3")
+        at = body.index(b"IDAT")
+        rows = zlib.decompress(body[at + 4:at + 4 + int.from_bytes(body[at - 4:at], "big")])
+        values = [int(word) for word in model.play(NAMED["24 bpp"]).split()[4:]]
+        wanted = [values[(y // 3 * 8 + x // 3) * 3 + c] for y in range(24) for x in range(24) for c in range(3)]
+        self.assertEqual((status, [value for y in range(24) for value in rows[y * 73 + 1:y * 73 + 73]]), (0, wanted))
+        for times in ("0", "x", "100"):
+            self.assertEqual(self.run_tool(NAMED["24 bpp"], "a.png", times)[::2], (2, None))
 
     def test_faults_are_said_and_nothing_is_written(self):
         for name, said in (("answer 7", "refused with answer 7"), ("seven bytes", "ends inside a write"), ("no input", "no picture")):

@@ -9,7 +9,7 @@ use lib.ListN.{length, length-replicate}
 use Rattle.engine.specs.declared.Engine.{Engine}
 use Rattle.engine.specs.declared.Answer.{Answer}
 use Rattle.engine.specs.Step.{Step, step, numberOf, written}
-use Rattle.engine.proofs.Frame.{write-within}
+use Rattle.engine.proofs.Frame.{write-left}
 use Rattle.picture.specs.declared.Player.{Player}
 use Rattle.picture.specs.Text.{each}
 use Rattle.picture.specs.Player.{Sheet, sheet, shifted, counted, wrote, arrived, taken, fed, start}
@@ -31,7 +31,7 @@ taken-long b s = by-test (eqb (s .player .refused) 0) (ltb (s .player .held) 7)
         → length (cond t (cond u (sheet (record { engine = s .player .engine; window = window; held = s .player .held + 1; played = s .player .played; refused = 0 }) (s .memory))
         (wrote (s .player) window (written (s .player .engine) (s .memory) (window % 2 ^ 32) (window / 2 ^ 32)))) s .memory) ≡ length (s .memory)
     by-test true true = refl
-    by-test true false = write-within (s .player .engine) (s .memory) (window % 2 ^ 32) (window / 2 ^ 32) .long
+    by-test true false = write-left (s .player .engine) (s .memory) (window % 2 ^ 32) (window / 2 ^ 32) .long
     by-test false u = refl
 
 pub fed-long : (bytes : List ℕ) (s : Sheet) → length (fed bytes s .memory) ≡ length (s .memory)
