@@ -9,7 +9,8 @@ from pathlib import Path
 from model import Engine
 
 SOURCE = Path(__file__).resolve().parent.parent / "crates/note/src/main.rt"
-WRITE = re.compile(r'put(_aloud)?\(\s*(?:b"([^"]*)",\s*)?e,\s*&mut mem,\s*(\w+),\s*(\w+),?\s*\)|say_number\(\s*b"(bytes [^"]*)"')
+WRITE = re.compile(r'put(_aloud)?\(\s*(?:b"([^"]*)",\s*)?e,\s*mem,\s*(\w+),\s*(\w+),?\s*\)')
+PARTS = {"save": None, "draw_note": "bytes that the note changed: ", "put_back": "bytes outside the place aside that differ: "}
 
 
 def play(name: str, form: int, stride: int, size: int) -> None:
@@ -18,14 +19,14 @@ def play(name: str, form: int, stride: int, size: int) -> None:
     start = bytes(mem)
     aside = {1024 + y * stride + x for y in range(9) for x in range(13 * size)}
     engine = Engine(2048)
-    body = SOURCE.read_text().split("fn save_and_restore")[1].split("fn main")[0]
-    for aloud, text, offset, word, count in WRITE.findall(body):
-        if count:
-            print(count + str(sum(a not in aside and start[a] != mem[a] for a in range(2048))))
-            continue
-        number, pixels = engine.write(mem, int(offset, 0), form if word == "format" else int(word, 0))
-        if aloud:
-            print(text + ("refused" if number else f"taken, pixels {pixels}"))
+    for part, differ in PARTS.items():
+        body = SOURCE.read_text().split(f"fn {part}(")[1].split("\n}")[0]
+        for aloud, text, offset, word in WRITE.findall(body):
+            number, pixels = engine.write(mem, int(offset, 0), form if word == "format" else int(word, 0))
+            if aloud:
+                print(text + ("refused" if number else f"taken, pixels {pixels}"))
+        if differ:
+            print(differ + str(sum(a not in aside and start[a] != mem[a] for a in range(2048))))
 
 
 play("16 bits a pixel", 0x30028, 40, 2)

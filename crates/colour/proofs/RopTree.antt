@@ -1,7 +1,7 @@
 -- The raster operation as the code does it, by seven choices between masks, is the raster operation bit by bit, at every width.
 -- Assumes nothing.
 use mathlib.Core.Path.{_≡_, refl, sym, ap, _∙_}
-use Prim.Native.Nat.{ℕ, zero, suc, _+_, _-_, _*_, _/_, _%_, _^_}
+use Prim.Native.Nat.{ℕ, zero, suc, _-_, _*_, _/_, _%_, _^_}
 use native.Mathlib.Nat.{div-add-mod', mul-zero, pow-suc}
 use native.Mathlib.Omega.{arith}
 use lib.Pow.{pow-pos}

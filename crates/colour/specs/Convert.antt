@@ -2,7 +2,7 @@
 -- channel, blue lowest; 4 has a top byte above them); 0 is mono.
 -- Assumes nothing.
 use Prim.Native.Nat.{ℕ, _+_, _-_, _*_, _/_, _%_, _^_}
-use mathlib.Core.Bool.{Bool, cond, _&&_, _||_}
+use mathlib.Core.Bool.{Bool, cond, _&&_}
 use lib.Dec.{eqb, leb}
 
 -- k bits widened to eight: the bits, and below them their top ones again

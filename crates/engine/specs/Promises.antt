@@ -164,7 +164,7 @@ Paints (some r) ts m s = (s .memory ≡ paint (target r) ts (state m 0) .mem) ×
 abbrev pub CountsWritten : Type 0
 CountsWritten = (e : Engine) (m : List ℕ) (o d : ℕ) → numberOf (written e m o d .answer) ≡ 0 → Paints (order e o d) (touchesOf e m o d) m (written e m o d)
 
--- a copy, a fill and a line touch their covered pixels, each once and in order; a host blit's word touches some of its covered pixels
+-- a copy, a fill and a line touch their covered pixels, in order; a host blit's word touches some of its covered pixels
 abbrev pub TouchesCovered : Type 0
 TouchesCovered = (e : Engine) (m : List ℕ) (o d : ℕ) (r : Regs) → order e o d ≡ some r → (number r ≡ 3 → ⊥) → map (λ t. t .at) (touchesOf e m o d) ≡ coveredBy r
 

@@ -73,64 +73,86 @@ fn differ(start: &[u8; 2048], mem: &[u8; 2048], stride: usize, bytes: usize) -> 
 }
 
 // The sheet lies at byte 0, the place aside at byte 1024, on a surface of the same step and format; the rectangle is 13 by 9 pixels from (3, 2).
+fn save(e: Engine, mem: &mut [u8; 2048], format: u32) -> Engine {
+    let e = put(e, mem, 0x10, 1024);
+    let e = put(e, mem, 0x14, format);
+    let e = put(e, mem, 0x34, 0);
+    let e = put(e, mem, 0x54, format);
+    let e = put(e, mem, 0x08, 0);
+    let e = put(e, mem, 0x0c, 0x10_0014);
+    let e = put(e, mem, 0x68, 0x9_000d);
+    let e = put(e, mem, 0x6c, 0);
+    let e = put(e, mem, 0x70, 0xcc00_0001);
+    put_aloud(b"copy aside: ", e, mem, 0x80, 0x2_0003)
+}
+
+// A fill, a glyph, a line and a stippled polyline, all inside the rectangle, and two writes that are refused.
+fn draw_note(e: Engine, mem: &mut [u8; 2048]) -> Engine {
+    let e = put(e, mem, 0x10, 0);
+    let e = put(e, mem, 0x08, 0x2_0003);
+    let e = put(e, mem, 0x0c, 0xb_0010);
+    let e = put(e, mem, 0x64, 0xff_ee80);
+    let e = put(e, mem, 0x60, 0x40);
+    let e = put(e, mem, 0x70, 0xcc00_0005);
+    let e = put_aloud(b"fill: ", e, mem, 0x80, 0x2_0003);
+    let e = put(e, mem, 0x64, 0x12_3456);
+    let e = put(e, mem, 0x54, 0x40_0000);
+    let e = put(e, mem, 0x5c, 0);
+    let e = put(e, mem, 0x68, 0x7_000b);
+    let e = put(e, mem, 0x6c, 0x3_0004);
+    let e = put(e, mem, 0x70, 0xcc01_0003);
+    let e = put_aloud(b"glyph, word 1: ", e, mem, 0x80, 0x60c0_2080);
+    let e = put_aloud(b"glyph, word 2: ", e, mem, 0x80, 0x60c4_60c0);
+    let e = put_aloud(b"a register while the glyph waits: ", e, mem, 0x64, 0);
+    let e = put_aloud(b"glyph, word 3: ", e, mem, 0x80, 0x803b_c06e);
+    let e = put_aloud(b"glyph, word 4: ", e, mem, 0x80, 0x11);
+    let e = put(e, mem, 0x5c, 0);
+    let e = put(e, mem, 0x70, 0xcc00_0006);
+    let e = put_aloud(b"line: ", e, mem, 0x80, 0xa_000f);
+    let e = put(e, mem, 0x3c, 0x17);
+    let e = put(e, mem, 0x40, 0x501);
+    let e = put(e, mem, 0x70, 0x5a00_1007);
+    let e = put_aloud(b"stippled polyline: ", e, mem, 0x80, 0x3_0000);
+    put_aloud(b"a write past the registers: ", e, mem, 0x200, 0)
+}
+
+fn put_back(e: Engine, mem: &mut [u8; 2048], format: u32) -> Engine {
+    let e = put(e, mem, 0x34, 1024);
+    let e = put(e, mem, 0x54, format);
+    let e = put(e, mem, 0x68, 0x9_000d);
+    let e = put(e, mem, 0x6c, 0x2_0003);
+    let e = put(e, mem, 0x70, 0xcc00_0001);
+    put_aloud(b"copy back: ", e, mem, 0x80, 0)
+}
+
+fn say_differ(text: &[u8], start: &[u8; 2048], mem: &[u8; 2048], stride: usize, bytes: usize) {
+    say_number(text, differ(start, mem, stride, bytes));
+    say(b"\n");
+}
+
 fn save_and_restore(name: &[u8], format: u32, stride: usize, bytes: usize) {
     say(name);
     let mut mem = [0u8; 2048];
     draw_sheet(&mut mem);
     let start = mem;
     let e = Engine::open(2048);
-    let e = put(e, &mut mem, 0x10, 1024);
-    let e = put(e, &mut mem, 0x14, format);
-    let e = put(e, &mut mem, 0x34, 0);
-    let e = put(e, &mut mem, 0x54, format);
-    let e = put(e, &mut mem, 0x08, 0);
-    let e = put(e, &mut mem, 0x0c, 0x10_0014);
-    let e = put(e, &mut mem, 0x68, 0x9_000d);
-    let e = put(e, &mut mem, 0x6c, 0);
-    let e = put(e, &mut mem, 0x70, 0xcc00_0001);
-    let e = put_aloud(b"copy aside: ", e, &mut mem, 0x80, 0x2_0003);
-    let e = put(e, &mut mem, 0x10, 0);
-    let e = put(e, &mut mem, 0x08, 0x2_0003);
-    let e = put(e, &mut mem, 0x0c, 0xb_0010);
-    let e = put(e, &mut mem, 0x64, 0xff_ee80);
-    let e = put(e, &mut mem, 0x60, 0x40);
-    let e = put(e, &mut mem, 0x70, 0xcc00_0005);
-    let e = put_aloud(b"fill: ", e, &mut mem, 0x80, 0x2_0003);
-    let e = put(e, &mut mem, 0x64, 0x12_3456);
-    let e = put(e, &mut mem, 0x54, 0x40_0000);
-    let e = put(e, &mut mem, 0x5c, 0);
-    let e = put(e, &mut mem, 0x68, 0x7_000b);
-    let e = put(e, &mut mem, 0x6c, 0x3_0004);
-    let e = put(e, &mut mem, 0x70, 0xcc01_0003);
-    let e = put_aloud(b"glyph, word 1: ", e, &mut mem, 0x80, 0x60c0_2080);
-    let e = put_aloud(b"glyph, word 2: ", e, &mut mem, 0x80, 0x60c4_60c0);
-    let e = put_aloud(b"a register while the glyph waits: ", e, &mut mem, 0x64, 0);
-    let e = put_aloud(b"glyph, word 3: ", e, &mut mem, 0x80, 0x803b_c06e);
-    let e = put_aloud(b"glyph, word 4: ", e, &mut mem, 0x80, 0x11);
-    let e = put(e, &mut mem, 0x5c, 0);
-    let e = put(e, &mut mem, 0x70, 0xcc00_0006);
-    let e = put_aloud(b"line: ", e, &mut mem, 0x80, 0xa_000f);
-    let e = put(e, &mut mem, 0x3c, 0x17);
-    let e = put(e, &mut mem, 0x40, 0x501);
-    let e = put(e, &mut mem, 0x70, 0x5a00_1007);
-    let e = put_aloud(b"stippled polyline: ", e, &mut mem, 0x80, 0x3_0000);
-    let e = put_aloud(b"a write past the registers: ", e, &mut mem, 0x200, 0);
-    say_number(
+    let e = save(e, &mut mem, format);
+    let e = draw_note(e, &mut mem);
+    say_differ(
         b"bytes that the note changed: ",
-        differ(&start, &mem, stride, bytes),
+        &start,
+        &mem,
+        stride,
+        bytes,
     );
-    say(b"\n");
-    let e = put(e, &mut mem, 0x34, 1024);
-    let e = put(e, &mut mem, 0x54, format);
-    let e = put(e, &mut mem, 0x68, 0x9_000d);
-    let e = put(e, &mut mem, 0x6c, 0x2_0003);
-    let e = put(e, &mut mem, 0x70, 0xcc00_0001);
-    put_aloud(b"copy back: ", e, &mut mem, 0x80, 0);
-    say_number(
+    put_back(e, &mut mem, format);
+    say_differ(
         b"bytes outside the place aside that differ: ",
-        differ(&start, &mem, stride, bytes),
+        &start,
+        &mem,
+        stride,
+        bytes,
     );
-    say(b"\n");
 }
 
 fn main() {

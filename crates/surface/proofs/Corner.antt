@@ -1,14 +1,14 @@
 -- Every pixel of a list on the surface, as one test; of a rectangle, decided at its last corner.
 -- Assumes nothing.
-use mathlib.Core.Path.{_≡_, refl, sym, ap, _∙_}
+use mathlib.Core.Path.{_≡_, refl, ap, _∙_}
 use mathlib.Core.Logic.{⊎-elim}
-use mathlib.Core.Bool.{Bool, true, false, _&&_}
+use mathlib.Core.Bool.{Bool, true, _&&_}
 use mathlib.Core.List.{List, [], _∷_, List·Memᴰ·head, List·Memᴰ·tail, List·Memᴰ·not-nil, List·Memᴰ·cases-cons}
-use Prim.Native.Nat.{ℕ, zero, suc, _+_, _-_, _<_, _≤_}
+use Prim.Native.Nat.{ℕ, _+_, _-_, _<_, _≤_}
 use native.Mathlib.Omega.{arith}
 use Rattle.surface.specs.declared.Surface.{Surface}
 use Rattle.surface.specs.Place.{onSurface}
-use Rattle.surface.specs.Pixels.{Px, px, across, rect, Inside}
+use Rattle.surface.specs.Pixels.{Px, px, across, rect}
 use Rattle.surface.specs.Span.{allOn}
 use Rattle.surface.proofs.OnLaws.{and-left, and-right, same-test, corner}
 use Rattle.surface.proofs.Lists.{In}

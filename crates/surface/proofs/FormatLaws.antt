@@ -1,11 +1,10 @@
 -- Laws of what a surface's words say: whatever they are, the surface is small; and a target that is named is no mono one.
 -- Assumes nothing.
-use mathlib.Core.Path.{_≡_, refl}
-use mathlib.Core.Bool.{Bool, true, false, cond, not, _&&_, _||_, false≢true}
+use mathlib.Core.Path.{_≡_}
+use mathlib.Core.Bool.{Bool, true, false, cond, not, _||_, false≢true}
 use Prim.Native.Nat.{ℕ, _+_, _*_, _/_, _%_, _^_, _<_, _≤_}
 use native.Mathlib.Omega.{arith}
 use lib.Dec.{eqb}
-use Rattle.surface.specs.declared.Surface.{Surface}
 use Rattle.surface.specs.Place.{Small, Colour}
 use Rattle.surface.specs.Format.{isTiled, targetCode, sourceCode, coloured, bytesOf, targetNamed, targetOf, sourceOf}
 use Rattle.surface.specs.Step.{packingOf, bitsPer, rowLength, stepOf}

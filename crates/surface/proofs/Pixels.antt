@@ -1,13 +1,12 @@
 -- A pixel's number and a pixel's write at a number of bytes that is known; what a write of one pixel leaves, and what is read after it.
 -- Assumes nothing.
-use mathlib.Core.Path.{_≡_, refl, sym, ap, _∙_}
-use mathlib.Core.Bool.{true}
+use mathlib.Core.Path.{_≡_, sym, ap}
 use mathlib.Core.List.{List}
 use Prim.Native.Nat.{ℕ, _+_, _*_, _/_, _%_, _^_, _<_}
 use native.Mathlib.Omega.{arith}
 use lib.ListN.{length, getD, set}
 use Rattle.surface.specs.declared.Surface.{Surface}
-use Rattle.surface.specs.Place.{rowBytes, byteOf, readBytes, writeBytes, readPx, writePx, rowPixels, onSurface, Colour, OnColour}
+use Rattle.surface.specs.Place.{rowBytes, byteOf, readBytes, writeBytes, readPx, writePx, rowPixels, OnColour}
 use Rattle.surface.proofs.Rows.{digits-same, byteAt-inj}
 use Rattle.surface.proofs.Bytes.{length-written, written-other, read-written, read-alike, read-fits}
 use Rattle.surface.proofs.OnLaws.{colour-first, colour-count, in-row, on-column, colour-byte}

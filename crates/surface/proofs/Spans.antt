@@ -1,16 +1,15 @@
 -- Spans: the lowest and the highest address of a list of pixels; of a rectangle, those of its two corners; and that a span holds every byte of its pixels.
 -- Assumes nothing.
 use mathlib.Core.Path.{_≡_, refl, sym, ap, ap₂, subst, _∙_}
-use mathlib.Core.Logic.{_⊎_, inl, inr, ⊎-elim}
-use mathlib.Core.Bool.{Bool, true}
-use mathlib.Core.List.{List, [], _∷_, _++_, List·Memᴰ, List·Memᴰ·head, List·Memᴰ·tail, List·Memᴰ·not-nil, List·Memᴰ·cases-cons, List·Memᴰ·append-cases, Memᴰ·append-left, Memᴰ·append-right, Memᴰ·cast}
-use Prim.Native.Nat.{ℕ, zero, suc, _+_, _-_, _<_, _≤_, min, max}
-use native.Mathlib.Nat.{le-refl, le-antisymm, add-zero}
+use mathlib.Core.Logic.{_⊎_, ⊎-elim}
+use mathlib.Core.Bool.{Bool}
+use mathlib.Core.List.{List, [], _∷_, List·Memᴰ, List·Memᴰ·head, List·Memᴰ·tail, List·Memᴰ·not-nil, List·Memᴰ·cases-cons, List·Memᴰ·append-cases, Memᴰ·append-left, Memᴰ·append-right, Memᴰ·cast}
+use Prim.Native.Nat.{ℕ, zero, suc, _+_, _-_, _<_, _≤_}
+use native.Mathlib.Nat.{le-antisymm, add-zero}
 use native.Mathlib.Omega.{arith}
-use native.Mathlib.Decide.{decLe, ℕ-discrete}
+use native.Mathlib.Decide.{decLe}
 use Rattle.surface.specs.declared.Surface.{Surface}
-use Rattle.surface.specs.declared.Span.{Span}
-use Rattle.surface.specs.Place.{rowBytes, byteAt, rowPixels, firstByte, byteCount}
+use Rattle.surface.specs.Place.{byteAt, rowPixels, firstByte, byteCount}
 use Rattle.surface.specs.Pixels.{Px, px, rect, Inside}
 use Rattle.surface.specs.Span.{addressesOf, addresses, span, lowest, highest, spanned, spanOf}
 use Rattle.surface.proofs.Rows.{byteAt-mono}

@@ -1,17 +1,17 @@
 -- Laws of the row view: a refused one is empty, a given one is not, and its length is width times bytes.
 -- Assumes nothing.
 use mathlib.Core.Path.{_≡_, refl, sym, ap, subst, _∙_}
-use mathlib.Core.Bool.{Bool, true, false, cond, not, _&&_, _||_}
-use mathlib.Core.List.{List, [], _∷_, _++_, append-nil}
-use Prim.Native.Nat.{ℕ, _+_, _*_, _-_, _%_, _^_, _<_, _≤_}
+use mathlib.Core.Bool.{Bool, true, false, cond, not, _||_}
+use mathlib.Core.List.{List, [], append-nil}
+use Prim.Native.Nat.{ℕ, _+_, _*_, _-_, _^_, _<_, _≤_}
 use native.Mathlib.Nat.{add-mul, add-zero, one-mul, mul-pos}
 use native.Mathlib.Omega.{arith}
 use lib.Dec.{eqb, ltb}
 use lib.ListN.{length, take, drop, length-take, length-drop}
-use borrow.Author.Tests.{eq-eqb, ne-eqb, eqb-true, eqb-false, ltb-false}
+use borrow.Author.Tests.{eq-eqb, ne-eqb, eqb-false, ltb-false}
 use Rattle.surface.specs.declared.Surface.{Surface}
-use Rattle.surface.specs.Place.{byteAt, byteOf, onSurface, firstByte, byteCount, Small, Colour, OnColour}
-use Rattle.surface.specs.Pixels.{Px, across, rect}
+use Rattle.surface.specs.Place.{byteAt, byteOf, OnColour}
+use Rattle.surface.specs.Pixels.{across, rect}
 use Rattle.surface.specs.Span.{allOn}
 use Rattle.surface.specs.Format.{targetNamed, targetOf}
 use Rattle.surface.specs.View.{viewAnswer, viewed}

@@ -1,6 +1,6 @@
 -- The step from one row of a source to the next, and how much data a host blit needs.
 -- Assumes nothing.
-use mathlib.Core.Bool.{Bool, cond, _||_}
+use mathlib.Core.Bool.{cond, _||_}
 use Prim.Native.Nat.{ℕ, _+_, _*_, _/_, _%_, _-_, _^_, _<_}
 use lib.Dec.{eqb}
 

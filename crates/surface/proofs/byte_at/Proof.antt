@@ -2,8 +2,6 @@
 -- Assumes nothing.
 use borrow.Author.Needs.{needs}
 use native.Mathlib.Omega.{arith}
-use mathlib.Core.Path.{_≡_}
-use Prim.Native.Nat.{_*_, _<_, _^_}
 use Rattle.surface.specs.Place.{byteAt}
 use Rattle.surface.proofs.Bytes.{product-lt}
 use Rattle.surface.proofs.byte_at.Statement.{statement}

@@ -2,7 +2,6 @@
 -- Assumes nothing.
 use borrow.Author.Needs.{needs}
 use native.Mathlib.Omega.{arith}
-use Prim.Native.Nat.{_*_, _<_, _^_}
 use Rattle.surface.specs.Place.{byteOf}
 use Rattle.surface.proofs.Bytes.{product-lt}
 use Rattle.surface.proofs.byte_of.Statement.{statement}

@@ -2,10 +2,7 @@
 -- Assumes nothing.
 use borrow.Author.Needs.{needs}
 use native.Mathlib.Omega.{arith}
-use mathlib.Core.Path.{_≡_, sym, ap, subst, _∙_}
-use Prim.Native.Nat.{ℕ, _+_, _/_, _%_, _-_, _^_, _<_}
-use lib.ListN.{length, getD}
-use Rattle.surface.specs.Place.{monoBit, byteAt}
+use Rattle.surface.specs.Place.{monoBit}
 use Rattle.surface.proofs.OnLaws.{mono-byte}
 use Rattle.surface.proofs.get_bit.Statement.{statement}
 use Rattle.surface.proofs.get_bit.Tie as tie

@@ -3,8 +3,6 @@
 use borrow.Author.Needs.{needs}
 use native.Mathlib.Omega.{arith}
 use borrow.Author.Tests.{eq-eqb, ne-eqb}
-use mathlib.Core.Path.{_≡_}
-use Prim.Native.Nat.{_+_, _*_, _-_, _<_, _^_}
 use Rattle.surface.specs.Place.{firstByte, byteCount}
 use Rattle.surface.proofs.Bytes.{product-lt}
 use Rattle.surface.proofs.last_byte.Statement.{statement}

@@ -2,7 +2,7 @@
 -- Assumes nothing.
 use borrow.Author.Needs.{needs}
 use native.Mathlib.Omega.{arith}
-use mathlib.Core.Path.{_≡_, refl, _∙_}
+use mathlib.Core.Path.{refl, _∙_}
 use Rattle.surface.specs.Place.{writeBytes}
 use Rattle.surface.proofs.OnLaws.{byte-kept}
 use Rattle.surface.proofs.Pixels.{write-at, write-four}

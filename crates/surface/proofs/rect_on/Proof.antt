@@ -2,7 +2,7 @@
 -- Assumes nothing.
 use borrow.Author.Needs.{needs}
 use native.Mathlib.Omega.{arith}
-use mathlib.Core.Path.{_≡_, sym, _∙_}
+use mathlib.Core.Path.{sym}
 use mathlib.Core.Bool.{false}
 use Rattle.surface.proofs.Corner.{rect-corner, rect-none}
 use Rattle.surface.proofs.rect_on.Statement.{statement}

@@ -2,7 +2,7 @@
 -- Assumes nothing.
 use borrow.Author.Needs.{needs}
 use native.Mathlib.Omega.{arith}
-use Prim.Native.Nat.{_*_, _<_, _^_}
+use Prim.Native.Nat.{_*_}
 use borrow.Author.Tests.{eq-eqb, ne-eqb}
 use Rattle.surface.specs.Step.{rowLength}
 use Rattle.surface.proofs.Bytes.{product-lt}

@@ -1,7 +1,6 @@
 -- `surface::row_pixels` meets its contract: by the test for mono.
 -- Assumes nothing.
 use borrow.Author.Needs.{needs}
-use native.Mathlib.Omega.{arith}
 use borrow.Author.Tests.{eq-eqb, ne-eqb}
 use Rattle.surface.specs.Place.{rowPixels, rowBytes}
 use Rattle.surface.proofs.row_pixels.Statement.{statement}

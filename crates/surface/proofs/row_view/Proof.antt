@@ -2,15 +2,12 @@
 -- Assumes nothing.
 use borrow.Author.Needs.{needs}
 use native.Mathlib.Omega.{arith}
-use mathlib.Core.Path.{_≡_, refl, sym, ap, ap₂, _∙_}
-use mathlib.Core.List.{List, []}
-use Prim.Native.Nat.{ℕ, _+_, _*_, _-_, _^_, _<_, _≤_}
-use lib.ListN.{length, take, drop}
+use mathlib.Core.Path.{sym, ap, _∙_}
+use lib.ListN.{length}
 use Rattle.surface.specs.declared.Surface.{Surface}
 use Rattle.surface.proofs.ViewLaws.{part-fits, part-given}
 use Rattle.surface.specs.Place.{byteOf}
-use Rattle.surface.specs.Format.{targetOf}
-use Rattle.surface.proofs.ViewLaws.{Given, given-zero, view-fits, view-given, view-refused}
+use Rattle.surface.proofs.ViewLaws.{given-zero, view-refused}
 use Rattle.surface.proofs.row_view.Statement.{statement}
 use Rattle.surface.proofs.row_view.Tie as tie
 

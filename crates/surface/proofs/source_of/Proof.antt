@@ -3,8 +3,7 @@
 use borrow.Author.Needs.{needs}
 use Rattle.surface.specs.Format.{sourceOf}
 use Rattle.surface.proofs.FormatLaws.{bytes-small}
-use mathlib.Core.Path.{_≡_}
-use Prim.Native.Nat.{_%_, _/_, _<_}
+use Prim.Native.Nat.{_%_, _/_}
 use Rattle.surface.proofs.source_of.Statement.{statement}
 use Rattle.surface.proofs.source_of.Tie as tie
 

@@ -2,8 +2,7 @@
 -- Assumes nothing.
 use borrow.Author.Needs.{needs}
 use native.Mathlib.Omega.{arith}
-use mathlib.Core.Path.{sym}
-use borrow.Author.Tests.{ne-eqb, eq-eqb}
+use borrow.Author.Tests.{ne-eqb}
 use Rattle.surface.specs.Step.{stepOf}
 use Rattle.surface.proofs.FormatLaws.{row-small}
 use Rattle.surface.proofs.step_of.Statement.{statement}

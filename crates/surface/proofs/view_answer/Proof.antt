@@ -1,9 +1,8 @@
 -- `surface::view_answer` meets its contract: each return goes by the tests that led there.
 -- Assumes nothing.
 use borrow.Author.Needs.{needs}
-use native.Mathlib.Omega.{arith}
-use mathlib.Core.Path.{_≡_, sym, ap, _∙_}
-use mathlib.Core.Bool.{false, not}
+use mathlib.Core.Path.{sym, ap, _∙_}
+use mathlib.Core.Bool.{false}
 use borrow.Author.Tests.{lt-ltb, le-ltb, eq-eqb, ne-eqb}
 use borrow.Author.Tests.{not-true, not-false}
 use Rattle.surface.specs.declared.Surface.{Surface}
