@@ -1,0 +1,379 @@
+/* The driver of the bench: each case is run by the engine, by plain C, and where there is one by pixman and by memset or memmove, in turns; the best
+   time of each counts. Before that, engine and plain C run the case once on the same memory, and what they leave must be equal. */
+#define _GNU_SOURCE
+#include <pixman.h>
+#include <pthread.h>
+#include <stdio.h>
+#include <stdlib.h>
+#include <string.h>
+#include <time.h>
+
+#include "../c/rimebarrow.h"
+#include "plain.h"
+
+enum { MEMORY = 1 << 24, SOURCE = 1 << 23, RUNS = 7, GLYPHS = 64 };
+enum {
+    clip0Max = 0x0c, dstBaseAddr = 0x10, dstFormat = 0x14, srcColorkeyMin = 0x18, srcColorkeyMax = 0x1c, rop = 0x30, srcBaseAddr = 0x34,
+    commandExtra = 0x38, lineStipple = 0x3c, lineStyle = 0x40, srcFormat = 0x54, srcXY = 0x5c, colorBack = 0x60, colorFore = 0x64,
+    dstSize = 0x68, dstXY = 0x6c, command = 0x70, launch = 0x80, pattern = 0x100
+};
+
+static uint8_t state[RIMEBARROW_STATE_SIZE];
+static uint8_t *ours, *theirs, *start; /* the engine's memory, plain C's, and what both start from */
+static const u32 FORE = 0x00c08040, BACK = 0x00204060, LOW = 0x00204020, HIGH = 0x00c0f0c0;
+static u32 pixel_code[5] = {0, 1, 3, 4, 5};
+static u8 patterns[256];
+static struct plain_regs plain_registers;
+static struct plain_pen pen;
+
+/* A case at one size of pixel and one size of picture. */
+static int bytes;
+static u32 n, stride;
+static u32 sink;
+
+static u32 rand_state = 12345;
+static u32 next_random(void)
+{
+    rand_state = rand_state * 1664525u + 1013904223u;
+    return rand_state >> 8;
+}
+
+static uint64_t out(u32 offset, u32 word)
+{
+    uint64_t a = rimebarrow_write(state, sizeof state, ours, MEMORY, offset, word);
+    if (a >> 32) {
+        fprintf(stderr, "bench: write %x to %x refused with %u\n", word, offset, rimebarrow_number(a));
+        exit(1);
+    }
+    return a;
+}
+
+static struct plain_surface target(void) { return (struct plain_surface){theirs, stride}; }
+static struct plain_surface source(void) { return (struct plain_surface){theirs + SOURCE, stride}; }
+static u32 both(u32 a, u32 b) { return b << 16 | a; }
+
+/* What every case has in common: the target, the clip, the colours, the pattern. */
+static void registers(u32 row)
+{
+    stride = row;
+    rimebarrow_open(state, sizeof state, MEMORY);
+    out(clip0Max, both(0xfff, 0xfff));
+    out(dstBaseAddr, 0);
+    out(dstFormat, pixel_code[bytes] << 16 | stride);
+    out(srcBaseAddr, SOURCE);
+    out(srcFormat, pixel_code[bytes] << 16 | stride);
+    out(colorFore, FORE);
+    out(colorBack, BACK);
+    out(dstSize, both(n, n));
+    for (u32 i = 0; i < 256; i += 4)
+        out(pattern + i, patterns[i] | patterns[i + 1] << 8 | patterns[i + 2] << 16 | (u32)patterns[i + 3] << 24);
+}
+
+/* ---- the cases: set up, by the engine, by plain C, by pixman, by the C library */
+
+static void fill_set(void) { registers(n * bytes); out(command, 0xcc000005); }
+static void launch_at_0(void) { sink += out(launch, 0); }
+static void fill_plain(void) { sink += plain_fill(bytes, target(), 0, 0, n, n, FORE); }
+static int fill_pixman(void)
+{
+    u32 xor = bytes == 1 ? FORE & 255 : bytes == 2 ? FORE & 0xffff : FORE;
+    return pixman_fill((uint32_t *)theirs, stride / 4, bytes * 8, 0, 0, n, n, xor);
+}
+static int fill_limit(void)
+{
+    for (u32 j = 0; j < n; j++)
+        memset(theirs + (size_t)j * stride, 0x40, (size_t)n * bytes);
+    return 1;
+}
+
+static void xor_set(void) { registers(n * bytes); out(command, 0x5a000005); }
+static void xor_plain(void) { sink += plain_pattern_xor(bytes, target(), 0, 0, n, n, patterns); }
+
+static void mono_pattern_set(void) { registers(n * bytes); out(command, 0xf0012005); }
+static void mono_pattern_plain(void) { sink += plain_pattern_mono(bytes, target(), 0, 0, n, n, patterns, FORE); }
+
+static void copy_set(void) { registers(n * bytes); out(command, 0xcc000001); }
+static void copy_plain(void) { sink += plain_copy(bytes, target(), source(), 0, 0, n, n); }
+static int copy_pixman(void)
+{
+    return pixman_blt((uint32_t *)(theirs + SOURCE), (uint32_t *)theirs, stride / 4, stride / 4, bytes * 8, bytes * 8, 0, 0, 0, 0, n, n);
+}
+static int copy_limit(void)
+{
+    for (u32 j = 0; j < n; j++)
+        memmove(theirs + (size_t)j * stride, theirs + SOURCE + (size_t)j * stride, (size_t)n * bytes);
+    return 1;
+}
+
+static void over_set(void)
+{
+    registers((n + 8) * bytes);
+    out(srcBaseAddr, 0);
+    out(dstXY, both(5, 3));
+    out(command, 0xcc000001);
+}
+static void over_plain(void) { sink += plain_copy_over(bytes, target(), 0, 0, 5, 3, n, n); }
+static int over_limit(void)
+{
+    for (u32 j = n; j-- > 0;)
+        memmove(theirs + (size_t)(j + 3) * stride + 5 * bytes, theirs + (size_t)j * stride, (size_t)n * bytes);
+    return 1;
+}
+
+static void key_set(void)
+{
+    registers(n * bytes);
+    out(srcColorkeyMin, LOW);
+    out(srcColorkeyMax, HIGH);
+    out(rop, 0x00aa00);
+    out(commandExtra, 1);
+    out(command, 0xcc000001);
+}
+static void key_plain(void) { sink += plain_copy_key(bytes, target(), source(), 0, 0, n, n, LOW, HIGH); }
+
+static void widen_set(void)
+{
+    registers(n * 4);
+    out(srcFormat, 3 << 16 | n * 2);
+    out(command, 0xcc000001);
+}
+static void widen_plain(void)
+{
+    sink += plain_copy_16_32(target(), (struct plain_surface){theirs + SOURCE, n * 2}, 0, 0, n, n);
+}
+
+static void mono_set(void)
+{
+    registers(n * bytes);
+    out(srcFormat, n / 8);
+    out(command, 0xcc000001);
+}
+static void mono_plain(void)
+{
+    sink += plain_copy_mono(bytes, target(), (struct plain_surface){theirs + SOURCE, n / 8}, 0, 0, n, n, FORE, BACK);
+}
+
+static const u32 glyph[4] = {0x60c01f0e, 0x20c86044, 0x80f140e2, 0x0000e03b};
+static void glyph_set(void)
+{
+    registers(1024 * bytes);
+    out(srcFormat, 1 << 22);
+    out(dstSize, both(11, 7));
+    out(command, 0xcc000003);
+}
+static void glyph_ours(void)
+{
+    for (u32 g = 0; g < GLYPHS; g++) {
+        out(dstXY, both(g * 12, 3));
+        for (int k = 0; k < 4; k++)
+            sink += out(launch, glyph[k]);
+    }
+}
+static void glyph_plain(void)
+{
+    for (u32 g = 0; g < GLYPHS; g++) {
+        struct plain_blit b;
+        plain_blit_open(&b, bytes, target(), g * 12, 3, 11, 7, FORE, BACK);
+        for (int k = 0; k < 4; k++)
+            sink += plain_blit_mono(&b, glyph[k]);
+    }
+}
+
+static void host_set(void)
+{
+    registers(n * bytes);
+    out(srcFormat, pixel_code[bytes] << 16 | 1 << 22);
+    out(command, 0xcc000003);
+}
+static void host_ours(void)
+{
+    const u32 *w = (const u32 *)(start + SOURCE);
+    for (u32 k = 0; k < n * n / 4 * bytes; k++)
+        sink += out(launch, w[k]);
+}
+static void host_plain(void)
+{
+    const u32 *w = (const u32 *)(start + SOURCE);
+    struct plain_blit b;
+    plain_blit_open(&b, bytes, target(), 0, 0, n, n, FORE, BACK);
+    for (u32 k = 0; k < n * n / 4 * bytes; k++)
+        sink += plain_blit_word(&b, w[k]);
+}
+
+static void line_set(void) { registers(n * bytes); out(command, 0xcc000006); pen = (struct plain_pen){FORE, BACK, 0, 0, 0, 0, 0, 0}; }
+static void stipple_set(void)
+{
+    registers(n * bytes);
+    out(lineStipple, 0xf0f0cc35);
+    out(lineStyle, 0x00001f02);
+    out(command, 0xcc001006);
+    pen = (struct plain_pen){FORE, BACK, 0xf0f0cc35, 2, 31, 0, 0, 1};
+}
+static void line_ours(void)
+{
+    out(srcXY, 0);
+    sink += out(launch, both(n - 1, n * 5 / 8));
+    out(srcXY, both(n - 1, 0));
+    sink += out(launch, both(n / 3, n - 1));
+}
+static void line_plain(void)
+{
+    sink += plain_line(bytes, target(), 0, 0, n - 1, n * 5 / 8, 0xfff, 0xfff, &pen);
+    sink += plain_line(bytes, target(), n - 1, 0, n / 3, n - 1, 0xfff, 0xfff, &pen);
+}
+
+static void write_ours(void)
+{
+    for (u32 k = 0; k < 64; k++)
+        sink += out(colorFore + k % 2 * 4, k);
+}
+static void write_plain(void)
+{
+    for (u32 k = 0; k < 64; k++)
+        sink += plain_write(&plain_registers, colorFore + k % 2 * 4, k);
+}
+
+struct work {
+    const char *name;
+    int sizes;     /* bit 0: 64, bit 1: 1024 */
+    int formats;   /* bit b: b bytes a pixel */
+    double unit;   /* pieces in one run; 0: the pixels of the square, -1: the points of both lines */
+    void (*set)(void), (*ours)(void), (*plain)(void);
+    int (*pixman)(void), (*limit)(void);
+};
+
+static const struct work works[] = {
+    {"solid fill", 3, 30, 0, fill_set, launch_at_0, fill_plain, fill_pixman, fill_limit},
+    {"pattern fill 5A", 3, 30, 0, xor_set, launch_at_0, xor_plain, 0, 0},
+    {"mono pattern, transparent", 3, 30, 0, mono_pattern_set, launch_at_0, mono_pattern_plain, 0, 0},
+    {"plain copy", 3, 30, 0, copy_set, launch_at_0, copy_plain, copy_pixman, copy_limit},
+    {"overlapping copy", 3, 30, 0, over_set, launch_at_0, over_plain, 0, over_limit},
+    {"copy with source key", 3, 30, 0, key_set, launch_at_0, key_plain, 0, 0},
+    {"copy 16 to 32", 3, 16, 0, widen_set, launch_at_0, widen_plain, 0, 0},
+    {"mono copy", 3, 30, 0, mono_set, launch_at_0, mono_plain, 0, 0},
+    {"host glyph 11 x 7, mono", 1, 30, GLYPHS, glyph_set, glyph_ours, glyph_plain, 0, 0},
+    {"host image", 3, 30, 0, host_set, host_ours, host_plain, 0, 0},
+    {"line", 3, 30, -1, line_set, line_ours, line_plain, 0, 0},
+    {"stippled line", 3, 30, -1, stipple_set, line_ours, line_plain, 0, 0},
+    {"register write", 1, 16, 64, fill_set, write_ours, write_plain, 0, 0},
+};
+
+static double now(void)
+{
+    struct timespec t;
+    clock_gettime(CLOCK_MONOTONIC, &t);
+    return t.tv_sec * 1e9 + t.tv_nsec;
+}
+
+static void call(const struct work *w, int who)
+{
+    if (who == 0)
+        w->ours();
+    else if (who == 1)
+        w->plain();
+    else if (who == 2)
+        w->pixman();
+    else
+        w->limit();
+}
+
+static double timed(const struct work *w, int who, u32 times)
+{
+    double from = now();
+    for (u32 k = 0; k < times; k++)
+        call(w, who);
+    return (now() - from) / times;
+}
+
+static int run(const struct work *w, double least)
+{
+    memcpy(ours, start, MEMORY);
+    memcpy(theirs, start, MEMORY);
+    w->set();
+    w->ours();
+    w->plain();
+    int equal = memcmp(ours, theirs, MEMORY) == 0;
+    double best[4] = {0, 0, 0, 0};
+    u32 times[4] = {0, 0, 0, 0};
+    for (int who = 0; who < 4; who++) {
+        if ((who == 2 && (!w->pixman || !w->pixman())) || (who == 3 && !w->limit))
+            continue;
+        double once = timed(w, who, 1);
+        times[who] = once > least ? 1 : (u32)(least / once) + 1;
+    }
+    for (int k = 0; k < RUNS; k++) {
+        for (int who = 0; who < 4; who++) {
+            if (!times[who])
+                continue;
+            double t = timed(w, who, times[who]);
+            if (best[who] == 0 || t < best[who])
+                best[who] = t;
+        }
+    }
+    double unit = w->unit > 0 ? w->unit : w->unit < 0 ? n + n : (double)n * n;
+    printf("%s;%d;%u;%.4f;%.4f;%.4f;%.4f;%s\n", w->name, bytes * 8, n, best[0] / unit, best[1] / unit, best[2] / unit, best[3] / unit,
+           equal ? "equal" : "DIFFERENT");
+    fflush(stdout);
+    return equal;
+}
+
+/* ---- how deep the stack gets: every case once, on a stack whose bytes are known before */
+
+static void *deep(void *unused)
+{
+    (void)unused;
+    n = 64;
+    for (u32 k = 0; k < sizeof works / sizeof *works; k++) {
+        bytes = 4;
+        works[k].set();
+        works[k].ours();
+    }
+    return 0;
+}
+
+static size_t depth(void)
+{
+    size_t size = 1 << 20, at = 0;
+    u8 *stack = aligned_alloc(4096, size);
+    memset(stack, 0xa5, size);
+    pthread_attr_t a;
+    pthread_t t;
+    pthread_attr_init(&a);
+    pthread_attr_setstack(&a, stack, size);
+    if (pthread_create(&t, &a, deep, 0))
+        return 0;
+    pthread_join(t, 0);
+    while (at < size && stack[at] == 0xa5)
+        at++;
+    return size - at;
+}
+
+/* WORDS: parts of the names of the cases to run; none: all. */
+int main(int argc, char **argv)
+{
+    ours = aligned_alloc(4096, MEMORY);
+    theirs = aligned_alloc(4096, MEMORY);
+    start = aligned_alloc(4096, MEMORY);
+    for (u32 k = 0; k < MEMORY; k++)
+        start[k] = next_random();
+    for (u32 k = 0; k < 256; k++)
+        patterns[k] = next_random();
+    int fine = 1;
+    for (u32 k = 0; k < sizeof works / sizeof *works; k++) {
+        int wanted = argc < 2;
+        for (int a = 1; a < argc; a++)
+            wanted |= strstr(works[k].name, argv[a]) != 0;
+        if (!wanted)
+            continue;
+        for (int size = 0; size < 2; size++) {
+            for (bytes = 1; bytes < 5; bytes++) {
+                if (!(works[k].sizes >> size & 1) || !(works[k].formats >> bytes & 1))
+                    continue;
+                n = size ? 1024 : 64;
+                fine &= run(&works[k], 10e6);
+            }
+        }
+    }
+    printf("stack;%zu\n", depth());
+    return fine ? 0 : 1;
+}

@@ -1,0 +1,334 @@
+/* The work of each case in straightforward C: plain loops, with what does not change in a loop taken out of it. It uses no header of the system,
+   so that any clang compiles it. Each function returns the number of pixels that it wrote. */
+#include "plain.h"
+
+#define INLINE static inline __attribute__((always_inline))
+
+/* One function for each size of pixel, made from one body. */
+#define BY_BYTES(call1, call2, call3, call4) \
+    switch (bytes) { \
+    case 1: return call1; \
+    case 2: return call2; \
+    case 3: return call3; \
+    default: return call4; \
+    }
+
+INLINE u32 get(int bytes, const u8 *p)
+{
+    if (bytes == 1)
+        return *p;
+    if (bytes == 2)
+        return *(const u16 *)p;
+    if (bytes == 3)
+        return p[0] | p[1] << 8 | p[2] << 16;
+    return *(const u32 *)p;
+}
+
+INLINE void put(int bytes, u8 *p, u32 v)
+{
+    if (bytes == 1) {
+        *p = v;
+    } else if (bytes == 2) {
+        *(u16 *)p = v;
+    } else if (bytes == 3) {
+        p[0] = v;
+        p[1] = v >> 8;
+        p[2] = v >> 16;
+    } else {
+        *(u32 *)p = v;
+    }
+}
+
+INLINE u8 *row_of(int bytes, struct plain_surface s, u32 x, u32 y)
+{
+    return s.at + (u64)y * s.stride + (u64)x * bytes;
+}
+
+INLINE u32 fill(int bytes, struct plain_surface to, u32 x, u32 y, u32 w, u32 h, u32 colour)
+{
+    for (u32 j = 0; j < h; j++) {
+        u8 *d = row_of(bytes, to, x, y + j);
+        for (u32 i = 0; i < w; i++)
+            put(bytes, d + (u64)i * bytes, colour);
+    }
+    return w * h;
+}
+
+u32 plain_fill(int bytes, struct plain_surface to, u32 x, u32 y, u32 w, u32 h, u32 colour)
+{
+    BY_BYTES(fill(1, to, x, y, w, h, colour), fill(2, to, x, y, w, h, colour), fill(3, to, x, y, w, h, colour), fill(4, to, x, y, w, h, colour))
+}
+
+/* Raster operation 5A with the colour pattern: target xor pattern. */
+INLINE u32 pattern_xor(int bytes, struct plain_surface to, u32 x, u32 y, u32 w, u32 h, const u8 *pattern)
+{
+    for (u32 j = 0; j < h; j++) {
+        u8 *d = row_of(bytes, to, x, y + j);
+        u32 row[8];
+        for (u32 k = 0; k < 8; k++)
+            row[k] = get(bytes, pattern + ((y + j) % 8 * 8 + k) * bytes);
+        for (u32 i = 0; i < w; i++)
+            put(bytes, d + (u64)i * bytes, get(bytes, d + (u64)i * bytes) ^ row[(x + i) % 8]);
+    }
+    return w * h;
+}
+
+u32 plain_pattern_xor(int bytes, struct plain_surface to, u32 x, u32 y, u32 w, u32 h, const u8 *pattern)
+{
+    BY_BYTES(pattern_xor(1, to, x, y, w, h, pattern), pattern_xor(2, to, x, y, w, h, pattern), pattern_xor(3, to, x, y, w, h, pattern),
+             pattern_xor(4, to, x, y, w, h, pattern))
+}
+
+/* Raster operation F0 with the mono pattern, pixels of its clear bits left. */
+INLINE u32 pattern_mono(int bytes, struct plain_surface to, u32 x, u32 y, u32 w, u32 h, const u8 *pattern, u32 fore)
+{
+    u32 n = 0;
+    for (u32 j = 0; j < h; j++) {
+        u8 *d = row_of(bytes, to, x, y + j);
+        u32 bits = pattern[(y + j) % 8];
+        for (u32 i = 0; i < w; i++) {
+            if (bits >> (7 - (x + i) % 8) & 1) {
+                put(bytes, d + (u64)i * bytes, fore);
+                n++;
+            }
+        }
+    }
+    return n;
+}
+
+u32 plain_pattern_mono(int bytes, struct plain_surface to, u32 x, u32 y, u32 w, u32 h, const u8 *pattern, u32 fore)
+{
+    BY_BYTES(pattern_mono(1, to, x, y, w, h, pattern, fore), pattern_mono(2, to, x, y, w, h, pattern, fore),
+             pattern_mono(3, to, x, y, w, h, pattern, fore), pattern_mono(4, to, x, y, w, h, pattern, fore))
+}
+
+INLINE u32 copy(int bytes, struct plain_surface to, struct plain_surface from, u32 x, u32 y, u32 w, u32 h)
+{
+    for (u32 j = 0; j < h; j++) {
+        u8 *d = row_of(bytes, to, x, y + j);
+        const u8 *s = row_of(bytes, from, 0, j);
+        for (u32 i = 0; i < w; i++)
+            put(bytes, d + (u64)i * bytes, get(bytes, s + (u64)i * bytes));
+    }
+    return w * h;
+}
+
+u32 plain_copy(int bytes, struct plain_surface to, struct plain_surface from, u32 x, u32 y, u32 w, u32 h)
+{
+    BY_BYTES(copy(1, to, from, x, y, w, h), copy(2, to, from, x, y, w, h), copy(3, to, from, x, y, w, h), copy(4, to, from, x, y, w, h))
+}
+
+/* Within one surface, to the right and down: from the last pixel to the first. */
+INLINE u32 copy_over(int bytes, struct plain_surface s, u32 sx, u32 sy, u32 x, u32 y, u32 w, u32 h)
+{
+    for (u32 j = h; j-- > 0;) {
+        u8 *d = row_of(bytes, s, x, y + j);
+        const u8 *a = row_of(bytes, s, sx, sy + j);
+        for (u32 i = w; i-- > 0;)
+            put(bytes, d + (u64)i * bytes, get(bytes, a + (u64)i * bytes));
+    }
+    return w * h;
+}
+
+u32 plain_copy_over(int bytes, struct plain_surface s, u32 sx, u32 sy, u32 x, u32 y, u32 w, u32 h)
+{
+    BY_BYTES(copy_over(1, s, sx, sy, x, y, w, h), copy_over(2, s, sx, sy, x, y, w, h), copy_over(3, s, sx, sy, x, y, w, h),
+             copy_over(4, s, sx, sy, x, y, w, h))
+}
+
+INLINE int between(u32 v, u32 low, u32 high, int shift, u32 mask)
+{
+    u32 a = v >> shift & mask;
+    return (low >> shift & mask) <= a && a <= (high >> shift & mask);
+}
+
+/* Whether every channel of v lies between those of low and high. */
+INLINE int matches(int bytes, u32 v, u32 low, u32 high)
+{
+    if (bytes == 1)
+        return between(v, low, high, 0, 255);
+    if (bytes == 2)
+        return between(v, low, high, 0, 31) && between(v, low, high, 5, 63) && between(v, low, high, 11, 31);
+    return between(v, low, high, 0, 255) && between(v, low, high, 8, 255) && between(v, low, high, 16, 255);
+}
+
+/* A pixel whose source matches the key keeps its target. */
+INLINE u32 copy_key(int bytes, struct plain_surface to, struct plain_surface from, u32 x, u32 y, u32 w, u32 h, u32 low, u32 high)
+{
+    for (u32 j = 0; j < h; j++) {
+        u8 *d = row_of(bytes, to, x, y + j);
+        const u8 *s = row_of(bytes, from, 0, j);
+        for (u32 i = 0; i < w; i++) {
+            u32 v = get(bytes, s + (u64)i * bytes);
+            if (!matches(bytes, v, low, high))
+                put(bytes, d + (u64)i * bytes, v);
+        }
+    }
+    return w * h;
+}
+
+u32 plain_copy_key(int bytes, struct plain_surface to, struct plain_surface from, u32 x, u32 y, u32 w, u32 h, u32 low, u32 high)
+{
+    BY_BYTES(copy_key(1, to, from, x, y, w, h, low, high), copy_key(2, to, from, x, y, w, h, low, high),
+             copy_key(3, to, from, x, y, w, h, low, high), copy_key(4, to, from, x, y, w, h, low, high))
+}
+
+u32 plain_copy_16_32(struct plain_surface to, struct plain_surface from, u32 x, u32 y, u32 w, u32 h)
+{
+    for (u32 j = 0; j < h; j++) {
+        u32 *d = (u32 *)row_of(4, to, x, y + j);
+        const u16 *s = (const u16 *)row_of(2, from, 0, j);
+        for (u32 i = 0; i < w; i++) {
+            u32 v = s[i], r = v >> 11, g = v >> 5 & 63, b = v & 31;
+            d[i] = (r << 3 | r >> 2) << 16 | (g << 2 | g >> 4) << 8 | (b << 3 | b >> 2);
+        }
+    }
+    return w * h;
+}
+
+INLINE u32 copy_mono(int bytes, struct plain_surface to, struct plain_surface from, u32 x, u32 y, u32 w, u32 h, u32 fore, u32 back)
+{
+    for (u32 j = 0; j < h; j++) {
+        u8 *d = row_of(bytes, to, x, y + j);
+        const u8 *s = from.at + (u64)j * from.stride;
+        for (u32 i = 0; i < w; i++)
+            put(bytes, d + (u64)i * bytes, s[i / 8] >> (7 - i % 8) & 1 ? fore : back);
+    }
+    return w * h;
+}
+
+u32 plain_copy_mono(int bytes, struct plain_surface to, struct plain_surface from, u32 x, u32 y, u32 w, u32 h, u32 fore, u32 back)
+{
+    BY_BYTES(copy_mono(1, to, from, x, y, w, h, fore, back), copy_mono(2, to, from, x, y, w, h, fore, back),
+             copy_mono(3, to, from, x, y, w, h, fore, back), copy_mono(4, to, from, x, y, w, h, fore, back))
+}
+
+/* One step of the stipple: whether this point is of the fore colour. */
+INLINE u32 stipple(struct plain_pen *pen)
+{
+    u32 on = pen->bits >> pen->bit & 1;
+    if (pen->count < pen->repeat) {
+        pen->count++;
+    } else {
+        pen->count = 0;
+        pen->bit = pen->bit < pen->last ? pen->bit + 1 : 0;
+    }
+    return on;
+}
+
+/* The points of a line, each looked at against the clip. */
+INLINE u32 line(int bytes, struct plain_surface to, int x0, int y0, int x1, int y1, int right, int bottom, struct plain_pen *pen, int stippled)
+{
+    int dx = x1 > x0 ? x1 - x0 : x0 - x1, dy = y1 > y0 ? y1 - y0 : y0 - y1;
+    int sx = x1 > x0 ? 1 : -1, sy = y1 > y0 ? 1 : -1, wide = dx >= dy;
+    int n = wide ? dx : dy, m = wide ? dy : dx, e = n;
+    u32 done = 0;
+    struct plain_pen p = *pen;
+    for (int i = 0; i <= n; i++) {
+        u32 on = stippled ? stipple(&p) : 1;
+        if (x0 >= 0 && x0 < right && y0 >= 0 && y0 < bottom) {
+            put(bytes, row_of(bytes, to, x0, y0), on ? p.fore : p.back);
+            done++;
+        }
+        e += 2 * m;
+        int aside = e >= 2 * n;
+        if (aside)
+            e -= 2 * n;
+        x0 += wide ? sx : aside ? sx : 0;
+        y0 += wide ? (aside ? sy : 0) : sy;
+    }
+    *pen = p;
+    return done;
+}
+
+u32 plain_line(int bytes, struct plain_surface to, int x0, int y0, int x1, int y1, int right, int bottom, struct plain_pen *pen)
+{
+    if (pen->stippled)
+        BY_BYTES(line(1, to, x0, y0, x1, y1, right, bottom, pen, 1), line(2, to, x0, y0, x1, y1, right, bottom, pen, 1),
+                 line(3, to, x0, y0, x1, y1, right, bottom, pen, 1), line(4, to, x0, y0, x1, y1, right, bottom, pen, 1))
+    BY_BYTES(line(1, to, x0, y0, x1, y1, right, bottom, pen, 0), line(2, to, x0, y0, x1, y1, right, bottom, pen, 0),
+             line(3, to, x0, y0, x1, y1, right, bottom, pen, 0), line(4, to, x0, y0, x1, y1, right, bottom, pen, 0))
+}
+
+void plain_blit_open(struct plain_blit *b, int bytes, struct plain_surface to, u32 x, u32 y, u32 w, u32 h, u32 fore, u32 back)
+{
+    struct plain_blit fresh = {to, bytes, x, y, w, h, 0, 0, 0, 0, fore, back};
+    *b = fresh;
+}
+
+/* The pixels that a word of colour data finishes; rows follow each other with no gap. */
+INLINE u32 blit_word(int bytes, struct plain_blit *b, u32 word)
+{
+    u32 done = 0;
+    for (int k = 0; k < 4; k++) {
+        if (b->y >= b->height)
+            break;
+        b->acc |= (word >> 8 * k & 255) << 8 * b->have;
+        b->have++;
+        if ((int)b->have == bytes) {
+            put(bytes, row_of(bytes, b->to, b->left + b->x, b->top + b->y), b->acc);
+            done++;
+            b->acc = 0;
+            b->have = 0;
+            if (++b->x == b->width) {
+                b->x = 0;
+                b->y++;
+            }
+        }
+    }
+    return done;
+}
+
+u32 plain_blit_word(struct plain_blit *b, u32 word)
+{
+    int bytes = b->bytes;
+    BY_BYTES(blit_word(1, b, word), blit_word(2, b, word), blit_word(3, b, word), blit_word(4, b, word))
+}
+
+/* The pixels of a word of mono data; each row starts at a byte. */
+INLINE u32 blit_mono(int bytes, struct plain_blit *b, u32 word)
+{
+    u32 done = 0;
+    for (int k = 0; k < 4; k++) {
+        if (b->y >= b->height)
+            break;
+        u32 byte = word >> 8 * k & 255;
+        u8 *d = row_of(bytes, b->to, b->left + b->x, b->top + b->y);
+        for (u32 i = 0; i < 8 && b->x < b->width; i++) {
+            put(bytes, d + (u64)i * bytes, byte >> (7 - i) & 1 ? b->fore : b->back);
+            b->x++;
+            done++;
+        }
+        if (b->x == b->width) {
+            b->x = 0;
+            b->y++;
+        }
+    }
+    return done;
+}
+
+u32 plain_blit_mono(struct plain_blit *b, u32 word)
+{
+    int bytes = b->bytes;
+    BY_BYTES(blit_mono(1, b, word), blit_mono(2, b, word), blit_mono(3, b, word), blit_mono(4, b, word))
+}
+
+u32 plain_write(struct plain_regs *r, u32 offset, u32 word)
+{
+    if (offset % 4 != 0 || offset < 0x08 || offset > 0x70)
+        return 2;
+    if (r->waiting)
+        return 3;
+    switch (offset) {
+    case 0x08: case 0x0c: case 0x4c: case 0x50: word &= 0x0fff0fff; break;
+    case 0x10: case 0x34: word &= 0x80ffffff; break;
+    case 0x14: word &= 0x00073fff; break;
+    case 0x54: word &= 0x00ff3fff; break;
+    case 0x40: case 0x58: case 0x5c: case 0x68: case 0x6c: word &= 0x1fff1fff; break;
+    case 0x18: case 0x1c: case 0x20: case 0x24: case 0x30: word &= 0x00ffffff; break;
+    case 0x38: word &= 15; break;
+    default: break;
+    }
+    r->at[offset / 4] = word;
+    return 0;
+}

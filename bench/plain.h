@@ -1,0 +1,50 @@
+/* The work of each case of the bench in plain C: one function for each kind of drawing, with the bytes of a pixel as its first number. */
+#ifndef PLAIN_H
+#define PLAIN_H
+
+typedef unsigned char u8;
+typedef unsigned short u16;
+typedef unsigned int u32;
+typedef unsigned long long u64;
+
+/* A surface: its first byte, the bytes from row to row. */
+struct plain_surface {
+    u8 *at;
+    u32 stride;
+};
+
+/* A host blit that waits for data: where the next pixel goes, and the bytes of it that have come. */
+struct plain_blit {
+    struct plain_surface to;
+    int bytes;
+    u32 left, top, width, height;
+    u32 x, y, acc, have;
+    u32 fore, back;
+};
+
+/* Registers by their offsets, for a write that draws nothing. */
+struct plain_regs {
+    u32 at[128];
+    int waiting;
+};
+
+struct plain_pen {
+    u32 fore, back, bits, repeat, last, count, bit;
+    int stippled;
+};
+
+u32 plain_fill(int bytes, struct plain_surface to, u32 x, u32 y, u32 w, u32 h, u32 colour);
+u32 plain_pattern_xor(int bytes, struct plain_surface to, u32 x, u32 y, u32 w, u32 h, const u8 *pattern);
+u32 plain_pattern_mono(int bytes, struct plain_surface to, u32 x, u32 y, u32 w, u32 h, const u8 *pattern, u32 fore);
+u32 plain_copy(int bytes, struct plain_surface to, struct plain_surface from, u32 x, u32 y, u32 w, u32 h);
+u32 plain_copy_over(int bytes, struct plain_surface s, u32 sx, u32 sy, u32 x, u32 y, u32 w, u32 h);
+u32 plain_copy_key(int bytes, struct plain_surface to, struct plain_surface from, u32 x, u32 y, u32 w, u32 h, u32 low, u32 high);
+u32 plain_copy_16_32(struct plain_surface to, struct plain_surface from, u32 x, u32 y, u32 w, u32 h);
+u32 plain_copy_mono(int bytes, struct plain_surface to, struct plain_surface from, u32 x, u32 y, u32 w, u32 h, u32 fore, u32 back);
+u32 plain_line(int bytes, struct plain_surface to, int x0, int y0, int x1, int y1, int right, int bottom, struct plain_pen *pen);
+void plain_blit_open(struct plain_blit *b, int bytes, struct plain_surface to, u32 x, u32 y, u32 w, u32 h, u32 fore, u32 back);
+u32 plain_blit_word(struct plain_blit *b, u32 word);
+u32 plain_blit_mono(struct plain_blit *b, u32 word);
+u32 plain_write(struct plain_regs *r, u32 offset, u32 word);
+
+#endif

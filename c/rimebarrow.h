@@ -1,0 +1,68 @@
+/* Rimebarrow: a software engine for the 2D registers of the Voodoo Banshee.
+
+   The engine keeps nothing of its own. Its state is RIMEBARROW_STATE_SIZE bytes that the caller lends to each call, and its video memory is a run of
+   bytes that the caller lends too. Several engines may run at once, each with a state of its own.
+
+   Every pointer must lead to as many bytes as the length that follows it says, and must not be null, not even with a length of 0. The state and the
+   memory of one call must not overlap. Nothing else is asked of a caller: any length, any bytes in the state, any offset and any word are answered.
+
+   The numbers of the answers are those of the table of answers:
+     0  taken
+     1  the memory is over 16,777,216 bytes, or not of the length the engine was opened with
+     2  the offset names no register; for a read, also the launch area
+     3  a host blit waits, and the write is neither launch data nor to command
+     4  the command is not built
+     5  a surface is tiled or has a format that is not listed, or the conversion is not allowed
+     6  a host blit whose registers do not fit
+     7  a pixel is off its surface
+     8  a screen copy between two surfaces whose spans meet
+   and one more, of these functions alone:
+   255  the state has another length than RIMEBARROW_STATE_SIZE, or rimebarrow_open did not make it
+   Whatever is answered with a number other than 0 has changed nothing. */
+#ifndef RIMEBARROW_H
+#define RIMEBARROW_H
+
+#include <stddef.h>
+#include <stdint.h>
+
+#ifdef __cplusplus
+extern "C" {
+#endif
+
+/* The bytes of a state. Word k of it, four bytes low byte first, is
+     at 00  the mark, 656D6952
+     at 04  1 where a host blit waits, else 0
+     at 08 to 70, but for 44 and 48: the register of that offset
+     at 44  the words of data that the waiting blit has had
+     at 48  the last of them
+     at 74, 78  the length of the memory, its low word first
+   (all hexadecimal). From byte 7C on are the 256 bytes of the colour pattern. */
+#define RIMEBARROW_STATE_SIZE 380
+
+/* RIMEBARROW_STATE_SIZE, for callers that do not read this file. */
+size_t rimebarrow_state_size(void);
+
+/* Makes a fresh engine, all registers 0, for a memory of memory_length bytes. Gives 0, or 255 where state_length is another. */
+uint32_t rimebarrow_open(uint8_t *state, size_t state_length, size_t memory_length);
+
+/* Writes a word to the register at an offset, as a program writes it to the card, and carries out the command where there is one.
+   Gives the number of the answer in the high 32 bits, and in the low 32 the count of pixels written. */
+uint64_t rimebarrow_write(uint8_t *state, size_t state_length, uint8_t *memory, size_t memory_length, uint32_t offset, uint32_t word);
+
+/* Reads the register at an offset. Gives the number of the answer (0, 2 or 255) in the high 32 bits, and in the low 32 the word, 0 where refused. */
+uint64_t rimebarrow_read(const uint8_t *state, size_t state_length, uint32_t offset);
+
+/* Finds the bytes of width pixels from (x, y) on, in a surface of the memory; base and format are as in dstBaseAddr and dstFormat. Gives 0 and puts the
+   place of the first byte into *start and the number of bytes into *length; or gives 1, 5 or 7 and puts 0 into both. */
+uint32_t rimebarrow_view(const uint8_t *memory, size_t memory_length, uint32_t base, uint32_t format, uint32_t x, uint32_t y, uint32_t width,
+                         size_t *start, size_t *length);
+
+/* The number of an answer, and its count or word. */
+static inline uint32_t rimebarrow_number(uint64_t answer) { return (uint32_t)(answer >> 32); }
+static inline uint32_t rimebarrow_value(uint64_t answer) { return (uint32_t)answer; }
+
+#ifdef __cplusplus
+}
+#endif
+
+#endif

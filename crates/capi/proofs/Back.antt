@@ -1,0 +1,209 @@
+-- There and back: the bytes of the engine that a state holds are that state, and the engine that an engine's bytes hold is that engine.
+-- Assumes nothing.
+use mathlib.Core.Path.{_≡_, refl, sym, ap, ap₂, _∙_}
+use mathlib.Core.Bool.{Bool, true, false, cond, _&&_, and-eq-true-iff}
+use mathlib.Core.List.{List, [], _∷_}
+use Prim.Native.Nat.{ℕ, zero, suc, _+_, _-_, _*_, _/_, _%_, _^_, _<_, _≤_}
+use native.Mathlib.Nat.{not-suc-le-zero, le-of-suc-le-suc, eq-or-lt-of-le}
+use mathlib.Core.Logic.{⊎-elim}
+use native.Mathlib.Omega.{arith}
+use lib.Dec.{eqb, ltb}
+use lib.ListN.{length, getD, take, drop, length-take, length-drop}
+use lib.Seq.{getD-take, getD-drop}
+use borrow.Author.Tests.{eq-eqb, ne-eqb, lt-ltb, le-ltb, eqb-true, eqb-false, ltb-true, ltb-false}
+use Rattle.registers.specs.Regs.{getReg}
+use Rattle.registers.specs.Kept.{oneOf}
+use Rattle.registers.proofs.Arms.{Each, of-each}
+use Rattle.engine.specs.declared.Engine.{Engine}
+use Rattle.engine.proofs.Cases.{by-test}
+use Rattle.capi.specs.Layout.{stateSize, patternAt, mark, wordAt, byteOf, slot, byteIn, encoded, regsIn, patternIn, openedIn, decoded, isState, Bytes}
+use Rattle.capi.proofs.Places.{same-bytes}
+
+-- ---- the places of the words
+
+abbrev words : List ℕ
+words = 0x00 ∷ 0x04 ∷ 0x08 ∷ 0x0c ∷ 0x10 ∷ 0x14 ∷ 0x18 ∷ 0x1c ∷ 0x20 ∷ 0x24 ∷ 0x28 ∷ 0x2c ∷ 0x30 ∷ 0x34 ∷ 0x38 ∷ 0x3c ∷ 0x40 ∷ 0x44 ∷ 0x48 ∷ 0x4c ∷ 0x50 ∷ 0x54 ∷ 0x58 ∷ 0x5c ∷ 0x60 ∷ 0x64 ∷ 0x68 ∷ 0x6c ∷ 0x70 ∷ 0x74 ∷ 0x78 ∷ []
+
+abbrev allBelow : (ℕ → Bool) → ℕ → Bool
+allBelow f zero = true
+allBelow f (suc n) = f n && allBelow f n
+
+below : (f : ℕ → Bool) (n : ℕ) → allBelow f n ≡ true → (k : ℕ) → k < n → f k ≡ true
+below f zero t k h = absurd (not-suc-le-zero h)
+below f (suc n) t k h =
+    let both = and-eq-true-iff (f n) (allBelow f n) .0 t in
+    ⊎-elim (λ e. rw e (both .0)) (λ l. below f n (both .1) k l) (eq-or-lt-of-le (le-of-suc-le-suc h))
+
+pub in-words : (k : ℕ) → k < patternAt → oneOf (k / 4 * 4) words ≡ true
+in-words = below (λ k. oneOf (k / 4 * 4) words) patternAt refl
+
+-- ---- a word and its bytes
+
+small : (s : List ℕ) (i : ℕ) → Bytes s → wordAt s i < 2 ^ 32
+unfolding wordAt
+small s i b = omega (arith, b .each i, b .each (i + 1), b .each (i + 2), b .each (i + 3))
+
+-- byte k of the word that it stands in
+own-byte : (s : List ℕ) (i k : ℕ) → Bytes s → k / 4 * 4 ≡ i → (t0 t1 t2 : Bool) → eqb (k % 4) 0 ≡ t0 → eqb (k % 4) 1 ≡ t1 → eqb (k % 4) 2 ≡ t2
+    → cond t0 (wordAt s i % 2 ^ 8) (cond t1 (wordAt s i / 2 ^ 8 % 2 ^ 8) (cond t2 (wordAt s i / 2 ^ 16 % 2 ^ 8) (wordAt s i / 2 ^ 24 % 2 ^ 8))) ≡ getD s k 0
+unfolding wordAt
+own-byte s i k b e true t1 t2 p0 p1 p2 =
+    let z = eqb-true (k % 4) 0 p0 in
+    let q : k ≡ i = omega arith in
+    rw q (omega (arith, b .each i, b .each (i + 1), b .each (i + 2), b .each (i + 3)))
+own-byte s i k b e false true t2 p0 p1 p2 =
+    let z = eqb-true (k % 4) 1 p1 in
+    let q : k ≡ i + 1 = omega arith in
+    rw q (omega (arith, b .each i, b .each (i + 1), b .each (i + 2), b .each (i + 3)))
+own-byte s i k b e false false true p0 p1 p2 =
+    let z = eqb-true (k % 4) 2 p2 in
+    let q : k ≡ i + 2 = omega arith in
+    rw q (omega (arith, b .each i, b .each (i + 1), b .each (i + 2), b .each (i + 3)))
+own-byte s i k b e false false false p0 p1 p2 =
+    let n0 = eqb-false (k % 4) 0 p0 in
+    let n1 = eqb-false (k % 4) 1 p1 in
+    let n2 = eqb-false (k % 4) 2 p2 in
+    let q : k ≡ i + 3 = omega arith in
+    rw q (omega (arith, b .each i, b .each (i + 1), b .each (i + 2), b .each (i + 3)))
+
+-- ---- what a state says of its words
+
+pub record Opened (s : List ℕ) : Type 0 where
+  pub size : length s ≡ stateSize
+  pub marked : wordAt s 0 ≡ mark
+  pub flag : wordAt s 0x04 < 2
+  pub bytes : Bytes s
+
+pub opened : (s : List ℕ) → isState s ≡ true → Bytes s → Opened s
+unfolding isState
+opened s t b =
+    let both = and-eq-true-iff (eqb (length s) stateSize) (eqb (wordAt s 0) mark && ltb (wordAt s 0x04) 2) .0 t in
+    let last = and-eq-true-iff (eqb (wordAt s 0) mark) (ltb (wordAt s 0x04) 2) .0 (both .1) in
+    record { size = eqb-true (length s) stateSize (both .0); marked = eqb-true (wordAt s 0) mark (last .0); flag = ltb-true (wordAt s 0x04) 2 (last .1); bytes = b }
+
+flag-back : (w : ℕ) → w < 2 → cond (eqb w 1) 1 0 ≡ w
+flag-back w h = by-test (eqb w 1) refl
+  where
+    by-test : (t : Bool) → eqb w 1 ≡ t → cond t 1 0 ≡ w
+    by-test true e = sym (eqb-true w 1 e)
+    by-test false e = let n = eqb-false w 1 e in omega arith
+
+low-back : (a b : ℕ) → a < 2 ^ 32 → (a + b * 2 ^ 32) % 2 ^ 32 ≡ a
+low-back a b h = omega arith
+
+high-back : (a b : ℕ) → a < 2 ^ 32 → (a + b * 2 ^ 32) / 2 ^ 32 ≡ b
+high-back a b h = omega arith
+
+slots-held : (s : List ℕ) → Opened s → Each (λ o. slot (decoded s) o ≡ wordAt s o) words
+unfolding slot decoded regsIn getReg
+slots-held s h = (
+  sym (h .marked),
+  (
+    flag-back (wordAt s 0x04) (h .flag),
+    (
+      refl,
+      (
+        refl,
+        (
+          refl,
+          (
+            refl,
+            (
+              refl,
+              (
+                refl,
+                (
+                  refl,
+                  (
+                    refl,
+                    (
+                      refl,
+                      (
+                        refl,
+                        (
+                          refl,
+                          (
+                            refl,
+                            (
+                              refl,
+                              (
+                                refl,
+                                (
+                                  refl,
+                                  (
+                                    refl,
+                                    (
+                                      refl,
+                                      (
+                                        refl,
+                                        (
+                                          refl,
+                                          (
+                                            refl,
+                                            (
+                                              refl,
+                                              (
+                                                refl,
+                                                (
+                                                  refl,
+                                                  (
+                                                    refl,
+                                                    (
+                                                      refl,
+                                                      (
+                                                        refl,
+                                                        (
+                                                          refl,
+                                                          (low-back (wordAt s 0x74) (wordAt s 0x78) (small s 0x74 (h .bytes)), (high-back (wordAt s 0x74) (wordAt s 0x78) (small s 0x74 (h .bytes)), tt)),
+                                                        ),
+                                                      ),
+                                                    ),
+                                                  ),
+                                                ),
+                                              ),
+                                            ),
+                                          ),
+                                        ),
+                                      ),
+                                    ),
+                                  ),
+                                ),
+                              ),
+                            ),
+                          ),
+                        ),
+                      ),
+                    ),
+                  ),
+                ),
+              ),
+            ),
+          ),
+        ),
+      ),
+    ),
+  ),
+)
+
+byte-back : (s : List ℕ) (k : ℕ) → Bytes s → byteOf (wordAt s (k / 4 * 4)) (k % 4) ≡ getD s k 0
+unfolding byteOf
+byte-back s k b = own-byte s (k / 4 * 4) k b refl (eqb (k % 4) 0) (eqb (k % 4) 1) (eqb (k % 4) 2) refl refl refl
+
+held-word : (s : List ℕ) → Opened s → (k : ℕ) → k < patternAt → getD s k 0 ≡ byteOf (slot (decoded s) (k / 4 * 4)) (k % 4)
+held-word s h k b =
+    sym (ap (λ v. byteOf v (k % 4)) (of-each (λ o. slot (decoded s) o ≡ wordAt s o) words (slots-held s h) (k / 4 * 4) (in-words k b)) ∙ byte-back s k (h .bytes))
+
+held-pattern : (s : List ℕ) (k : ℕ) → patternAt ≤ k → k < stateSize → getD s k 0 ≡ getD (patternIn s) (k - patternAt) 0
+held-pattern s k b c =
+    let e : k ≡ patternAt + (k - patternAt) = omega arith in
+    ap (λ i. getD s i 0) e ∙ sym (getD-take 256 (drop patternAt s) (k - patternAt) 0 (omega arith) ∙ getD-drop patternAt s (k - patternAt) 0)
+
+held-byte : (s : List ℕ) → Opened s → (k : ℕ) → k < stateSize → getD s k 0 ≡ byteIn (decoded s) k
+unfolding byteIn decoded
+held-byte s h k b =
+    by-test (λ t. getD s k 0 ≡ cond t (byteOf (slot (decoded s) (k / 4 * 4)) (k % 4)) (getD (patternIn s) (k - patternAt) 0)) (ltb k patternAt)
+    (λ e. held-word s h k (ltb-true k patternAt e)) (λ e. held-pattern s k (ltb-false k patternAt e) b)
+
+-- the bytes of the engine that a state holds
+pub bytes-back : (s : List ℕ) → Opened s → encoded (decoded s) ≡ s
+bytes-back s h = sym (same-bytes s (decoded s) (h .size) (held-byte s h))

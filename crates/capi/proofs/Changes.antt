@@ -1,0 +1,176 @@
+-- What a write leaves: but for some words of the state, the bytes of the engine before it are those of the engine after it.
+-- Assumes nothing.
+use mathlib.Core.Path.{_≡_, refl, sym, ap, _∙_}
+use mathlib.Core.Bool.{Bool, true, false, cond, true≢false}
+use mathlib.Core.List.{List, [], _∷_}
+use Prim.Native.Nat.{ℕ, _+_, _-_, _*_, _/_, _%_, _^_, _<_, _≤_}
+use native.Mathlib.Omega.{arith}
+use lib.Dec.{eqb, ltb}
+use lib.ListN.{length, getD}
+use borrow.Author.Tests.{ne-eqb, eqb-false}
+use Rattle.registers.specs.declared.Regs.{Regs}
+use Rattle.registers.specs.declared.Place.{Place}
+use Rattle.registers.specs.declared.Place.the-variants.{Register, Pattern, Launch, Nowhere}
+use Rattle.registers.specs.Regs.{putReg, getReg}
+use Rattle.registers.specs.Kept.{kept, oneOf}
+use Rattle.registers.specs.Offsets.{placeOf}
+use Rattle.registers.specs.Bank.{stored}
+use Rattle.registers.proofs.Arms.{Each}
+use Rattle.registers.proofs.RegsLaws.{registers, get-put, get-nowhere}
+use Rattle.host.specs.Host.{wordsOf}
+use Rattle.command.specs.Decode.{bit, number, feedOf}
+use Rattle.command.specs.Table.{fillVerdict, copyVerdict, hostVerdict, lineVerdict}
+use Rattle.engine.specs.declared.Blit.{Blit}
+use Rattle.engine.specs.declared.Engine.{Engine}
+use Rattle.engine.specs.Step.{Step, regs, withBlit, idle, storedIn, afterRect, afterLine, filled, copied, lined, begun, fed, carried, launched, commanded, toRegister, toPlace, written}
+use Rattle.engine.proofs.Cases.{by-test, picked, by-number}
+use Rattle.capi.specs.Layout.{stateSize, patternAt, slot, byteOf, byteIn, encoded}
+use Rattle.capi.specs.Calls.{withSlots, commandSlots, Draws}
+use Rattle.capi.proofs.Places.{Word, encoded-length, encoded-byte, slots-laid}
+
+pub record Like (os : List ℕ) (e after : Engine) : Type 0 where
+  pub pattern : e .bank .pattern ≡ after .bank .pattern
+  pub slots : (o : ℕ) → oneOf o os ≡ false → slot e o ≡ slot after o
+
+like-byte : (os : List ℕ) (e after : Engine) → Like os e after → (k : ℕ) → oneOf (k / 4 * 4) os ≡ false → byteIn e k ≡ byteIn after k
+unfolding byteIn
+like-byte os e after h k f = rw (h .slots (k / 4 * 4) f, h .pattern)
+
+-- so those words alone need to be put
+pub like-laid : (os : List ℕ) (e after : Engine) → Like os e after → Each Word os → withSlots (encoded e) after os ≡ encoded after
+like-laid os e after h w =
+    slots-laid os (encoded e) after (encoded-length e) w (λ k b f. encoded-byte e k b ∙ like-byte os e after h k f)
+
+-- ---- a register after a store into another
+
+first-no : (t x : Bool) → cond t true x ≡ false → t ≡ false
+first-no true x h = h
+first-no false x h = refl
+
+rest-no : (t x : Bool) → cond t true x ≡ false → x ≡ false
+rest-no true x h = absurd (true≢false h)
+rest-no false x h = h
+
+pub none-of : (a : ℕ) (l : List ℕ) → oneOf a l ≡ false → Each (λ b. eqb a b ≡ false) l
+none-of a [] h = tt
+none-of a (b ∷ l) h = (first-no (eqb a b) (oneOf a l) h, none-of a l (rest-no (eqb a b) (oneOf a l) h))
+
+get-other : (o v a : ℕ) (r : Regs) → (o ≡ a → ⊥) → getReg a (putReg o v r) ≡ getReg a r
+get-other o v a r n =
+    by-test (λ t. oneOf a registers ≡ t → getReg a (putReg o v r) ≡ getReg a r) (oneOf a registers)
+    (λ _ e. get-put o v r a e ∙ ap (λ t. cond t v (getReg a r)) (ne-eqb o a n))
+    (λ _ e. get-nowhere a (putReg o v r) (none-of a registers e) ∙ sym (get-nowhere a r (none-of a registers e))) refl
+
+slot-other : (e : Engine) (o d a : ℕ) → (o ≡ a → ⊥) → slot e a ≡ slot (storedIn e o d) a
+unfolding slot storedIn stored
+slot-other e o d a n = rw (get-other o (kept o d) a (e .bank .regs) n)
+
+-- ---- the ways an engine changes
+
+like-same : {os : List ℕ} (e : Engine) → Like os e e
+like-same e = record { pattern = refl; slots = λ o f. refl }
+
+like-then : {os : List ℕ} {a b c : Engine} → Like os a b → Like os b c → Like os a c
+like-then h k = record { pattern = h .pattern ∙ k .pattern; slots = λ o f. h .slots o f ∙ k .slots o f }
+
+pub like-stored : (os : List ℕ) (e : Engine) (o d : ℕ) → oneOf o os ≡ true → Like os e (storedIn e o d)
+unfolding storedIn stored
+like-stored os e o d t =
+    record { pattern = refl; slots = λ a f. slot-other e o d a (λ q. true≢false (sym t ∙ ap (λ x. oneOf x os) q ∙ f)) }
+
+-- by a command: these words of the state
+abbrev Led : Engine → Engine → Type 0
+Led = Like commandSlots
+
+blit-slot : (e : Engine) (b : Blit) (a : ℕ) → Each (λ o. eqb a o ≡ false) commandSlots → slot e a ≡ slot (withBlit e b) a
+unfolding slot
+blit-slot e b a (_, (_, (_, (_, (e4, (e44, (e48, _))))))) = simp (e4, e44, e48)
+
+led-blit : (e : Engine) (b : Blit) → Led e (withBlit e b)
+led-blit e b = record { pattern = refl; slots = λ a f. blit-slot e b a (none-of a commandSlots f) }
+
+led-rect : (e : Engine) → Led e (afterRect e)
+unfolding afterRect
+led-rect e = like-stored commandSlots e 0x6c _ refl
+
+led-line : (e : Engine) (style : ℕ) → Led e (afterLine e style)
+unfolding afterLine
+led-line e style = like-then (like-stored commandSlots e 0x40 style refl) (like-stored commandSlots (storedIn e 0x40 style) 0x5c _ refl)
+
+-- ---- every command
+
+-- the engine that a step leaves
+abbrev Leaves : Engine → Step → Type 0
+Leaves b s = Led b (s .engine)
+
+module _ (b : Engine) where
+  rect-led : (e : Engine) → Led b e → Led b (afterRect e)
+  rect-led e h = like-then h (led-rect e)
+
+  blit-led : (e : Engine) (x : Blit) → Led b e → Led b (withBlit e x)
+  blit-led e x h = like-then h (led-blit e x)
+
+  filled-led : (old e : Engine) (m : List ℕ) → Led b old → Led b e → Leaves b (filled old e m)
+  unfolding filled
+  filled-led old e m g h = picked (Leaves b) (eqb (fillVerdict (regs e) (length m)) 0) _ _ (λ _. rect-led e h) (λ _. g)
+
+  copied-led : (old e : Engine) (m : List ℕ) → Led b old → Led b e → Leaves b (copied old e m)
+  unfolding copied
+  copied-led old e m g h = picked (Leaves b) (eqb (copyVerdict (regs e) (length m)) 0) _ _ (λ _. rect-led e h) (λ _. g)
+
+  lined-led : (old e : Engine) (m : List ℕ) → Led b old → Led b e → Leaves b (lined old e m)
+  unfolding lined
+  lined-led old e m g h = picked (Leaves b) (eqb (lineVerdict (regs e) (length m)) 0) _ _ (λ _. like-then h (led-line e _)) (λ _. g)
+
+  begun-led : (old e : Engine) (m : List ℕ) → Led b old → Led b e → Leaves b (begun old e m)
+  unfolding begun
+  begun-led old e m g h =
+      picked (Leaves b) (eqb (hostVerdict (regs e) (length m)) 0) _ _
+      (λ _. picked (Leaves b) (ltb 0 (wordsOf (feedOf (regs e)))) _ _ (λ _. blit-led e _ h) (λ _. rect-led (idle e) (blit-led e _ h))) (λ _. g)
+
+  fed-led : (e : Engine) (m : List ℕ) (d : ℕ) → Led b e → Leaves b (fed e m d)
+  unfolding fed
+  fed-led e m d h =
+      picked (Leaves b) (eqb (hostVerdict (regs e) (length m)) 0) _ _
+      (λ _. picked (Leaves b) (ltb (e .blit .taken) (wordsOf (feedOf (regs e)))) _ _
+      (λ _. picked (Leaves b) (ltb (e .blit .taken + 1) (wordsOf (feedOf (regs e)))) _ _ (λ _. blit-led e _ h) (λ _. rect-led (idle e) (blit-led e _ h)))
+      (λ _. rect-led (idle e) (blit-led e _ h)))
+      (λ _. h)
+
+  carried-led : (old e : Engine) (m : List ℕ) → Led b old → Led b e → Leaves b (carried old e m)
+  unfolding carried
+  carried-led old e m g h =
+      by-number (Leaves b) (number (regs e)) _ _ _ _ _ _ (λ _. h) (λ _. copied-led old e m g h) (λ _. begun-led old e m g h) (λ _. filled-led old e m g h)
+      (λ _ _. lined-led old e m g h) (λ _. g)
+
+led-stored : (e : Engine) (o d : ℕ) → oneOf o commandSlots ≡ true → Led e (storedIn e o d)
+led-stored = like-stored commandSlots
+
+launched-led : (e : Engine) (m : List ℕ) (d : ℕ) → Leaves e (launched e m d)
+unfolding launched
+launched-led e m d =
+    by-number (Leaves e) (number (regs e)) _ _ _ _ _ _ (λ _. like-same e) (λ _. copied-led e e (storedIn e 0x5c d) m (like-same e) (led-stored e 0x5c d refl))
+    (λ _. fed-led e e m d (like-same e)) (λ _. filled-led e e (storedIn e 0x6c d) m (like-same e) (led-stored e 0x6c d refl))
+    (λ _ _. lined-led e e (storedIn e 0x6c d) m (like-same e) (led-stored e 0x6c d refl)) (λ _. like-same e)
+
+commanded-led : (e : Engine) (m : List ℕ) (d : ℕ) → Leaves e (commanded e m d)
+unfolding commanded
+commanded-led e m d =
+    let h = like-then (led-stored e 0x70 d refl) (led-blit (storedIn e 0x70 d) _) in
+    picked (Leaves e) (bit d 8) _ _ (λ _. carried-led e e (idle (storedIn e 0x70 d)) m (like-same e) h) (λ _. h)
+
+-- ---- a write that is not one of a plain register or of the pattern
+
+place-led : (p : Place) (e : Engine) (m : List ℕ) (o d : ℕ) → placeOf o ≡ p → Draws o → Leaves e (toPlace p e m o d)
+unfolding toRegister
+place-led Register e m o d q h =
+    picked (Leaves e) (eqb o 0x70) _ _ (λ _. commanded-led e m d) (λ f. absurd (eqb-false o 0x70 f (h .register q)))
+place-led (Pattern i) e m o d q h = absurd (h .pattern i q)
+place-led Launch e m o d q h = launched-led e m d
+place-led Nowhere e m o d q h = like-same e
+
+pub written-led : (e : Engine) (m : List ℕ) (o d : ℕ) → Draws o → Led e (written e m o d .engine)
+unfolding written
+written-led e m o d h =
+    picked (Leaves e) (ltb (2 ^ 24) (length m)) _ _ (λ _. like-same e)
+    (λ _. picked (Leaves e) (eqb (length m) (e .opened)) _ _ (λ _. place-led (placeOf o) e m o d refl h) (λ _. like-same e))

@@ -1,0 +1,6 @@
+pub mod Lists
+pub mod Places
+pub mod Back
+pub mod Changes
+pub mod Writes
+pub mod Others

@@ -1,0 +1,48 @@
+-- `decode` meets its contract: part by part.
+-- Assumes nothing.
+use borrow.Author.Needs.{needs}
+use Rattle.capi.specs.Layout.{decoded}
+use Rattle.capi.proofs.decode.Statement.{statement}
+use Rattle.capi.proofs.decode.Tie as tie
+
+decode-regs-requires : tie.Need-decode-regs-requires
+decode-regs-requires c κs = search needs
+
+decode-pattern-requires : tie.Need-decode-pattern-requires
+decode-pattern-requires c κs = search needs
+
+word-at-requires : tie.Need-word-at-requires
+word-at-requires c κs = search needs
+
+word-at-requires-2 : tie.Need-word-at-requires-2
+word-at-requires-2 c κs = search needs
+
+word-at-requires-3 : tie.Need-word-at-requires-3
+word-at-requires-3 c κs = search needs
+
+opened-for-requires : tie.Need-opened-for-requires
+opened-for-requires c κs = search needs
+
+returns : tie.Need-returns
+unfolding decoded
+returns c =
+    simp (
+      c .before .before .before .before .before .decode-regs .ensures,
+      c .before .before .before .before .decode-pattern .ensures,
+      c .before .before .before .word-at .ensures,
+      c .before .before .word-at2 .ensures,
+      c .before .word-at3 .ensures,
+      c .opened-for .ensures,
+    )
+
+pub decode-spec : {M : Type 1} → statement M
+decode-spec =
+    tie.close
+    (tie.spec
+    decode-regs-requires
+    decode-pattern-requires
+    word-at-requires
+    word-at-requires-2
+    word-at-requires-3
+    opened-for-requires
+    returns)

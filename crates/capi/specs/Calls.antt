@@ -1,0 +1,104 @@
+-- What each call makes of the bytes that are lent to it, in terms of the engine's definitions.
+-- Assumes nothing.
+use mathlib.Core.Path.{_≡_}
+use mathlib.Core.Bool.{cond}
+use mathlib.Core.List.{List, [], _∷_}
+use Prim.Native.Nat.{ℕ, _+_, _*_, _^_}
+use lib.Dec.{eqb, ltb}
+use lib.ListN.{length}
+use Rattle.surface.specs.Place.{byteOf}
+use Rattle.surface.specs.Format.{targetOf}
+use Rattle.surface.specs.View.{viewAnswer, viewed}
+use Rattle.registers.specs.declared.Reading.{Reading}
+use Rattle.registers.specs.declared.Place.the-variants.{Register, Pattern}
+use Rattle.registers.specs.Offsets.{placeOf}
+use Rattle.registers.specs.Bank.{readNumber, readValue}
+use Rattle.engine.specs.declared.Engine.{Engine}
+use Rattle.engine.specs.declared.Answer.{Answer}
+use Rattle.engine.specs.Step.{Step, numberOf, countOf, freshEngine, written, readFrom}
+use Rattle.capi.specs.Layout.{stateSize, wordAt, withWord, slot, encoded, decoded, openedIn, isState}
+
+-- the number of a state that open did not make
+abbrev pub notState : ℕ
+notState = 255
+
+-- a number in the high 32 bits, and a count or a word in the low 32
+abbrev pub packed : ℕ → ℕ → ℕ
+packed number value = number * 2 ^ 32 + value
+
+-- ---- write: the state, the memory and the answer after a call
+pub record Call : Type 0 where
+  pub state : List ℕ
+  pub memory : List ℕ
+  pub answer : ℕ
+
+abbrev pub call : List ℕ → List ℕ → ℕ → Call
+call s m a = record { state = s; memory = m; answer = a }
+
+abbrev pub packedAnswer : Answer → ℕ
+packedAnswer a = packed (numberOf a) (countOf a)
+
+abbrev pub called : Step → Call
+called t = call (encoded (t .engine)) (t .memory) (packedAnswer (t .answer))
+
+unfoldable pub writtenTo : List ℕ → List ℕ → ℕ → ℕ → Call
+writtenTo s m o d = cond (isState s) (called (written (decoded s) m o d)) (call s m (packed notState 0))
+
+-- ---- open: the state and the answer
+pub record Opening : Type 0 where
+  pub state : List ℕ
+  pub answer : ℕ
+
+abbrev pub opening : List ℕ → ℕ → Opening
+opening s a = record { state = s; answer = a }
+
+unfoldable pub openedTo : List ℕ → ℕ → Opening
+openedTo s len = cond (eqb (length s) stateSize) (opening (encoded (freshEngine len)) 0) (opening s notState)
+
+-- ---- read
+abbrev pub packedReading : Reading → ℕ
+packedReading r = packed (readNumber r) (readValue r)
+
+unfoldable pub readOf : List ℕ → ℕ → ℕ
+readOf s o = cond (isState s) (packedReading (readFrom (decoded s) o)) (packed notState 0)
+
+-- ---- view: the answer, the place of the first byte and the number of bytes
+pub record Part : Type 0 where
+  pub answer : ℕ
+  pub start : ℕ
+  pub count : ℕ
+
+abbrev pub part : ℕ → ℕ → ℕ → Part
+part a s n = record { answer = a; start = s; count = n }
+
+unfoldable pub partOf : List ℕ → ℕ → ℕ → ℕ → ℕ → ℕ → Part
+partOf m base format x y width =
+    cond (eqb (viewAnswer (length m) base format x y width) 0)
+    (part 0 (byteOf (targetOf base format) x y 0) (width * targetOf base format .bytes))
+    (part (viewAnswer (length m) base format x y width) 0 0)
+
+-- ---- what the code does on the way
+
+-- words of an engine's state, put at their places
+abbrev pub withSlots : List ℕ → Engine → List ℕ → List ℕ
+withSlots s e [] = s
+withSlots s e (o ∷ os) = withSlots (withWord s o (slot e o)) e os
+
+-- the words that open puts into a cleared state; those that a command can change
+abbrev pub fixedSlots : List ℕ
+fixedSlots = 0 ∷ 0x74 ∷ 0x78 ∷ []
+
+abbrev pub commandSlots : List ℕ
+commandSlots = 0x40 ∷ 0x5c ∷ 0x6c ∷ 0x70 ∷ 0x04 ∷ 0x44 ∷ 0x48 ∷ []
+
+-- a word that draws nothing, at its place in the state, for a memory of len bytes
+unfoldable pub plainly : List ℕ → ℕ → ℕ → ℕ → Opening
+plainly s len at d =
+    cond (ltb (2 ^ 24) len) (opening s (packed 1 0))
+    (cond (eqb len (openedIn s)) (cond (eqb (wordAt s 0x04) 1) (opening s (packed 3 0)) (opening (withWord s at d) 0))
+    (opening s (packed 1 0)))
+
+-- an offset that is neither a plain register's nor the pattern's
+pub record Draws (o : ℕ) : Type 0 where
+  pub register : placeOf o ≡ Register → o ≡ 0x70
+  pub pattern : (i : ℕ) → placeOf o ≡ Pattern i → ⊥
