@@ -4,20 +4,21 @@ use mathlib.Core.Path.{_≡_, refl, sym, ap, ap₂, _∙_}
 use mathlib.Core.Bool.{Bool, true, false, cond, _&&_, and-eq-true-iff}
 use mathlib.Core.List.{List, [], _∷_}
 use Prim.Native.Nat.{ℕ, zero, suc, _+_, _-_, _*_, _/_, _%_, _^_, _<_, _≤_}
-use native.Mathlib.Nat.{not-suc-le-zero, le-of-suc-le-suc, eq-or-lt-of-le}
+use native.Mathlib.Nat.{not-suc-le-zero, le-of-suc-le-suc, eq-or-lt-of-le, add-zero, div-div-eq-div-mul, div-add-mod'}
 use mathlib.Core.Logic.{⊎-elim}
 use native.Mathlib.Omega.{arith}
 use lib.Dec.{eqb, ltb}
 use lib.ListN.{length, getD, take, drop, length-take, length-drop}
-use lib.Seq.{getD-take, getD-drop}
+use lib.Seq.{getD-take, getD-drop, ext-getD}
 use borrow.Author.Tests.{eq-eqb, ne-eqb, lt-ltb, le-ltb, eqb-true, eqb-false, ltb-true, ltb-false}
 use Rattle.registers.specs.Regs.{getReg}
 use Rattle.registers.specs.Kept.{oneOf}
-use Rattle.registers.proofs.Arms.{Each, of-each}
+use Rattle.registers.proofs.Arms.{Each, each-map, of-each}
 use Rattle.engine.specs.declared.Engine.{Engine}
-use Rattle.engine.proofs.Cases.{by-test}
+use Rattle.engine.proofs.Cases.{by-test, picked}
 use Rattle.capi.specs.Layout.{stateSize, patternAt, mark, wordAt, byteOf, slot, byteIn, encoded, regsIn, patternIn, openedIn, decoded, isState, Bytes}
-use Rattle.capi.proofs.Places.{same-bytes}
+use Rattle.capi.specs.Promises.{BytesBack, Fits, EngineBack, StaysState}
+use Rattle.capi.proofs.Places.{Word, same-bytes, encoded-length, encoded-byte}
 
 -- ---- the places of the words
 
@@ -207,3 +208,99 @@ held-byte s h k b =
 -- the bytes of the engine that a state holds
 pub bytes-back : (s : List ℕ) → Opened s → encoded (decoded s) ≡ s
 bytes-back s h = sym (same-bytes s (decoded s) (h .size) (held-byte s h))
+
+pub bytes-kept : BytesBack
+bytes-kept s t b = bytes-back s (opened s t b)
+
+-- ---- the engine that an engine's bytes hold
+
+four-bytes : (d : ℕ) → d < 2 ^ 32 → d % 2 ^ 8 + d / 2 ^ 8 % 2 ^ 8 * 2 ^ 8 + d / 2 ^ 16 % 2 ^ 8 * 2 ^ 16 + d / 2 ^ 24 % 2 ^ 8 * 2 ^ 24 ≡ d
+four-bytes d f =
+    let s : d / 2 ^ 16 * 2 ^ 8 + d / 2 ^ 8 % 2 ^ 8 ≡ d / 2 ^ 8 = rw (div-div-eq-div-mul d (2 ^ 8) (2 ^ 8)) at (div-add-mod' (d / 2 ^ 8) (2 ^ 8)) in
+    let t : d / 2 ^ 24 * 2 ^ 8 + d / 2 ^ 16 % 2 ^ 8 ≡ d / 2 ^ 16 = rw (div-div-eq-div-mul d (2 ^ 16) (2 ^ 8)) at (div-add-mod' (d / 2 ^ 16) (2 ^ 8)) in
+    omega arith
+
+-- byte k of the word at o
+word-byte : (e : Engine) (o k : ℕ) → Word o → k < 4 → getD (encoded e) (o + k) 0 ≡ byteOf (slot e o) k
+unfolding byteIn
+word-byte e o k w h =
+    let b : o + k < patternAt = omega arith in
+    let p : (o + k) / 4 * 4 ≡ o = omega arith in
+    let q : (o + k) % 4 ≡ k = omega arith in
+    encoded-byte e (o + k) (omega arith) ∙ rw (lt-ltb (o + k) patternAt b, p, q)
+
+word-back : (e : Engine) (o : ℕ) → Word o → slot e o < 2 ^ 32 → wordAt (encoded e) o ≡ slot e o
+unfolding wordAt byteOf
+word-back e o w f =
+    let b0 : getD (encoded e) o 0 ≡ slot e o % 2 ^ 8 = ap (λ n. getD (encoded e) n 0) (sym (add-zero o)) ∙ word-byte e o 0 w (omega arith) in
+    let b1 : getD (encoded e) (o + 1) 0 ≡ slot e o / 2 ^ 8 % 2 ^ 8 = word-byte e o 1 w (omega arith) in
+    let b2 : getD (encoded e) (o + 2) 0 ≡ slot e o / 2 ^ 16 % 2 ^ 8 = word-byte e o 2 w (omega arith) in
+    let b3 : getD (encoded e) (o + 3) 0 ≡ slot e o / 2 ^ 24 % 2 ^ 8 = word-byte e o 3 w (omega arith) in
+    rw (b0, b1, b2, b3) (four-bytes (slot e o) f)
+
+slot-fits : (e : Engine) → Fits e → (o : ℕ) → slot e o < 2 ^ 32
+unfolding slot
+slot-fits e f o =
+    picked (λ v. v < 2 ^ 32) (eqb o 0) _ _ (λ _. omega arith)
+    (λ _. picked (λ v. v < 2 ^ 32) (eqb o 0x04) _ _ (λ _. picked (λ v. v < 2 ^ 32) (e .blit .waiting) 1 0 (λ _. omega arith) (λ _. omega arith))
+    (λ _. picked (λ v. v < 2 ^ 32) (eqb o 0x44) _ _ (λ _. f .taken)
+    (λ _. picked (λ v. v < 2 ^ 32) (eqb o 0x48) _ _ (λ _. f .last)
+    (λ _. picked (λ v. v < 2 ^ 32) (eqb o 0x74) _ _ (λ _. omega arith)
+    (λ _. picked (λ v. v < 2 ^ 32) (eqb o 0x78) _ _ (λ _. omega (arith, f .opened)) (λ _. f .registers o))))))
+
+all-right : Each (λ o. (eqb (o % 4) 0 && ltb o patternAt) ≡ true) words
+all-right = (refl, (refl, (refl, (refl, (refl, (refl, (refl, (refl, (refl, (refl, (refl, (refl, (refl, (refl, (refl, (refl, (refl, (refl, (refl, (refl, (refl, (refl, (refl, (refl, (refl, (refl, (refl, (refl, (refl, (refl, (refl, tt)))))))))))))))))))))))))))))))
+
+words-back : (e : Engine) → Fits e → Each (λ o. wordAt (encoded e) o ≡ slot e o) words
+words-back e f =
+    each-map (λ o t.
+    let both = and-eq-true-iff (eqb (o % 4) 0) (ltb o patternAt) .0 t in
+    word-back e o (eqb-true (o % 4) 0 (both .0), ltb-true o patternAt (both .1)) (slot-fits e f o)) words all-right
+
+flag-held : (t : Bool) → eqb (cond t 1 0) 1 ≡ t
+flag-held true = refl
+flag-held false = refl
+
+pattern-size : (e : Engine) → length (patternIn (encoded e)) ≡ 256
+pattern-size e = let n = encoded-length e in simp (length-take, length-drop) (omega arith)
+
+pattern-byte : (e : Engine) (i : ℕ) → i < 256 → getD (patternIn (encoded e)) i 0 ≡ getD (e .bank .pattern) i 0
+unfolding byteIn
+pattern-byte e i h =
+    let b : patternAt ≤ patternAt + i = omega arith in
+    let q : patternAt + i - patternAt ≡ i = omega arith in
+    getD-take 256 (drop patternAt (encoded e)) i 0 h ∙ getD-drop patternAt (encoded e) i 0 ∙ encoded-byte e (patternAt + i) (omega arith)
+    ∙ rw (le-ltb (patternAt + i) patternAt b, q)
+
+pattern-back : (e : Engine) → length (e .bank .pattern) ≡ 256 → patternIn (encoded e) ≡ e .bank .pattern
+pattern-back e l =
+    ext-getD 0 (patternIn (encoded e)) (e .bank .pattern) (pattern-size e ∙ sym l) (λ i h. pattern-byte e i (rw (pattern-size e) at h))
+
+engine-from : (e : Engine) → e .opened < 2 ^ 64 → patternIn (encoded e) ≡ e .bank .pattern → Each (λ o. wordAt (encoded e) o ≡ slot e o) words → decoded (encoded e) ≡ e
+unfolding decoded regsIn slot getReg
+engine-from e o p (_, (w04, (w08, (w0c, (w10, (w14, (w18, (w1c, (w20, (w24, (w28, (w2c, (w30, (w34, (w38, (w3c, (w40, (w44, (w48, (w4c, (w50, (w54, (w58, (w5c, (w60, (w64, (w68, (w6c, (w70, (w74, (w78, _))))))))))))))))))))))))))))))) =
+    let z : e .opened % 2 ^ 32 + e .opened / 2 ^ 32 * 2 ^ 32 ≡ e .opened = omega arith in
+    simp (w04, w08, w0c, w10, w14, w18, w1c, w20, w24, w28, w2c, w30, w34, w38, w3c, w40, w44, w48, w4c, w50, w54, w58, w5c, w60, w64, w68, w6c, w70, w74, w78, p, flag-held, z)
+
+pub engine-back : EngineBack
+engine-back e f = engine-from e (f .opened) (pattern-back e (f .pattern)) (words-back e f)
+
+-- ---- a state stays a state
+
+mark-back : (e : Engine) → wordAt (encoded e) 0 ≡ mark
+unfolding slot
+mark-back e = word-back e 0 (refl, omega arith) (omega arith)
+
+flag-small : (t : Bool) → cond t 1 0 < 2
+flag-small true = omega arith
+flag-small false = omega arith
+
+flag-kept : (e : Engine) → wordAt (encoded e) 0x04 < 2
+unfolding slot
+flag-kept e =
+    let f = flag-small (e .blit .waiting) in
+    rw (word-back e 0x04 (refl, omega arith) (omega arith)) f
+
+pub stays-state : StaysState
+unfolding isState
+stays-state e = rw (eq-eqb (length (encoded e)) stateSize (encoded-length e), eq-eqb (wordAt (encoded e) 0) mark (mark-back e), lt-ltb (wordAt (encoded e) 0x04) 2 (flag-kept e))

@@ -4,3 +4,5 @@ pub mod Back
 pub mod Changes
 pub mod Writes
 pub mod Others
+pub mod Views
+pub mod One

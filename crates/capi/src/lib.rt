@@ -263,3 +263,29 @@ pub extern "C" fn rimebarrow_read(state: &[u8], offset: u32) -> u64
         Place::Nowhere => 0x2_0000_0000,
     }
 }
+
+// The bytes of some pixels of a row of a surface: the place of the first and their number, both 0 where the view is refused.
+#[no_mangle]
+pub extern "C" fn rimebarrow_view(
+    memory: &[u8],
+    base: u32,
+    format: u32,
+    x: u32,
+    y: u32,
+    width: u32,
+    start: &mut usize,
+    count: &mut usize,
+) -> u32
+    ensures { λ r. ⌜ part r (now (start .exit)) (now (count .exit)) ≡ partOf (now (memory .entry)) base format x y width ⌝ }
+{
+    let answer = surface::view_answer(memory.len(), base, format, x, y, width);
+    if answer != 0 {
+        *start = 0;
+        *count = 0;
+        return answer;
+    }
+    let s = surface::target_of(base, format);
+    *start = surface::byte_of(s, x, y, 0);
+    *count = width as usize * s.bytes as usize;
+    0
+}

@@ -1,0 +1,24 @@
+-- Each contract says what the outcome equals, and so allows one.
+-- Assumes nothing.
+use mathlib.Core.Path.{_≡_, sym, _∙_}
+use Rattle.capi.specs.Layout.{stateSize}
+use Rattle.capi.specs.Calls.{writtenTo, openedTo, readOf, partOf}
+use Rattle.capi.specs.Promises.{OneSize, OneOpening, OneCall, OneReading, OnePart}
+
+settled : {A : Type 0} (f x y : A) → x ≡ f → y ≡ f → x ≡ y
+settled f x y p q = p ∙ sym q
+
+pub one-size : OneSize
+one-size x y = settled stateSize x y
+
+pub one-opening : OneOpening
+one-opening s len x y = settled (openedTo s len) x y
+
+pub one-call : OneCall
+one-call s m o d x y = settled (writtenTo s m o d) x y
+
+pub one-reading : OneReading
+one-reading s o x y = settled (readOf s o) x y
+
+pub one-part : OnePart
+one-part m base format px py width x y = settled (partOf m base format px py width) x y

@@ -1,0 +1,56 @@
+-- What is promised of the functions for C, for an outside expert to read first: nothing is lost between two calls, a state stays a state, and each contract
+-- allows one outcome. Each promise is proved in proofs/, in the file of its heading.
+-- Assumes nothing.
+use mathlib.Core.Path.{_≡_}
+use mathlib.Core.Bool.{true}
+use mathlib.Core.List.{List}
+use Prim.Native.Nat.{ℕ, _^_, _<_}
+use lib.ListN.{length, take, drop}
+use Rattle.registers.specs.Regs.{getReg}
+use Rattle.surface.specs.View.{viewAnswer, viewed}
+use Rattle.engine.specs.declared.Engine.{Engine}
+use Rattle.capi.specs.Layout.{stateSize, encoded, decoded, isState, Bytes}
+use Rattle.capi.specs.Calls.{Call, writtenTo, Opening, openedTo, readOf, Part, partOf}
+
+-- ---- Back. What was decoded is encoded as it was, and what was encoded is decoded as it was
+
+abbrev pub BytesBack : Type 0
+BytesBack = (s : List ℕ) → isState s ≡ true → Bytes s → encoded (decoded s) ≡ s
+
+-- an engine whose numbers fit their places, as those of the code do
+pub record Fits (e : Engine) : Type 0 where
+  pub registers : (o : ℕ) → getReg o (e .bank .regs) < 2 ^ 32
+  pub taken : e .blit .taken < 2 ^ 32
+  pub last : e .blit .last < 2 ^ 32
+  pub opened : e .opened < 2 ^ 64
+  pub pattern : length (e .bank .pattern) ≡ 256
+
+abbrev pub EngineBack : Type 0
+EngineBack = (e : Engine) → Fits e → decoded (encoded e) ≡ e
+
+-- the bytes of any engine are a state, so that the next call takes them
+abbrev pub StaysState : Type 0
+StaysState = (e : Engine) → isState (encoded e) ≡ true
+
+-- ---- Views. The part that a view names is what the row view hands back
+abbrev pub PartViewed : Type 0
+PartViewed = (m : List ℕ) (base format x y width : ℕ)
+    → (partOf m base format x y width .answer ≡ viewAnswer (length m) base format x y width)
+    × (take (partOf m base format x y width .count) (drop (partOf m base format x y width .start) m) ≡ viewed m base format x y width)
+
+-- ---- One. Each contract allows one outcome
+
+abbrev pub OneSize : Type 0
+OneSize = (x y : ℕ) → x ≡ stateSize → y ≡ stateSize → x ≡ y
+
+abbrev pub OneOpening : Type 0
+OneOpening = (s : List ℕ) (len : ℕ) (x y : Opening) → x ≡ openedTo s len → y ≡ openedTo s len → x ≡ y
+
+abbrev pub OneCall : Type 0
+OneCall = (s m : List ℕ) (o d : ℕ) (x y : Call) → x ≡ writtenTo s m o d → y ≡ writtenTo s m o d → x ≡ y
+
+abbrev pub OneReading : Type 0
+OneReading = (s : List ℕ) (o x y : ℕ) → x ≡ readOf s o → y ≡ readOf s o → x ≡ y
+
+abbrev pub OnePart : Type 0
+OnePart = (m : List ℕ) (base format px py width : ℕ) (x y : Part) → x ≡ partOf m base format px py width → y ≡ partOf m base format px py width → x ≡ y
