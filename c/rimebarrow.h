@@ -3,8 +3,9 @@
    The engine keeps nothing of its own. Its state is RIMEBARROW_STATE_SIZE bytes that the caller lends to each call, and its video memory is a run of
    bytes that the caller lends too. Several engines may run at once, each with a state of its own.
 
-   Every pointer must lead to as many bytes as the length that follows it says, and must not be null, not even with a length of 0. The state and the
-   memory of one call must not overlap. Nothing else is asked of a caller: any length, any bytes in the state, any offset and any word are answered.
+   Every pointer must lead to as many bytes as the length that follows it says, and must not be null, not even with a length of 0. The places that one call
+   writes must not overlap each other or what it reads. Nothing else is asked of a caller: any length, any bytes in the state, any offset and any word are
+   answered.
 
    The numbers of the answers are those of the table of answers:
      0  taken
@@ -53,9 +54,9 @@ uint64_t rimebarrow_write(uint8_t *state, size_t state_length, uint8_t *memory, 
 uint64_t rimebarrow_read(const uint8_t *state, size_t state_length, uint32_t offset);
 
 /* Finds the bytes of width pixels from (x, y) on, in a surface of the memory; base and format are as in dstBaseAddr and dstFormat. Gives 0 and puts the
-   place of the first byte into *start and the number of bytes into *length; or gives 1, 5 or 7 and puts 0 into both. */
+   place of the first byte into *start and the number of bytes into *count; or gives 1, 5 or 7 and puts 0 into both. */
 uint32_t rimebarrow_view(const uint8_t *memory, size_t memory_length, uint32_t base, uint32_t format, uint32_t x, uint32_t y, uint32_t width,
-                         size_t *start, size_t *length);
+                         size_t *start, size_t *count);
 
 /* The number of an answer, and its count or word. */
 static inline uint32_t rimebarrow_number(uint64_t answer) { return (uint32_t)(answer >> 32); }

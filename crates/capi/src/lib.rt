@@ -173,6 +173,7 @@ fn put_plain(s: &mut [u8], len: usize, at: usize, word: u32) -> u64
     0
 }
 
+// A write to command, a launch write, or one to no register.
 fn run(s: &mut [u8], mem: &mut [u8], offset: u32, word: u32) -> u64
     requires { ⌜ (isState (now s) ≡ true) × (Bytes (now s) × Draws offset) ⌝ }
     ensures { λ r. ⌜ call (now (s .exit)) (now (mem .exit)) r ≡ writtenTo (now (s .entry)) (now (mem .entry)) offset word ⌝ }
@@ -196,6 +197,7 @@ fn clear(s: &mut [u8])
     }
 }
 
+// The bytes of a state.
 #[no_mangle]
 pub extern "C" fn rimebarrow_state_size() -> usize
     ensures { λ r. ⌜ r ≡ stateSize ⌝ }
@@ -203,6 +205,7 @@ pub extern "C" fn rimebarrow_state_size() -> usize
     380
 }
 
+// A fresh engine for a memory of size bytes: 0, or 255 where the state has another length.
 #[no_mangle]
 pub extern "C" fn rimebarrow_open(state: &mut [u8], size: usize) -> u32
     ensures { λ r. ⌜ opening (now (state .exit)) r ≡ openedTo (now (state .entry)) size ⌝ }
@@ -217,6 +220,8 @@ pub extern "C" fn rimebarrow_open(state: &mut [u8], size: usize) -> u32
     0
 }
 
+// One register write: the answer's number in the high 32 bits and the count in the low ones. A word that draws nothing goes to its place in the state;
+// for any other the engine is taken out of its bytes and put back.
 #[no_mangle]
 pub extern "C" fn rimebarrow_write(
     state: &mut [u8],
@@ -248,6 +253,7 @@ pub extern "C" fn rimebarrow_write(
     }
 }
 
+// What a register holds: the number in the high 32 bits, and the word in the low ones.
 #[no_mangle]
 pub extern "C" fn rimebarrow_read(state: &[u8], offset: u32) -> u64
     ensures { λ r. ⌜ r ≡ readOf (now (state .entry)) offset ⌝ }

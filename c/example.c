@@ -1,0 +1,111 @@
+/* A sheet of 96 x 64 pixels: a background, two fills, a line and a glyph, drawn by register writes and saved as a PPM picture.
+
+   On x86-64:
+       rt staticlib capi
+       cc -O2 c/example.c target/staticlib/libcapi.a -o example
+   On another processor `bench/run` compiles the same library for it:
+       bench/run register
+       cc -O2 c/example.c target/bench/engine.o -o example
+   Then:
+       ./example sheet.ppm */
+#include <stdio.h>
+#include <stdlib.h>
+
+#include "rimebarrow.h"
+
+enum { WIDTH = 96, HEIGHT = 64, STRIDE = WIDTH * 4, MEMORY = STRIDE * HEIGHT };
+enum {
+    CLIP0_MAX = 0x0c, DST_BASE = 0x10, DST_FORMAT = 0x14, SRC_FORMAT = 0x54, SRC_XY = 0x5c, COLOR_BACK = 0x60, COLOR_FORE = 0x64,
+    DST_SIZE = 0x68, DST_XY = 0x6c, COMMAND = 0x70, LAUNCH = 0x80
+};
+
+/* ROP CC: a plain copy. 3 is a host blit, 5 a fill, 6 a line; 32 bits a pixel is format 5. */
+enum { FORMAT_32 = 5 << 16, PACKED_BYTES = 1 << 22 };
+static const uint32_t HOST_BLIT = 0xcc000003, FILL = 0xcc000005, LINE = 0xcc000006;
+
+static uint8_t state[RIMEBARROW_STATE_SIZE];
+static uint8_t memory[MEMORY];
+
+static uint32_t both(uint32_t x, uint32_t y) { return y << 16 | x; }
+
+/* Writes a register, and stops with the number of the answer where it is refused. Gives the count of pixels. */
+static uint32_t out(uint32_t offset, uint32_t word)
+{
+    uint64_t answer = rimebarrow_write(state, sizeof state, memory, sizeof memory, offset, word);
+    if (rimebarrow_number(answer) != 0) {
+        fprintf(stderr, "write of %08x to %02x refused: %u\n", (unsigned)word, (unsigned)offset, (unsigned)rimebarrow_number(answer));
+        exit(1);
+    }
+    return rimebarrow_value(answer);
+}
+
+static uint32_t fill(uint32_t x, uint32_t y, uint32_t w, uint32_t h, uint32_t colour)
+{
+    out(COLOR_FORE, colour);
+    out(DST_SIZE, both(w, h));
+    out(COMMAND, FILL);
+    return out(LAUNCH, both(x, y));
+}
+
+static uint32_t line(uint32_t x0, uint32_t y0, uint32_t x1, uint32_t y1, uint32_t colour)
+{
+    out(COLOR_FORE, colour);
+    out(SRC_XY, both(x0, y0));
+    out(COMMAND, LINE);
+    return out(LAUNCH, both(x1, y1));
+}
+
+/* An R of 8 x 7 bits, a byte a row, the leftmost pixel in the high bit; two words of data, low byte first. */
+static uint32_t glyph(uint32_t x, uint32_t y, uint32_t fore, uint32_t back)
+{
+    static const uint32_t words[2] = {0x7c66667c, 0x0066666c};
+    uint32_t count = 0;
+    out(COLOR_FORE, fore);
+    out(COLOR_BACK, back);
+    out(SRC_FORMAT, PACKED_BYTES);
+    out(SRC_XY, 0);
+    out(DST_SIZE, both(8, 7));
+    out(DST_XY, both(x, y));
+    out(COMMAND, HOST_BLIT);
+    for (int k = 0; k < 2; k++)
+        count += out(LAUNCH, words[k]);
+    return count;
+}
+
+static void save(const char *path)
+{
+    FILE *f = fopen(path, "wb");
+    if (!f) {
+        perror(path);
+        exit(1);
+    }
+    fprintf(f, "P6\n%d %d\n255\n", WIDTH, HEIGHT);
+    for (uint32_t y = 0; y < HEIGHT; y++) {
+        size_t start, count;
+        if (rimebarrow_view(memory, sizeof memory, 0, FORMAT_32 | STRIDE, 0, y, WIDTH, &start, &count) != 0)
+            exit(1);
+        for (size_t i = start; i < start + count; i += 4) {
+            const uint8_t rgb[3] = {memory[i + 2], memory[i + 1], memory[i]};
+            fwrite(rgb, 1, 3, f);
+        }
+    }
+    fclose(f);
+}
+
+int main(int argc, char **argv)
+{
+    const char *path = argc > 1 ? argv[1] : "sheet.ppm";
+    if (rimebarrow_open(state, sizeof state, sizeof memory) != 0)
+        return 1;
+    out(CLIP0_MAX, both(WIDTH, HEIGHT));
+    out(DST_BASE, 0);
+    out(DST_FORMAT, FORMAT_32 | STRIDE);
+    printf("background: %u pixels\n", (unsigned)fill(0, 0, WIDTH, HEIGHT, 0x00f0ece0));
+    printf("fills: %u and %u pixels\n", (unsigned)fill(8, 8, 40, 24, 0x00b03030), (unsigned)fill(40, 24, 48, 32, 0x003060a0));
+    printf("line: %u pixels\n", (unsigned)line(4, 60, 90, 4, 0x00202020));
+    printf("glyph: %u pixels\n", (unsigned)glyph(12, 44, 0x00000000, 0x00ffffff));
+    printf("dstXY reads %08x\n", (unsigned)rimebarrow_value(rimebarrow_read(state, sizeof state, DST_XY)));
+    save(path);
+    printf("saved %s\n", path);
+    return 0;
+}
