@@ -1,6 +1,6 @@
 -- There and back: the bytes of the engine that a state holds are that state, and the engine that an engine's bytes hold is that engine.
 -- Assumes nothing.
-use mathlib.Core.Path.{_≡_, refl, sym, ap, ap₂, _∙_}
+use mathlib.Core.Path.{_≡_, refl, sym, ap, _∙_}
 use mathlib.Core.Bool.{Bool, true, false, cond, _&&_, and-eq-true-iff}
 use mathlib.Core.List.{List, [], _∷_}
 use Prim.Native.Nat.{ℕ, zero, suc, _+_, _-_, _*_, _/_, _%_, _^_, _<_, _≤_}
@@ -8,15 +8,15 @@ use native.Mathlib.Nat.{not-suc-le-zero, le-of-suc-le-suc, eq-or-lt-of-le, add-z
 use mathlib.Core.Logic.{⊎-elim}
 use native.Mathlib.Omega.{arith}
 use lib.Dec.{eqb, ltb}
-use lib.ListN.{length, getD, take, drop, length-take, length-drop}
+use lib.ListN.{length, getD, drop, length-take, length-drop}
 use lib.Seq.{getD-take, getD-drop, ext-getD}
-use borrow.Author.Tests.{eq-eqb, ne-eqb, lt-ltb, le-ltb, eqb-true, eqb-false, ltb-true, ltb-false}
+use borrow.Author.Tests.{eq-eqb, lt-ltb, le-ltb, eqb-true, eqb-false, ltb-true, ltb-false}
 use Rattle.registers.specs.Regs.{getReg}
 use Rattle.registers.specs.Kept.{oneOf}
 use Rattle.registers.proofs.Arms.{Each, each-map, of-each}
 use Rattle.engine.specs.declared.Engine.{Engine}
 use Rattle.engine.proofs.Cases.{by-test, picked}
-use Rattle.capi.specs.Layout.{stateSize, patternAt, mark, wordAt, byteOf, slot, byteIn, encoded, regsIn, patternIn, openedIn, decoded, isState, Bytes}
+use Rattle.capi.specs.Layout.{stateSize, patternAt, mark, wordAt, byteOf, slot, byteIn, encoded, regsIn, patternIn, decoded, isState, Bytes}
 use Rattle.capi.specs.Promises.{BytesBack, Fits, EngineBack, StaysState}
 use Rattle.capi.proofs.Places.{Word, same-bytes, encoded-length, encoded-byte}
 

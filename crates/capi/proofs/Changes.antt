@@ -3,10 +3,9 @@
 use mathlib.Core.Path.{_≡_, refl, sym, ap, _∙_}
 use mathlib.Core.Bool.{Bool, true, false, cond, true≢false}
 use mathlib.Core.List.{List, [], _∷_}
-use Prim.Native.Nat.{ℕ, _+_, _-_, _*_, _/_, _%_, _^_, _<_, _≤_}
-use native.Mathlib.Omega.{arith}
+use Prim.Native.Nat.{ℕ, _+_, _*_, _/_, _^_}
 use lib.Dec.{eqb, ltb}
-use lib.ListN.{length, getD}
+use lib.ListN.{length}
 use borrow.Author.Tests.{ne-eqb, eqb-false}
 use Rattle.registers.specs.declared.Regs.{Regs}
 use Rattle.registers.specs.declared.Place.{Place}
@@ -24,7 +23,7 @@ use Rattle.engine.specs.declared.Blit.{Blit}
 use Rattle.engine.specs.declared.Engine.{Engine}
 use Rattle.engine.specs.Step.{Step, regs, withBlit, idle, storedIn, afterRect, afterLine, filled, copied, lined, begun, fed, carried, launched, commanded, toRegister, toPlace, written}
 use Rattle.engine.proofs.Cases.{by-test, picked, by-number}
-use Rattle.capi.specs.Layout.{stateSize, patternAt, slot, byteOf, byteIn, encoded}
+use Rattle.capi.specs.Layout.{slot, byteIn, encoded}
 use Rattle.capi.specs.Calls.{withSlots, commandSlots, Draws}
 use Rattle.capi.proofs.Places.{Word, encoded-length, encoded-byte, slots-laid}
 

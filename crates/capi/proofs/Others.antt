@@ -1,16 +1,15 @@
 -- A call of read gives what the engine reads, and a call of open leaves the bytes of a fresh engine.
 -- Assumes nothing.
 use mathlib.Core.Path.{_≡_, refl, sym, ap, _∙_}
-use mathlib.Core.Bool.{Bool, true, false, cond}
-use mathlib.Core.List.{List, [], _∷_}
-use Prim.Native.Nat.{ℕ, _+_, _-_, _*_, _/_, _%_, _^_, _<_, _≤_}
+use mathlib.Core.Bool.{true, false, cond}
+use mathlib.Core.List.{List}
+use Prim.Native.Nat.{ℕ, _+_, _-_, _*_, _/_, _%_, _<_, _≤_}
 use native.Mathlib.Nat.{zero-add}
 use native.Mathlib.Omega.{arith}
 use lib.Dec.{eqb, ltb}
 use lib.ListN.{length, getD, drop, replicate, length-replicate, getD-replicate}
 use lib.Seq.{getD-take, getD-drop}
-use borrow.Author.Tests.{eq-eqb, ne-eqb, le-leb, ltb-true, ltb-false}
-use Rattle.registers.specs.declared.Place.{Place}
+use borrow.Author.Tests.{eq-eqb, ne-eqb, le-leb, ltb-false}
 use Rattle.registers.specs.declared.Place.the-variants.{Register, Pattern, Launch, Nowhere}
 use Rattle.registers.specs.Regs.{getReg}
 use Rattle.registers.specs.Kept.{oneOf}

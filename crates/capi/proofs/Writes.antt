@@ -1,6 +1,6 @@
 -- A call of write is the engine's write between the bytes of its state: a word that draws nothing, and any other.
 -- Assumes nothing.
-use mathlib.Core.Path.{_≡_, refl, sym, ap, ap₂, subst, _∙_}
+use mathlib.Core.Path.{_≡_, refl, sym, ap, ap₂, _∙_}
 use mathlib.Core.Bool.{Bool, true, false, cond, _&&_, and-eq-true-iff}
 use mathlib.Core.List.{List, [], _∷_}
 use Prim.Native.Nat.{ℕ, _+_, _-_, _*_, _/_, _%_, _^_, _<_, _≤_}
@@ -8,7 +8,6 @@ use native.Mathlib.Omega.{arith}
 use lib.Dec.{eqb, ltb}
 use lib.ListN.{length, getD, length-take, length-drop}
 use borrow.Author.Tests.{eq-eqb, ne-eqb, lt-ltb, le-ltb, le-leb, eqb-true, eqb-false, ltb-true, ltb-false}
-use Rattle.registers.specs.declared.Place.{Place}
 use Rattle.registers.specs.declared.Place.the-variants.{Register, Pattern}
 use Rattle.registers.specs.Regs.{putReg, getReg}
 use Rattle.registers.specs.Kept.{kept, oneOf}
@@ -20,13 +19,13 @@ use Rattle.registers.proofs.OffsetLaws.{register-listed, pattern-word}
 use Rattle.engine.specs.declared.Engine.{Engine}
 use Rattle.engine.specs.declared.Answer.{Answer}
 use Rattle.engine.specs.declared.Answer.the-variants.{Taken, Memory, Waiting}
-use Rattle.engine.specs.Step.{Step, step, withBank, storedIn, toRegister, toPattern, toPlace, written}
+use Rattle.engine.specs.Step.{Step, step, withBank, storedIn, toRegister, toPattern, written}
 use Rattle.engine.proofs.Cases.{by-test}
-use Rattle.capi.specs.Layout.{stateSize, patternAt, wordAt, withWord, byteOf, slot, byteIn, encoded, patternIn, openedIn, decoded, isState, Bytes}
+use Rattle.capi.specs.Layout.{stateSize, patternAt, withWord, byteOf, slot, byteIn, encoded, decoded, isState, Bytes}
 use Rattle.capi.specs.Calls.{packed, Call, call, packedAnswer, called, writtenTo, Opening, opening, withSlots, commandSlots, plainly, Draws}
 use Rattle.capi.proofs.Places.{Word, word-own, word-other, word-length, encoded-length, encoded-byte, same-bytes}
 use Rattle.capi.proofs.Back.{Opened, opened, bytes-back}
-use Rattle.capi.proofs.Changes.{Like, like-laid, like-stored, written-led}
+use Rattle.capi.proofs.Changes.{like-laid, like-stored, written-led}
 
 -- a state is written by the engine that it holds
 pub by-engine : (s m : List ℕ) (o d : ℕ) → isState s ≡ true → writtenTo s m o d ≡ called (written (decoded s) m o d)

@@ -8,7 +8,7 @@ use lib.Dec.{eqb, ltb}
 use lib.ListN.{length}
 use Rattle.surface.specs.Place.{byteOf}
 use Rattle.surface.specs.Format.{targetOf}
-use Rattle.surface.specs.View.{viewAnswer, viewed}
+use Rattle.surface.specs.View.{viewAnswer}
 use Rattle.registers.specs.declared.Reading.{Reading}
 use Rattle.registers.specs.declared.Place.the-variants.{Register, Pattern}
 use Rattle.registers.specs.Offsets.{placeOf}

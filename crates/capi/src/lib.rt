@@ -7,12 +7,10 @@ use registers::Place;
 use registers::Regs;
 ghost use mathlib.Core.Path.{_≡_};
 ghost use mathlib.Core.Bool.{true};
-ghost use mathlib.Core.List.{[], _∷_};
-ghost use Prim.Native.Nat.{_+_, _<_, _≤_, _^_};
+ghost use Prim.Native.Nat.{_+_, _<_, _≤_};
 ghost use lib.ListN.{length, replicate};
-ghost use Rattle.engine.specs.Step.{numberOf, countOf};
-ghost use Rattle.capi.specs.Layout.{stateSize, wordAt, withWord, slot, regsIn, patternIn, openedIn, decoded, isState, Bytes};
-ghost use Rattle.capi.specs.Calls.{packedAnswer, call, opening, writtenTo, openedTo, readOf, part, partOf, withSlots, fixedSlots, commandSlots, plainly, Draws};
+ghost use Rattle.capi.specs.Layout.{stateSize, wordAt, withWord, regsIn, patternIn, openedIn, decoded, isState, Bytes};
+ghost use Rattle.capi.specs.Calls.{packedAnswer, call, opening, writtenTo, openedTo, readOf, part, partOf, withSlots, commandSlots, plainly, Draws};
 
 fn wide(x: u8) -> u32
     ensures { λ r. ⌜ (r ≡ x) × (r < 256) ⌝ }

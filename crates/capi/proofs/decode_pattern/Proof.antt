@@ -1,12 +1,10 @@
 -- `decode_pattern` meets its contract: byte by byte, and the measure is what is left of them.
 -- Assumes nothing.
 use borrow.Author.Needs.{needs}
-use mathlib.Core.Path.{_≡_, refl, sym, _∙_}
-use mathlib.Core.List.{List}
-use Prim.Native.Nat.{ℕ, _+_, _-_, _<_, _≤_}
+use mathlib.Core.Path.{_≡_, _∙_}
+use Prim.Native.Nat.{_+_, _-_, _≤_}
 use native.Mathlib.Omega.{arith}
-use lib.ListN.{length, getD, set, length-set}
-use Rattle.capi.specs.Layout.{patternAt, patternIn}
+use lib.ListN.{length, getD, length-set}
 use Rattle.capi.proofs.Lists.{Copied, copied-none, copied-next, copied-all}
 use Rattle.capi.proofs.decode_pattern.Statement.{statement}
 use Rattle.capi.proofs.decode_pattern.Tie as tie
