@@ -4,6 +4,7 @@ use mathlib.Core.Path.{_≡_, refl, sym, ap, _∙_}
 use mathlib.Core.Bool.{Bool, true, false, cond, true≢false}
 use mathlib.Core.List.{List, [], _∷_}
 use Prim.Native.Nat.{ℕ, _+_, _*_, _/_, _^_}
+use native.Mathlib.Omega.{arith}
 use lib.Dec.{eqb, ltb}
 use lib.ListN.{length}
 use borrow.Author.Tests.{ne-eqb, eqb-false}
@@ -157,6 +158,17 @@ unfolding commanded
 commanded-led e m d =
     let h = like-then (led-stored e 0x70 d refl) (led-blit (storedIn e 0x70 d) _) in
     picked (Leaves e) (bit d 8) _ _ (λ _. carried-led e e (idle (storedIn e 0x70 d)) m (like-same e) h) (λ _. h)
+
+-- ---- offsets that are neither a plain register's nor the pattern's
+
+pub draws-command : (o : ℕ) → placeOf o ≡ Register → o ≡ 0x70 → Draws o
+draws-command o p e = record { register = λ _. e; pattern = λ i q. let z : _≡_ {A = ℕ} 0 1 = cc in omega arith }
+
+pub draws-launch : (o : ℕ) → placeOf o ≡ Launch → Draws o
+draws-launch o p = record { register = λ q. absurd (let z : _≡_ {A = ℕ} 0 1 = cc in omega arith); pattern = λ i q. let z : _≡_ {A = ℕ} 0 1 = cc in omega arith }
+
+pub draws-nowhere : (o : ℕ) → placeOf o ≡ Nowhere → Draws o
+draws-nowhere o p = record { register = λ q. absurd (let z : _≡_ {A = ℕ} 0 1 = cc in omega arith); pattern = λ i q. let z : _≡_ {A = ℕ} 0 1 = cc in omega arith }
 
 -- ---- a write that is not one of a plain register or of the pattern
 

@@ -3,6 +3,6 @@ pub mod Places
 pub mod Back
 pub mod Changes
 pub mod Writes
-pub mod Others
+pub mod ReadOpen
 pub mod Views
 pub mod One

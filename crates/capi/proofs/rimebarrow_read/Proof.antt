@@ -12,7 +12,7 @@ use Rattle.registers.proofs.OffsetLaws.{pattern-word}
 use Rattle.capi.specs.Layout.{stateSize, isState}
 use Rattle.capi.proofs.Back.{opened}
 use Rattle.capi.proofs.Writes.{register-word}
-use Rattle.capi.proofs.Others.{not-read, register-read, pattern-read, launch-read, nowhere-read}
+use Rattle.capi.proofs.ReadOpen.{not-read, register-read, pattern-read, launch-read, nowhere-read}
 use Rattle.capi.proofs.rimebarrow_read.Statement.{statement}
 use Rattle.capi.proofs.rimebarrow_read.Tie as tie
 

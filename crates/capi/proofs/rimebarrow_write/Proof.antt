@@ -13,7 +13,7 @@ use Rattle.capi.specs.Layout.{stateSize, isState, Bytes}
 use Rattle.capi.specs.Calls.{plainly}
 use Rattle.capi.proofs.Back.{opened}
 use Rattle.capi.proofs.Writes.{not-written, register-word, register-written, pattern-written}
-use Rattle.capi.proofs.Others.{draws-command, draws-launch, draws-nowhere}
+use Rattle.capi.proofs.Changes.{draws-command, draws-launch, draws-nowhere}
 use Rattle.capi.proofs.rimebarrow_write.Statement.{statement}
 use Rattle.capi.proofs.rimebarrow_write.Tie as tie
 

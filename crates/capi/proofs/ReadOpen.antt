@@ -21,20 +21,9 @@ use Rattle.registers.proofs.OffsetLaws.{register-listed, pattern-word}
 use Rattle.engine.specs.Step.{freshEngine, readFrom}
 use Rattle.engine.proofs.Cases.{by-test}
 use Rattle.capi.specs.Layout.{stateSize, patternAt, wordAt, byteOf, slot, byteIn, encoded, regsIn, patternIn, decoded, isState}
-use Rattle.capi.specs.Calls.{packed, packedReading, readOf, opening, openedTo, withSlots, fixedSlots, Draws}
+use Rattle.capi.specs.Calls.{packed, packedReading, readOf, opening, openedTo, withSlots, fixedSlots}
 use Rattle.capi.proofs.Places.{Word, slots-laid}
 use Rattle.capi.proofs.Changes.{none-of}
-
--- ---- offsets that are neither a plain register's nor the pattern's
-
-pub draws-command : (o : ℕ) → placeOf o ≡ Register → o ≡ 0x70 → Draws o
-draws-command o p e = record { register = λ _. e; pattern = λ i q. let z : _≡_ {A = ℕ} 0 1 = cc in omega arith }
-
-pub draws-launch : (o : ℕ) → placeOf o ≡ Launch → Draws o
-draws-launch o p = record { register = λ q. absurd (let z : _≡_ {A = ℕ} 0 1 = cc in omega arith); pattern = λ i q. let z : _≡_ {A = ℕ} 0 1 = cc in omega arith }
-
-pub draws-nowhere : (o : ℕ) → placeOf o ≡ Nowhere → Draws o
-draws-nowhere o p = record { register = λ q. absurd (let z : _≡_ {A = ℕ} 0 1 = cc in omega arith); pattern = λ i q. let z : _≡_ {A = ℕ} 0 1 = cc in omega arith }
 
 -- ---- read
 
