@@ -4,17 +4,18 @@ use mathlib.Core.Path.{_≡_, refl, sym, ap, ap₂, subst, _∙_}
 use mathlib.Core.Logic.{⊎-elim}
 use mathlib.Core.Bool.{Bool, true, false, not, _&&_, _||_, and-true}
 use mathlib.Core.List.{List, [], _∷_, map, List·Memᴰ, List·Memᴰ·head, List·Memᴰ·tail, List·Memᴰ·not-nil, List·Memᴰ·cases-cons, Memᴰ·map}
-use Prim.Native.Nat.{ℕ, zero, suc, _+_, _-_, _<_, _≤_}
+use Prim.Native.Nat.{ℕ, zero, suc, _+_, _-_, _<_, _≤_, min, max}
 use native.Mathlib.Omega.{arith}
 use borrow.Author.Tests.{ltb-true, leb-true}
 use lib.Dec.{leb, ltb}
 use Rattle.surface.specs.declared.Surface.{Surface}
 use Rattle.surface.specs.Place.{onSurface, readPx}
-use Rattle.surface.specs.Pixels.{Px}
+use Rattle.surface.specs.Pixels.{Px, rect}
 use Rattle.surface.specs.Span.{allOn}
 use Rattle.surface.proofs.OnLaws.{and-left, and-right}
 use Rattle.surface.proofs.Lists.{In}
-use Rattle.surface.proofs.Rects.{Distinct}
+use Rattle.surface.proofs.Rects.{Distinct, rect-in}
+use Rattle.surface.proofs.Corner.{all-each, each-all}
 use Rattle.paint.specs.declared.Clip.{Clip}
 use Rattle.paint.specs.declared.Ink.{Ink}
 use Rattle.paint.specs.declared.Source.{Source}
@@ -30,7 +31,7 @@ use Rattle.line.specs.Line.{longer, pointAt, pointsFrom, pointCount, poi
 use Rattle.line.specs.Stipple.{stippleBit, after}
 use Rattle.line.specs.Draw.{coveredPoints, lineTouches, lineOff}
 use Rattle.line.proofs.Sides.{either, count-le}
-use Rattle.line.proofs.PointLaws.{from-each, points-differ, same-point, from-cons, from-none}
+use Rattle.line.proofs.PointLaws.{from-each, points-in-box, points-differ, same-point, from-cons, from-none}
 
 not-and : (a b : Bool) → not (a && b) ≡ (not a || not b)
 not-and true b = refl
@@ -67,6 +68,17 @@ pub touched-in-clip : (ink : Ink) (pattern : List ℕ) (c : Clip) (pen : Pen) (s
     → List·Memᴰ t (lineTouches ink pattern c pen style ps) → inClip c (origin + t .at .x) (origin + t .at .y) ≡ true
 touched-in-clip ink pattern c pen style ps t m =
     covered-in-clip c ps (t .at) (subst (In (t .at)) (touches-covered ink pattern c pen style ps) (Memᴰ·map (λ u. u .at) m))
+
+-- ---- where the rectangle is on the surface that holds them, all are
+pub box-on : (s : Surface) (len : ℕ) (c : Clip) (l : Line) (w h : ℕ) → w ≡ min (max (l .x0) (l .x1) + 1) (origin + c .right) - origin
+    → h ≡ min (max (l .y0) (l .y1) + 1) (origin + c .bottom) - origin → allOn s len (rect false false 0 0 w h) ≡ true → false ≡ lineOff s len c (points l)
+unfolding lineOff
+box-on s len c l w h e f on =
+    sym (ap not (each-all s len (coveredPoints c (points l)) (covered-each (λ q. onSurface s len (q .x) (q .y) ≡ true) c (points l) (λ p m g.
+    let k = in-clip c (p .x) (p .y) g in
+    let b = points-in-box l p m in
+    all-each s len (rect false false 0 0 w h) on (pixelAt (p .x) (p .y))
+    (rect-in false false 0 0 w h _ (record { left = omega arith; right = omega arith; top = omega arith; bottom = omega arith }))))))
 
 -- ---- no pixel comes twice
 same-pixel : (c : Clip) (p q : Point) → inClip c (p .x) (p .y) ≡ true → inClip c (q .x) (q .y) ≡ true

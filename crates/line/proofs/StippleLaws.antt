@@ -23,11 +23,15 @@ module _ (r z p b : ℕ) (hr : r < 256) (hz : z < 32) (hp : p < 256) (hb : b < 3
   third-field : position (styleOf r z p b) ≡ p
   third-field = omega arith
 
-  fourth-field : bitNumber (styleOf r z p b) ≡ b
+  pub fourth-field : bitNumber (styleOf r z p b) ≡ b
   fourth-field = omega arith
 
   whole : fourFields (styleOf r z p b) ≡ styleOf r z p b
   whole = rw (first-field, second-field, third-field, fourth-field)
+
+  pub stepped-fields : stepped (styleOf r z p b) ≡ cond (ltb p r) (styleOf r z (p + 1) b) (styleOf r z 0 (cond (ltb b z) (b + 1) 0))
+  unfolding stepped
+  stepped-fields = rw (first-field, second-field, third-field, fourth-field)
 
 pub stepped-whole : (style : ℕ) → fourFields (stepped style) ≡ stepped style
 unfolding stepped

@@ -1,3 +1,4 @@
 pub mod Line
 pub mod Stipple
 pub mod Draw
+pub mod Walk
