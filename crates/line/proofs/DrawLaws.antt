@@ -18,7 +18,6 @@ use Rattle.surface.proofs.Rects.{Distinct, rect-in}
 use Rattle.surface.proofs.Corner.{all-each, each-all}
 use Rattle.paint.specs.declared.Clip.{Clip}
 use Rattle.paint.specs.declared.Ink.{Ink}
-use Rattle.paint.specs.declared.Source.{Source}
 use Rattle.paint.specs.Paint.{State, state, dab, Touch, paint}
 use Rattle.paint.specs.Pattern.{patternValue}
 use Rattle.paint.specs.Mix.{bitSource, mixed}
@@ -124,12 +123,12 @@ module _ (s : Surface) (len : ℕ) (c : Clip) (p : Point) where
   off-clipped h = rw h
 
 module _ (ink : Ink) (pattern : List ℕ) (c : Clip) (pen : Pen) (p : Point) (style n : ℕ) (m : List ℕ) where
-  pub paint-covered : {value bit k : ℕ} {source : Source} {m′ : List ℕ} → inClip c (p .x) (p .y) ≡ true
-      → value ≡ patternValue ink pattern (p .x - origin) (p .y - origin) → bit ≡ stippleBit pen style → source ≡ bitSource ink bit
-      → state m′ k ≡ dab (ink .target) (pixelAt (p .x) (p .y)) (mixed ink value source (readPx m (ink .target) (p .x - origin) (p .y - origin))) (state m n)
+  pub paint-covered : {bit k : ℕ} {m′ : List ℕ} → inClip c (p .x) (p .y) ≡ true → bit ≡ stippleBit pen style
+      → state m′ k ≡ dab (ink .target) (pixelAt (p .x) (p .y))
+      (mixed ink (patternValue ink pattern (p .x - origin) (p .y - origin)) (bitSource ink bit) (readPx m (ink .target) (p .x - origin) (p .y - origin))) (state m n)
       → state m′ k ≡ paint (ink .target) (lineTouches ink pattern c pen style (p ∷ [])) (state m n)
   unfolding paint lineTouches
-  paint-covered h v b s e = rw (h, ← v, ← b, ← s) e
+  paint-covered h b e = rw (h, ← b) e
 
   pub paint-clipped : inClip c (p .x) (p .y) ≡ false → state m n ≡ paint (ink .target) (lineTouches ink pattern c pen style (p ∷ [])) (state m n)
   unfolding paint lineTouches

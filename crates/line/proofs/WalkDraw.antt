@@ -1,13 +1,12 @@
 -- Laws of drawing by address: one point and the others, and that a line inside the clip whose points get their source is drawn so.
 -- Assumes nothing.
 use mathlib.Core.Path.{_≡_, refl, sym, ap, ap₂, subst, _∙_}
-use mathlib.Core.Bool.{true, cond, _&&_}
+use mathlib.Core.Bool.{true, _&&_}
 use mathlib.Core.List.{List, [], _∷_}
 use Prim.Native.Nat.{ℕ, zero, suc, _+_, _-_, _*_, _^_, _<_, _≤_}
 use native.Mathlib.Nat.{add-zero}
 use native.Mathlib.Decide.{ℕ-discrete}
 use native.Mathlib.Omega.{arith}
-use lib.Dec.{eqb}
 use Rattle.surface.specs.declared.Surface.{Surface}
 use Rattle.surface.specs.Place.{byteAt, byteOf, readPx, writeBytes, writePx, onSurface, OnColour}
 use Rattle.surface.specs.Pixels.{Px, px}
@@ -23,7 +22,6 @@ use Rattle.paint.specs.Pattern.{patternValue}
 use Rattle.paint.specs.Mix.{bitSource, placed}
 use Rattle.paint.specs.Clip.{origin, inClip, pixelAt}
 use Rattle.paint.specs.Fast.{direct}
-use Rattle.paint.proofs.MixLaws.{direct-mixed}
 use Rattle.paint.proofs.ClipLaws.{in-clip, clip-in}
 use Rattle.line.specs.declared.Line.{Line}
 use Rattle.line.specs.declared.Pen.{Pen}
@@ -34,6 +32,7 @@ use Rattle.line.specs.Walk.{sourced, walkTouches, putFrom, whole, walks,
 use Rattle.line.proofs.Sides.{either, count-le}
 use Rattle.line.proofs.PointLaws.{from-cons, from-none}
 use Rattle.line.proofs.DrawLaws.{point-on, on-turn}
+use Rattle.line.proofs.PutLaws.{direct-source}
 use Rattle.line.proofs.WalkLaws.{point-box}
 
 -- ---- a pixel from its address on
@@ -89,11 +88,7 @@ module _ (c : Clip) (l : Line) (start : inClip c (l .x0) (l .y0) ≡ true) (end 
 
   module _ (ink : Ink) (pattern : List ℕ) (pen : Pen) (d : direct ink ≡ true) (fore : ink .fore < 2 ^ 32) (back : ink .back < 2 ^ 32) where
     same-touch : (p : Px) (bit : ℕ) → placed ink pattern p (bitSource ink bit) ≡ touch p (λ m. sourced (bitSource ink bit))
-    unfolding bitSource sourced
-    same-touch p bit =
-        let small : cond (eqb bit 1) (ink .fore) (ink .back) < 2 ^ 32 = either (eqb bit 1) (λ e. rw e fore) (λ e. rw e back) in
-        λ i. touch p (λ m. direct-mixed ink (patternValue ink pattern (p .x) (p .y)) (cond (eqb bit 1) (ink .fore) (ink .back))
-        (readPx m (ink .target) (p .x) (p .y)) (ink .clear && eqb bit 0) d small i)
+    same-touch p bit = λ i. touch p (λ m. direct-source ink (patternValue ink pattern (p .x) (p .y)) (readPx m (ink .target) (p .x) (p .y)) bit d fore back i)
 
     same-touches : (i k style : ℕ) → i + k ≤ longer l + 1
         → walkTouches ink pen style (pointsFrom l i k) ≡ lineTouches ink pattern c pen style (pointsFrom l i k)

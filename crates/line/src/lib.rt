@@ -8,13 +8,16 @@ ghost use mathlib.Core.Bool.{true};
 ghost use mathlib.Core.List.{[], _∷_};
 ghost use Prim.Native.Nat.{_+_, _-_, _%_, _^_, _<_, _≤_, min, max};
 ghost use lib.ListN.{length, set};
-ghost use Rattle.surface.specs.Place.{writeBytes, Small};
-ghost use Rattle.paint.specs.Paint.{state, paint};
+ghost use Rattle.surface.specs.Place.{readPx, writeBytes, Small, OnColour};
+ghost use Rattle.surface.specs.Pixels.{px};
+ghost use Rattle.paint.specs.Paint.{state, dab, paint};
+ghost use Rattle.paint.specs.Pattern.{patternValue};
+ghost use Rattle.paint.specs.Mix.{bitSource, mixed, Ready};
 ghost use Rattle.paint.specs.Clip.{Bits12};
 ghost use Rattle.line.specs.Line.{far, towards, xMajor, longer, shorter, aside, place, pointAt, pointCount, points, Within, Placed};
 ghost use Rattle.line.specs.Stipple.{stepped, stippleBit, after, styleAfter};
 ghost use Rattle.line.specs.Draw.{lineTouches, lineOff, Testable, Drawable, DrawablePoint};
-ghost use Rattle.line.specs.Walk.{shift, stepsOf, walkedOn, walkTouches, putFrom, wordOf, whole, Fields, walks, Spot, Walkable};
+ghost use Rattle.line.specs.Walk.{shift, stepsOf, walkedOn, sourced, walkTouches, putFrom, wordOf, whole, Fields, walks, Spot, Walkable};
 
 pub struct Point {
     pub x: u32,
@@ -243,6 +246,31 @@ pub fn line_off(len: usize, s: Surface, c: Clip, l: Line) -> bool
     false
 }
 
+// A pixel is given its source, and counted, or it is left.
+fn put_plain(mem: &mut [u8], s: Surface, x: u32, y: u32, source: Source, n: u32) -> u32
+    requires { ⌜ OnColour s (length (now mem)) x y × (n + 1 < 2 ^ 32) ⌝ }
+    ensures { λ r. ⌜ (state (now (mem .exit)) r ≡ dab s (px x y) (sourced source) (state (now (mem .entry)) n)) × (r ≤ n + 1) ⌝ }
+{
+    if source.left {
+        return n;
+    }
+    surface::put_pixel(mem, s, x, y, source.value);
+    n + 1
+}
+
+// Pixel (x, y) of a line where its stipple has this bit, after n that were written.
+fn put_point(mem: &mut [u8], ink: Ink, pattern: [u8; 256], x: u32, y: u32, bit: u32, n: u32) -> u32
+    requires { ⌜ Ready ink (length (now mem)) x y n ⌝ }
+    ensures { λ r. ⌜ (state (now (mem .exit)) r ≡ dab (ink .target) (px x y) (mixed ink (patternValue ink pattern x y) (bitSource ink bit) (readPx (now (mem .entry)) (ink .target) x y)) (state (now (mem .entry)) n)) × (r ≤ n + 1) ⌝ }
+{
+    let source = paint::bit_source(ink, bit);
+    if paint::is_direct(ink) {
+        return put_plain(mem, ink.target, x, y, source, n);
+    }
+    let value = paint::pattern_at(ink, pattern, x, y);
+    paint::put_source(mem, ink, value, x, y, source, n)
+}
+
 // One point drawn, after those that left `done`.
 fn paint_point(
     mem: &mut [u8],
@@ -265,11 +293,10 @@ fn paint_point(
     }
     let x = p.x - 16384;
     let y = p.y - 16384;
-    let value = paint::pattern_at(ink, pattern, x, y);
-    let source = paint::bit_source(ink, stipple_bit(pen, done.style));
+    let bit = stipple_bit(pen, done.style);
     LineDone {
         style: next,
-        count: paint::put_source(mem, ink, value, x, y, source, done.count),
+        count: put_point(mem, ink, pattern, x, y, bit, done.count),
     }
 }
 

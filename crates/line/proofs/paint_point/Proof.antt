@@ -32,31 +32,24 @@ sub-x c = omega (arith, in-clip _ _ _ (inside (c .before)))
 sub-y : tie.Need-sub-y
 sub-y c = omega (arith, in-clip _ _ _ (inside (c .before .before)))
 
-pattern-at-requires : tie.Need-pattern-at-requires
-pattern-at-requires c κs = search needs
-
 stipple-bit-requires : tie.Need-stipple-bit-requires
 stipple-bit-requires c κs = search needs
 
-bit-source-requires : tie.Need-bit-source-requires
-bit-source-requires c κs = search needs
-
-put-source-requires : tie.Need-put-source-requires
-put-source-requires c κs =
-    let a = c .before .before .before .before .before .before .before .before .before .before .args in
-    let p = c .before .before .before .before .before .before .before .before .before .before .pre in
-    record { on = record { colour = p .surface; on = point-on (a .ink .target) _ (a .c) (a .p) (p .on) (inside (c .before .before .before .before .before .before)) }; room = p .room }
+put-point-requires : tie.Need-put-point-requires
+put-point-requires c κs =
+    let a = c .before .before .before .before .before .before .before .before .args in
+    let p = c .before .before .before .before .before .before .before .before .pre in
+    record { on = record { colour = p .surface; on = point-on (a .ink .target) _ (a .c) (a .p) (p .on) (inside (c .before .before .before .before)) }; room = p .room }
 
 same-length : tie.Need-same-length
 same-length c = search needs
 
 returns-2 : tie.Need-returns-2
 returns-2 c =
-    let a = c .before .before .before .before .before .before .before .before .before .before .before .before .before .args in
-    let put = c .before .before .put-source .ensures in (
-      paint-covered (a .ink) (a .pattern) (a .c) (a .pen) (a .p) (a .done .style) (a .done .count) (a .mem .now) (inside (c .before .before .before .before .before .before .before .before .before))
-          (c .before .before .before .before .before .before .pattern-at .ensures) (c .before .before .before .before .before .stipple-bit .ensures) (c .before .before .before .before .bit-source .ensures) (put .0),
-      (c .before .before .before .before .before .before .before .before .before .before .before .style-after .ensures, put .1),
+    let a = c .before .before .before .before .before .before .before .before .before .before .before .args in
+    let put = c .before .before .put-point .ensures in (
+      paint-covered (a .ink) (a .pattern) (a .c) (a .pen) (a .p) (a .done .style) (a .done .count) (a .mem .now) (inside (c .before .before .before .before .before .before .before)) (c .before .before .before .before .stipple-bit .ensures) (put .0),
+      (c .before .before .before .before .before .before .before .before .before .style-after .ensures, put .1),
     )
 
 pub paint-point-spec : {M : Type 1} → statement M
@@ -68,9 +61,7 @@ paint-point-spec =
     returns
     sub-x
     sub-y
-    pattern-at-requires
     stipple-bit-requires
-    bit-source-requires
-    put-source-requires
+    put-point-requires
     same-length
     returns-2)
