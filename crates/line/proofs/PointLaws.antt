@@ -97,9 +97,12 @@ place-in-box l a b h k =
       y = towards-between (l .y0) (l .y1) a (omega (arith, longer-y l e));
     }))
 
-pub points-in-box : (l : Line) (p : Point) → List·Memᴰ p (points l) → InBox l p
+pub point-box : (l : Line) (i : ℕ) → i ≤ longer l → InBox l (pointAt l i)
 unfolding pointAt
-points-in-box l = points-each (InBox l) l (λ i h. place-in-box l i _ h (aside-le (longer l) (shorter l) i (shorter-le l) h))
+point-box l i h = place-in-box l i _ h (aside-le (longer l) (shorter l) i (shorter-le l) h)
+
+pub points-in-box : (l : Line) (p : Point) → List·Memᴰ p (points l) → InBox l p
+points-in-box l = points-each (InBox l) l (point-box l)
 
 -- so positions stay within 13 signed bits
 pub points-within : {l : Line} → Placed l → (p : Point) → List·Memᴰ p (points l) → Within (p .x) × Within (p .y)

@@ -30,10 +30,9 @@ use Rattle.line.specs.Stipple.{stippleBit, after}
 use Rattle.line.specs.Draw.{coveredPoints, lineTouches, Drawable}
 use Rattle.line.specs.Walk.{sourced, walkTouches, putFrom, whole, walks, Walkable}
 use Rattle.line.proofs.Sides.{either, count-le}
-use Rattle.line.proofs.PointLaws.{from-cons, from-none}
+use Rattle.line.proofs.PointLaws.{point-box, from-cons, from-none}
 use Rattle.line.proofs.DrawLaws.{point-on, on-turn}
 use Rattle.line.proofs.PutLaws.{direct-source}
-use Rattle.line.proofs.WalkLaws.{point-box}
 
 -- ---- a pixel from its address on
 byte-run : (s : Surface) (x y k : ℕ) → byteOf s x y k ≡ byteOf s x y 0 + k

@@ -15,10 +15,10 @@ use Rattle.paint.specs.Clip.{origin}
 use Rattle.line.specs.declared.Point.{Point}
 use Rattle.line.specs.declared.Line.{Line}
 use Rattle.line.specs.declared.Walk.{Walk}
-use Rattle.line.specs.Line.{point, far, towards, xMajor, longer, shorter, aside, pointAt, Placed}
+use Rattle.line.specs.Line.{far, towards, xMajor, longer, shorter, aside, pointAt, Placed}
 use Rattle.line.specs.Walk.{shift, across, down, stepsOf, walk, walkedOn, AtPoint, Ahead}
 use Rattle.line.proofs.Sides.{either, longer-x, longer-y, shorter-x, shorter-y, shorter-le, longer-lt, aside-le}
-use Rattle.line.proofs.PointLaws.{InBox, place-x, place-y, place-in-box, first}
+use Rattle.line.proofs.PointLaws.{InBox, place-x, place-y, point-box, first}
 
 -- ---- the steps along the minor axis: a sum goes on by k, at most the divisor
 module _ (q r d t k : ℕ) (e : t ≡ q * d + r + k) where
@@ -118,82 +118,77 @@ walk-start s l a r e f = record { at = rw (first l) e; rest = f ∙ start-rest (
 abbrev address : Surface → Point → ℕ
 address s p = byteOf s (p .x - origin) (p .y - origin) 0
 
-pub point-box : (l : Line) (i : ℕ) → i ≤ longer l → InBox l (pointAt l i)
-unfolding pointAt
-point-box l i h = place-in-box l i _ h (aside-le (longer l) (shorter l) i (shorter-le l) h)
+module _ (s : Surface) (small : Small s) (l : Line) (ahead : Ahead l) (i : ℕ) (h : i + 1 ≤ longer l) where
+  abbrev p : Point
+  p = pointAt l i
 
-module _ (s : Surface) (small : Small s) (l : Line) (ahead : Ahead l) where
-  module _ (i : ℕ) (h : i + 1 ≤ longer l) where
-    abbrev p : Point
-    p = pointAt l i
+  abbrev p′ : Point
+  p′ = pointAt l (i + 1)
 
-    abbrev p′ : Point
-    p′ = pointAt l (i + 1)
+  moves-across : Step (leb (l .x0) (l .x1)) 1 (p .x - origin) (p′ .x - origin) → p′ .y ≡ p .y → address s p′ ≡ (address s p + across s l) % 2 ^ 64
+  moves-across e f =
+      let b = point-box l i (omega arith) in
+      let b′ = point-box l (i + 1) h in
+      rw f (go-across s small (p .x - origin) (p .y - origin) (omega arith) (omega arith) (p′ .x - origin) _ e
+      (address-small s small (p′ .x - origin) (p .y - origin) (omega arith) (omega arith)))
 
-    moves-across : Step (leb (l .x0) (l .x1)) 1 (p .x - origin) (p′ .x - origin) → p′ .y ≡ p .y → address s p′ ≡ (address s p + across s l) % 2 ^ 64
-    moves-across e f =
-        let b = point-box l i (omega arith) in
-        let b′ = point-box l (i + 1) h in
-        rw f (go-across s small (p .x - origin) (p .y - origin) (omega arith) (omega arith) (p′ .x - origin) _ e
-        (address-small s small (p′ .x - origin) (p .y - origin) (omega arith) (omega arith)))
+  moves-down : Step (leb (l .y0) (l .y1)) 1 (p .y - origin) (p′ .y - origin) → p′ .x ≡ p .x → address s p′ ≡ (address s p + down s l) % 2 ^ 64
+  moves-down e f =
+      let b = point-box l i (omega arith) in
+      let b′ = point-box l (i + 1) h in
+      rw f (go-down s small (p .x - origin) (p .y - origin) (omega arith) (omega arith) (p′ .y - origin) _ e
+      (address-small s small (p .x - origin) (p′ .y - origin) (omega arith) (omega arith)))
 
-    moves-down : Step (leb (l .y0) (l .y1)) 1 (p .y - origin) (p′ .y - origin) → p′ .x ≡ p .x → address s p′ ≡ (address s p + down s l) % 2 ^ 64
-    moves-down e f =
-        let b = point-box l i (omega arith) in
-        let b′ = point-box l (i + 1) h in
-        rw f (go-down s small (p .x - origin) (p .y - origin) (omega arith) (omega arith) (p′ .y - origin) _ e
-        (address-small s small (p .x - origin) (p′ .y - origin) (omega arith) (omega arith)))
+  moves-both : Step (leb (l .x0) (l .x1)) 1 (p .x - origin) (p′ .x - origin) → Step (leb (l .y0) (l .y1)) 1 (p .y - origin) (p′ .y - origin)
+      → address s p′ ≡ (address s p + (across s l + down s l) % 2 ^ 64) % 2 ^ 64
+  moves-both e f =
+      let b = point-box l i (omega arith) in
+      let b′ = point-box l (i + 1) h in
+      let mid = address-small s small (p′ .x - origin) (p .y - origin) (omega arith) (omega arith) in
+      let one = go-across s small (p .x - origin) (p .y - origin) (omega arith) (omega arith) (p′ .x - origin) _ e mid in
+      let two = go-down s small (p′ .x - origin) (p .y - origin) (omega arith) (omega arith) (p′ .y - origin) _ f
+      (address-small s small (p′ .x - origin) (p′ .y - origin) (omega arith) (omega arith)) in
+      two ∙ ap (λ (a : ℕ). (a + down s l) % 2 ^ 64) one ∙ both-sum (address s p) (across s l) (down s l)
 
-    moves-both : Step (leb (l .x0) (l .x1)) 1 (p .x - origin) (p′ .x - origin) → Step (leb (l .y0) (l .y1)) 1 (p .y - origin) (p′ .y - origin)
-        → address s p′ ≡ (address s p + (across s l + down s l) % 2 ^ 64) % 2 ^ 64
-    moves-both e f =
-        let b = point-box l i (omega arith) in
-        let b′ = point-box l (i + 1) h in
-        let mid = address-small s small (p′ .x - origin) (p .y - origin) (omega arith) (omega arith) in
-        let one = go-across s small (p .x - origin) (p .y - origin) (omega arith) (omega arith) (p′ .x - origin) _ e mid in
-        let two = go-down s small (p′ .x - origin) (p .y - origin) (omega arith) (omega arith) (p′ .y - origin) _ f
-        (address-small s small (p′ .x - origin) (p′ .y - origin) (omega arith) (omega arith)) in
-        two ∙ ap (λ (a : ℕ). (a + down s l) % 2 ^ 64) one ∙ both-sum (address s p) (across s l) (down s l)
+  along-x : xMajor l ≡ true → aside (longer l) (shorter l) (i + 1) ≡ aside (longer l) (shorter l) i → address s p′ ≡ (address s p + across s l) % 2 ^ 64
+  unfolding pointAt
+  along-x e f =
+      moves-across (rw (place-x l i _ e, place-x l (i + 1) _ e) (towards-next (l .x0) (l .x1) i (ahead .left) (ahead .right) (omega (arith, longer-x l e))))
+      (rw (place-x l i _ e, place-x l (i + 1) _ e, f))
 
-    along-x : xMajor l ≡ true → aside (longer l) (shorter l) (i + 1) ≡ aside (longer l) (shorter l) i → address s p′ ≡ (address s p + across s l) % 2 ^ 64
-    unfolding pointAt
-    along-x e f =
-        moves-across (rw (place-x l i _ e, place-x l (i + 1) _ e) (towards-next (l .x0) (l .x1) i (ahead .left) (ahead .right) (omega (arith, longer-x l e))))
-        (rw (place-x l i _ e, place-x l (i + 1) _ e, f))
+  along-y : xMajor l ≡ false → aside (longer l) (shorter l) (i + 1) ≡ aside (longer l) (shorter l) i → address s p′ ≡ (address s p + down s l) % 2 ^ 64
+  unfolding pointAt
+  along-y e f =
+      moves-down (rw (place-y l i _ e, place-y l (i + 1) _ e) (towards-next (l .y0) (l .y1) i (ahead .top) (ahead .bottom) (omega (arith, longer-y l e))))
+      (rw (place-y l i _ e, place-y l (i + 1) _ e, f))
 
-    along-y : xMajor l ≡ false → aside (longer l) (shorter l) (i + 1) ≡ aside (longer l) (shorter l) i → address s p′ ≡ (address s p + down s l) % 2 ^ 64
-    unfolding pointAt
-    along-y e f =
-        moves-down (rw (place-y l i _ e, place-y l (i + 1) _ e) (towards-next (l .y0) (l .y1) i (ahead .top) (ahead .bottom) (omega (arith, longer-y l e))))
-        (rw (place-y l i _ e, place-y l (i + 1) _ e, f))
+  along-both : aside (longer l) (shorter l) (i + 1) ≡ aside (longer l) (shorter l) i + 1
+      → address s p′ ≡ (address s p + (across s l + down s l) % 2 ^ 64) % 2 ^ 64
+  unfolding pointAt
+  along-both f =
+      let k = aside-le (longer l) (shorter l) (i + 1) (shorter-le l) h in
+      either (xMajor l)
+      (λ e. moves-both (rw (place-x l i _ e, place-x l (i + 1) _ e) (towards-next (l .x0) (l .x1) i (ahead .left) (ahead .right) (omega (arith, longer-x l e))))
+      (rw (place-x l i _ e, place-x l (i + 1) _ e, f) (towards-next (l .y0) (l .y1) _ (ahead .top) (ahead .bottom) (omega (arith, shorter-y l e)))))
+      (λ e. moves-both (rw (place-y l i _ e, place-y l (i + 1) _ e, f) (towards-next (l .x0) (l .x1) _ (ahead .left) (ahead .right) (omega (arith, shorter-x l e))))
+      (rw (place-y l i _ e, place-y l (i + 1) _ e) (towards-next (l .y0) (l .y1) i (ahead .top) (ahead .bottom) (omega (arith, longer-y l e)))))
 
-    along-both : aside (longer l) (shorter l) (i + 1) ≡ aside (longer l) (shorter l) i + 1
-        → address s p′ ≡ (address s p + (across s l + down s l) % 2 ^ 64) % 2 ^ 64
-    unfolding pointAt
-    along-both f =
-        let k = aside-le (longer l) (shorter l) (i + 1) (shorter-le l) h in
-        either (xMajor l)
-        (λ e. moves-both (rw (place-x l i _ e, place-x l (i + 1) _ e) (towards-next (l .x0) (l .x1) i (ahead .left) (ahead .right) (omega (arith, longer-x l e))))
-        (rw (place-x l i _ e, place-x l (i + 1) _ e, f) (towards-next (l .y0) (l .y1) _ (ahead .top) (ahead .bottom) (omega (arith, shorter-y l e)))))
-        (λ e. moves-both (rw (place-y l i _ e, place-y l (i + 1) _ e, f) (towards-next (l .x0) (l .x1) _ (ahead .left) (ahead .right) (omega (arith, shorter-x l e))))
-        (rw (place-y l i _ e, place-y l (i + 1) _ e) (towards-next (l .y0) (l .y1) i (ahead .top) (ahead .bottom) (omega (arith, longer-y l e)))))
-
-    pub walk-next : (w : Walk) → AtPoint s l i w → AtPoint s l (i + 1) (walkedOn (stepsOf s l) w)
-    unfolding walkedOn stepsOf
-    walk-next w at =
-        let n = longer l in
-        let m = shorter l in
-        let low = shorter-le l in
-        either (ltb (w .rest) (2 * n - 2 * m))
-        (λ e.
-        let a = aside-stays n m i low (omega arith) (rw (at .rest) at (ltb-true (w .rest) (2 * n - 2 * m) e)) in
-        rw e (record {
-          at = either (xMajor l) (λ f. rw f (ap (λ (b : ℕ). (b + across s l) % 2 ^ 64) (at .at) ∙ sym (along-x f (a .0)))) (λ f. rw f (ap (λ (b : ℕ). (b + down s l) % 2 ^ 64) (at .at) ∙ sym (along-y f (a .0))));
-          rest = ap (λ (r : ℕ). r + 2 * m) (at .rest) ∙ sym (a .1);
-        }))
-        (λ e.
-        let a = aside-grows n m i low (omega arith) (rw (at .rest) at (ltb-false (w .rest) (2 * n - 2 * m) e)) in
-        rw e (record {
-          at = ap (λ (b : ℕ). (b + (across s l + down s l) % 2 ^ 64) % 2 ^ 64) (at .at) ∙ sym (along-both (a .0));
-          rest = ap (λ (r : ℕ). r - (2 * n - 2 * m)) (at .rest) ∙ sym (a .1);
-        }))
+  pub walk-next : (w : Walk) → AtPoint s l i w → AtPoint s l (i + 1) (walkedOn (stepsOf s l) w)
+  unfolding walkedOn stepsOf
+  walk-next w at =
+      let n = longer l in
+      let m = shorter l in
+      let low = shorter-le l in
+      either (ltb (w .rest) (2 * n - 2 * m))
+      (λ e.
+      let a = aside-stays n m i low (omega arith) (rw (at .rest) at (ltb-true (w .rest) (2 * n - 2 * m) e)) in
+      rw e (record {
+        at = either (xMajor l) (λ f. rw f (ap (λ (b : ℕ). (b + across s l) % 2 ^ 64) (at .at) ∙ sym (along-x f (a .0)))) (λ f. rw f (ap (λ (b : ℕ). (b + down s l) % 2 ^ 64) (at .at) ∙ sym (along-y f (a .0))));
+        rest = ap (λ (r : ℕ). r + 2 * m) (at .rest) ∙ sym (a .1);
+      }))
+      (λ e.
+      let a = aside-grows n m i low (omega arith) (rw (at .rest) at (ltb-false (w .rest) (2 * n - 2 * m) e)) in
+      rw e (record {
+        at = ap (λ (b : ℕ). (b + (across s l + down s l) % 2 ^ 64) % 2 ^ 64) (at .at) ∙ sym (along-both (a .0));
+        rest = ap (λ (r : ℕ). r - (2 * n - 2 * m)) (at .rest) ∙ sym (a .1);
+      }))
