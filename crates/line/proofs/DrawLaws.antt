@@ -6,8 +6,6 @@ use mathlib.Core.Bool.{Bool, true, false, not, _&&_, _||_, and-true}
 use mathlib.Core.List.{List, [], _∷_, map, List·Memᴰ, List·Memᴰ·head, List·Memᴰ·tail, List·Memᴰ·not-nil, List·Memᴰ·cases-cons, Memᴰ·map}
 use Prim.Native.Nat.{ℕ, zero, suc, _+_, _-_, _<_, _≤_, min, max}
 use native.Mathlib.Omega.{arith}
-use borrow.Author.Tests.{ltb-true, leb-true}
-use lib.Dec.{leb, ltb}
 use Rattle.surface.specs.declared.Surface.{Surface}
 use Rattle.surface.specs.Place.{onSurface, readPx}
 use Rattle.surface.specs.Pixels.{Px, rect}
@@ -22,7 +20,7 @@ use Rattle.paint.specs.Paint.{State, state, dab, Touch, paint}
 use Rattle.paint.specs.Pattern.{patternValue}
 use Rattle.paint.specs.Mix.{bitSource, mixed}
 use Rattle.paint.specs.Clip.{origin, inClip, pixelAt}
-use Rattle.paint.proofs.ClipLaws.{Covered, in-clip}
+use Rattle.paint.proofs.ClipLaws.{in-clip}
 use Rattle.line.specs.declared.Point.{Point}
 use Rattle.line.specs.declared.Line.{Line}
 use Rattle.line.specs.declared.Pen.{Pen}

@@ -18,7 +18,7 @@ use Rattle.line.specs.declared.Walk.{Walk}
 use Rattle.line.specs.Line.{far, towards, xMajor, longer, shorter, aside, pointAt, Placed}
 use Rattle.line.specs.Walk.{shift, across, down, stepsOf, walk, walkedOn, AtPoint, Ahead}
 use Rattle.line.proofs.Sides.{either, longer-x, longer-y, shorter-x, shorter-y, shorter-le, longer-lt, aside-le}
-use Rattle.line.proofs.PointLaws.{InBox, place-x, place-y, point-box, first}
+use Rattle.line.proofs.PointLaws.{place-x, place-y, point-box, first}
 
 -- ---- the steps along the minor axis: a sum goes on by k, at most the divisor
 module _ (q r d t k : ℕ) (e : t ≡ q * d + r + k) where
