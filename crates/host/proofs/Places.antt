@@ -1,9 +1,9 @@
 -- Laws of places in the data: the bits of a pixel, which pixels of a row are whole, and the row and the column of a pixel's last byte.
 -- Assumes nothing.
-use mathlib.Core.Path.{_≡_, refl}
+use mathlib.Core.Path.{_≡_, refl, ap, _∙_}
 use mathlib.Core.Bool.{Bool, true, false, cond}
-use Prim.Native.Nat.{ℕ, _+_, _*_, _/_, _%_, _^_, _<_, _≤_}
-use native.Mathlib.Nat.{div-lt-iff-lt-mul, le-div-iff-mul-le, div-add-mod', add-mul, mul-le-mul-right, mod-lt, zero-div}
+use Prim.Native.Nat.{ℕ, zero, suc, _+_, _*_, _/_, _%_, _^_, _<_, _≤_}
+use native.Mathlib.Nat.{add-zero, mul-one, mul-left-comm, div-lt-iff-lt-mul, le-div-iff-mul-le, div-add-mod', add-mul, mul-le-mul-right, mod-lt, zero-div}
 use native.Mathlib.Omega.{arith}
 use borrow.Author.Tests.{eq-eqb, ne-eqb, eqb-false}
 use lib.Arith.{digits-div, digits-mod}
@@ -59,13 +59,30 @@ module _ (f : Feed) where
       le-div-iff-mul-le {k = bitsOf f} {x = 8 * c / bitsOf f} {y = 8 * (c + 1)} (bits-some f) .1 (omega arith) in
       omega arith
 
-  -- among the pixels of a row, those from whole c up to whole (c + 1) have their last byte in column c
-  pub column-of : (c i : ℕ) → whole f c ≤ i → i < whole f (c + 1) → lastColumn f i ≡ c
+  pub whole-rises : (c m : ℕ) → whole f c ≤ whole f (c + m)
+  whole-rises c zero = rw (add-zero c) (omega arith)
+  whole-rises c (suc m) = let q : c + suc m ≡ c + m + 1 = omega arith in rw q (omega (arith, whole-rises c m, whole-more (c + m)))
+
+  -- among the pixels of a row, those from whole c up to whole (c + m) have their last bytes in the m columns from c on
+  pub column-in : (c m i : ℕ) → whole f c ≤ i → i < whole f (c + m) → (c ≤ lastColumn f i) × (lastColumn f i < c + m)
   unfolding whole lastColumn
-  column-of c i l u =
+  column-in c m i l u =
       let a : 8 * c < (i + 1) * bitsOf f = div-lt-iff-lt-mul {k = bitsOf f} {x = 8 * c} {y = i + 1} (bits-some f) .0 (omega arith) in
-      let b : (i + 1) * bitsOf f ≤ 8 * (c + 1) = le-div-iff-mul-le {k = bitsOf f} {x = i + 1} {y = 8 * (c + 1)} (bits-some f) .0 (omega arith) in
-      omega arith
+      let b : (i + 1) * bitsOf f ≤ 8 * (c + m) = le-div-iff-mul-le {k = bitsOf f} {x = i + 1} {y = 8 * (c + m)} (bits-some f) .0 (omega arith) in
+      (omega arith, omega arith)
+
+  pub column-of : (c i : ℕ) → whole f c ≤ i → i < whole f (c + 1) → lastColumn f i ≡ c
+  column-of c i l u = omega (arith, column-in c 1 i l u)
+
+  pub mono-column : (i : ℕ) → f .bytes ≡ 0 → lastColumn f i ≡ i / 8
+  unfolding lastColumn
+  mono-column i e = let a : (i + 1) * bitsOf f ≡ i + 1 = ap (λ (n : ℕ). (i + 1) * n) (mono-bits f e) ∙ mul-one (i + 1) in omega arith
+
+  pub colour-column : (i : ℕ) → (f .bytes ≡ 0 → ⊥) → lastColumn f i + 1 ≡ i * f .bytes + f .bytes
+  unfolding lastColumn
+  colour-column i e =
+      let a : (i + 1) * bitsOf f ≡ 8 * ((i + 1) * f .bytes) = ap (λ (n : ℕ). (i + 1) * n) (colour-bits f e) ∙ mul-left-comm (i + 1) 8 (f .bytes) in
+      omega (arith, add-mul i 1 (f .bytes), pos-of-ne e)
 
   pub of-column : (c i : ℕ) → i < f .width → lastColumn f i ≡ c → (whole f c ≤ i) × (i < whole f (c + 1))
   unfolding whole lastColumn

@@ -2,17 +2,16 @@
 -- Assumes nothing.
 use mathlib.Core.Path.{_≡_, refl, sym, ap, _∙_}
 use Prim.Native.Nat.{ℕ, zero, suc, _+_, _-_, _*_, _/_, _%_, _^_, _<_, _≤_}
-use native.Mathlib.Nat.{mod-one, mul-one, mul-left-comm, add-mul}
+use native.Mathlib.Nat.{mod-one}
 use native.Mathlib.Omega.{arith}
 use native.Mathlib.Decide.{ℕ-discrete}
 use borrow.Author.Tests.{eq-eqb, ne-eqb}
 use lib.Pow.{shr-shr, field, mod-mod-pow, mod-pow-add}
 use Rattle.surface.proofs.Lists.{by-cases}
-use Rattle.surface.proofs.OnLaws.{pos-of-ne}
 use Rattle.host.specs.declared.Feed.{Feed}
-use Rattle.host.specs.Host.{bitsOf, lastColumn, lastByteOf, two, valueOf}
+use Rattle.host.specs.Host.{lastByteOf, two, valueOf}
 use Rattle.host.specs.Stream.{dataByte, dataNumber, valueAt}
-use Rattle.host.proofs.Places.{mono-bits, colour-bits}
+use Rattle.host.proofs.Places.{mono-column, colour-column}
 
 -- ---- the bytes of this word, word k, and of the last one
 module _ (ws : ℕ → ℕ) (k last : ℕ) (prior : 0 < k → last ≡ ws (k - 1)) (small : last < 2 ^ 32) where
@@ -63,15 +62,13 @@ module _ (ws : ℕ → ℕ) (k last : ℕ) (prior : 0 < k → last ≡ ws (k - 1
 -- ---- where a pixel's bytes are
 module _ (f : Feed) (i j : ℕ) where
   mono-place : f .bytes ≡ 0 → j * f .step + i / 8 ≡ lastByteOf f i j
-  unfolding lastByteOf lastColumn
-  mono-place e = let a : (i + 1) * bitsOf f ≡ i + 1 = ap (λ (n : ℕ). (i + 1) * n) (mono-bits f e) ∙ mul-one (i + 1) in omega arith
+  unfolding lastByteOf
+  mono-place e = omega (arith, mono-column f i e)
 
   -- its bytes end with the last
   colour-place : (f .bytes ≡ 0 → ⊥) → j * f .step + i * f .bytes + f .bytes ≡ lastByteOf f i j + 1
-  unfolding lastByteOf lastColumn
-  colour-place e =
-      let a : (i + 1) * bitsOf f ≡ 8 * ((i + 1) * f .bytes) = ap (λ (n : ℕ). (i + 1) * n) (colour-bits f e) ∙ mul-left-comm (i + 1) 8 (f .bytes) in
-      omega (arith, add-mul i 1 (f .bytes), pos-of-ne e)
+  unfolding lastByteOf
+  colour-place e = omega (arith, colour-column f i e)
 
 -- ---- pixel (i, j), whose last byte lies in word k; before it came the word `last`
 module _ (ws : ℕ → ℕ) (f : Feed) (i j k last : ℕ) (here : lastByteOf f i j / 4 ≡ k) (prior : 0 < k → last ≡ ws (k - 1)) (small : last < 2 ^ 32) where

@@ -4,7 +4,7 @@ use mathlib.Core.Path.{_≡_, refl, sym, ap, _∙_}
 use mathlib.Core.Bool.{Bool, true, false, cond, not, _&&_}
 use mathlib.Core.Option.{Option, none, some}
 use mathlib.Core.List.{List}
-use Prim.Native.Nat.{ℕ, _+_, _^_, _<_}
+use Prim.Native.Nat.{ℕ, _+_, _%_, _^_, _<_}
 use native.Mathlib.Nat.{mod-eq-of-lt}
 use lib.Dec.{eqb}
 use borrow.Author.Tests.{eqb-true}
@@ -37,12 +37,17 @@ pub not-true : (b : Bool) → not b ≡ true → b ≡ false
 not-true true e = sym e
 not-true false e = refl
 
-pub direct-mixed : (ink : Ink) (pattern v old : ℕ) (left : Bool) → direct ink ≡ true → v < 2 ^ 32
-    → mixed ink pattern (source v false left) old ≡ cond left none (some v)
+pub direct-low : (ink : Ink) (pattern v old : ℕ) (left : Bool) → direct ink ≡ true
+    → mixed ink pattern (source v false left) old ≡ cond left none (some (v % 2 ^ 32))
 unfolding mixed chosen
-direct-mixed ink pattern v old left e small =
+direct-low ink pattern v old left e =
     let key = not-true (ink .dstKey) (and-right (eqb (ink .rop0) 0xcc) (not (ink .dstKey)) e) in
     let code = eqb-true (ink .rop0) 0xcc (and-left (eqb (ink .rop0) 0xcc) (not (ink .dstKey)) e) in
     ap {B = Option ℕ} (λ (k : Bool). cond left none (some (ropBits 32 (chosen ink false (k && keyMatch (ink .target .bytes) (ink .dstMin) (ink .dstMax) old)) pattern v old))) key
     ∙ ap {B = Option ℕ} (λ (c : ℕ). cond left none (some (ropBits 32 c pattern v old))) code
-    ∙ ap {B = Option ℕ} (λ (u : ℕ). cond left none (some u)) (copies 32 pattern v old ∙ mod-eq-of-lt small)
+    ∙ ap {B = Option ℕ} (λ (u : ℕ). cond left none (some u)) (copies 32 pattern v old)
+
+pub direct-mixed : (ink : Ink) (pattern v old : ℕ) (left : Bool) → direct ink ≡ true → v < 2 ^ 32
+    → mixed ink pattern (source v false left) old ≡ cond left none (some v)
+direct-mixed ink pattern v old left e small =
+    direct-low ink pattern v old left e ∙ ap {B = Option ℕ} (λ (u : ℕ). cond left none (some u)) (mod-eq-of-lt small)

@@ -1,0 +1,87 @@
+-- Laws of a plain blit: one pixel of it, and that every ink with raster operation CC and no keys draws as the plain one.
+-- Assumes nothing.
+use mathlib.Core.Path.{_≡_, refl, sym, ap, ap₂, _∙_}
+use mathlib.Core.Bool.{Bool, true, false, cond}
+use mathlib.Core.Option.{Option}
+use mathlib.Core.List.{List, [], _∷_}
+use Prim.Native.Nat.{ℕ, _+_, _-_, _^_, _<_}
+use lib.Dec.{eqb}
+use Rattle.surface.specs.declared.Surface.{Surface}
+use Rattle.surface.specs.Place.{writePx}
+use Rattle.surface.specs.Pixels.{Px}
+use Rattle.paint.specs.declared.Ink.{Ink}
+use Rattle.paint.specs.declared.Clip.{Clip}
+use Rattle.paint.specs.declared.Source.{Source}
+use Rattle.paint.specs.Paint.{State, state, dab, Touch, touch, paint}
+use Rattle.paint.specs.Mix.{source, bitSource, colourSource, mixed}
+use Rattle.paint.specs.Clip.{origin, inClip, pixelAt}
+use Rattle.paint.specs.Fast.{direct}
+use Rattle.paint.proofs.MixLaws.{direct-low, direct-mixed}
+use Rattle.host.specs.declared.Feed.{Feed}
+use Rattle.host.specs.declared.Plain.{Plain}
+use Rattle.host.specs.Host.{Pixel, pixel}
+use Rattle.host.specs.Draw.{hostSource, hostTouches, drawn}
+use Rattle.host.specs.Plain.{plainInk, Plainly}
+
+-- ---- the plain ink
+plain-direct : (p : Plain) → direct (plainInk p) ≡ true
+unfolding plainInk
+plain-direct p = refl
+
+unkeyed : (p : Plain) (feed : Feed) (v : ℕ) → hostSource (plainInk p) feed v .key ≡ false
+unfolding hostSource bitSource colourSource plainInk
+unkeyed p feed v = by-test (eqb (feed .bytes) 0)
+  where
+    by-test : (t : Bool) → cond t (bitSource (plainInk p) v) (colourSource (plainInk p) (feed .bytes) v) .key ≡ false
+    by-test true = refl
+    by-test false = refl
+
+as-source : (p : Plain) (feed : Feed) (v : ℕ)
+    → hostSource (plainInk p) feed v ≡ source (hostSource (plainInk p) feed v .value) false (hostSource (plainInk p) feed v .left)
+as-source p feed v = ap (λ (k : Bool). source (hostSource (plainInk p) feed v .value) k (hostSource (plainInk p) feed v .left)) (unkeyed p feed v)
+
+-- ---- an ink that draws as the plain one does
+again : (s z : Surface) (t : Bool) (at : Px) (g h : List ℕ → Option ℕ) (ts us : List Touch) → s ≡ z → ((m : List ℕ) → g m ≡ h m)
+    → ((st : State) → paint s ts st ≡ paint z us st) → (st : State) → paint s (cond t (touch at g ∷ ts) ts) st ≡ paint z (cond t (touch at h ∷ us) us) st
+unfolding paint
+again s z true at g h ts us e q r st =
+    ap₂ (λ (w : Surface) (o : Option ℕ). paint s ts (dab w at o st)) e (q (st .mem)) ∙ r (dab z at (h (st .mem)) st)
+again s z false at g h ts us e q r st = r st
+
+module _ (ink : Ink) (p : Plain) (same : Plainly ink p) where
+  source-same : (feed : Feed) (v : ℕ) → hostSource ink feed v ≡ hostSource (plainInk p) feed v
+  unfolding hostSource bitSource colourSource plainInk
+  source-same feed v = rw (same .target, same .fore, same .back, same .clear, same .unkeyed)
+
+  -- the source's value is all that a pixel gets
+  gives-same : (feed : Feed) (v a b m n : ℕ) → mixed (plainInk p) b (hostSource (plainInk p) feed v) n ≡ mixed ink a (hostSource ink feed v) m
+  gives-same feed v a b m n =
+      let s = hostSource (plainInk p) feed v in
+      ap (λ (u : Source). mixed (plainInk p) b u n) (as-source p feed v) ∙ direct-low (plainInk p) b (s .value) n (s .left) (plain-direct p)
+      ∙ sym (ap (λ (u : Source). mixed ink a u m) (source-same feed v ∙ as-source p feed v) ∙ direct-low ink a (s .value) m (s .left) (same .gets))
+
+  target-same : plainInk p .target ≡ ink .target
+  unfolding plainInk
+  target-same = sym (same .target)
+
+  pub plain-drawn : (pattern : List ℕ) (c : Clip) (feed : Feed) (ps : List Pixel) (st : State)
+      → drawn (plainInk p) [] c feed ps st ≡ drawn ink pattern c feed ps st
+  unfolding hostTouches paint
+  plain-drawn pattern c feed [] st = refl
+  plain-drawn pattern c feed (q ∷ ps) st =
+      again (plainInk p .target) (ink .target) (inClip c (feed .x + q .i) (feed .y + q .j)) (pixelAt (feed .x + q .i) (feed .y + q .j)) _ _
+      (hostTouches (plainInk p) [] c feed ps) (hostTouches ink pattern c feed ps) target-same (λ m. gives-same feed (q .value) _ _ _ _)
+      (plain-drawn pattern c feed ps) st
+
+-- ---- one pixel
+module _ (p : Plain) (c : Clip) (feed : Feed) (i j v value n : ℕ) (left : Bool) (m : List ℕ) (inside : inClip c (feed .x + i) (feed .y + j) ≡ true)
+    (e : source value false left ≡ hostSource (plainInk p) feed v) where
+  pub plain-left : left ≡ true → state m n ≡ drawn (plainInk p) [] c feed (pixel i j v ∷ []) (state m n)
+  unfolding hostTouches paint mixed dab
+  plain-left l = rw (inside, ← e, l)
+
+  pub plain-put : (m′ : List ℕ) → left ≡ false → value < 2 ^ 32 → m′ ≡ writePx m (p .target) (feed .x + i - origin) (feed .y + j - origin) value
+      → state m′ (n + 1) ≡ drawn (plainInk p) [] c feed (pixel i j v ∷ []) (state m n)
+  unfolding hostTouches paint dab plainInk
+  plain-put m′ l small w =
+      rw (inside, ← e, direct-mixed (plainInk p) _ value _ left (plain-direct p) small, l) (ap (λ (k : List ℕ). state k (n + 1)) w)

@@ -1,0 +1,19 @@
+-- `host::plain_colour` meets its contract.
+-- Assumes nothing.
+use borrow.Author.Needs.{needs}
+use borrow.Author.Tests.{ne-eqb}
+use Rattle.paint.specs.Mix.{colourSource}
+use Rattle.host.specs.Draw.{hostSource}
+use Rattle.host.specs.Plain.{plainInk}
+use Rattle.host.proofs.plain_colour.Statement.{statement}
+use Rattle.host.proofs.plain_colour.Tie as tie
+
+convert-requires : tie.Need-convert-requires
+convert-requires c κs = search needs
+
+returns : tie.Need-returns
+unfolding hostSource colourSource plainInk
+returns c = rw (ne-eqb _ _ (c .before .pre), c .convert .ensures)
+
+pub plain-colour-spec : {M : Type 1} → statement M
+plain-colour-spec = tie.close (tie.spec convert-requires returns)

@@ -1,0 +1,68 @@
+-- A plain host blit: raster operation CC and no keys, so that each pixel gets its source and neither the pattern nor what stands there is looked at.
+-- Its pixels are drawn a part of a row at a time.
+-- Assumes nothing.
+use mathlib.Core.Path.{_≡_}
+use mathlib.Core.Bool.{true, false}
+use mathlib.Core.List.{List, [], _∷_}
+use Prim.Native.Nat.{ℕ, zero, suc, _+_, _-_, _*_, _%_, _^_, _<_, _≤_}
+use Rattle.paint.specs.declared.Ink.{Ink}
+use Rattle.paint.specs.Fast.{direct}
+use Rattle.host.specs.declared.Feed.{Feed}
+use Rattle.host.specs.declared.Plain.{Plain}
+use Rattle.host.specs.Host.{lastColumn, lastByteOf, Pixel, pixel, valueOf}
+
+-- the ink with raster operation CC and no keys
+unfoldable pub plainInk : Plain → Ink
+plainInk p = record {
+  target = p .target;
+  fore = p .fore;
+  back = p .back;
+  rop0 = 0xcc;
+  rop1 = 0;
+  rop2 = 0;
+  rop3 = 0;
+  srcKey = false;
+  srcMin = 0;
+  srcMax = 0;
+  dstKey = false;
+  dstMin = 0;
+  dstMax = 0;
+  mono = false;
+  forced = false;
+  patX = 0;
+  patY = 0;
+  clear = p .clear;
+}
+
+-- an ink that draws as the plain one does
+pub record Plainly (ink : Ink) (p : Plain) : Type 0 where
+  pub target : ink .target ≡ p .target
+  pub fore : ink .fore ≡ p .fore
+  pub back : ink .back ≡ p .back
+  pub clear : ink .clear ≡ p .clear
+  pub gets : direct ink ≡ true
+  pub unkeyed : ink .srcKey ≡ false
+
+-- n pixels of row j from column i on, whose last bytes all lie in this word
+unfoldable pub stretch : Feed → ℕ → ℕ → ℕ → ℕ → ℕ → List Pixel
+stretch f last word j i zero = []
+stretch f last word j i (suc n) = pixel i j (valueOf f last word (lastByteOf f i j % 4) i) ∷ stretch f last word j (i + 1) n
+
+-- ---- what functions ask for
+
+-- m bytes of row j from byte `column` on are those of a word from its byte t on
+pub record Part (f : Feed) (t j column m : ℕ) : Type 0 where
+  pub place : (j * f .step + column) % 4 ≡ t
+  pub inside : t + m ≤ 4
+  pub held : column + m ≤ f .step
+  pub row : j < f .height
+
+-- the pixels of row j from start up to end have their last bytes in a word whose byte t is byte `column` of the row; n were written before
+pub record Within (f : Feed) (t j column start end n : ℕ) : Type 0 where
+  pub row : j < f .height
+  pub first : start ≤ f .width
+  pub past : end ≤ f .width
+  pub room : n + f .width < 2 ^ 16
+  pub low : (i : ℕ) → start ≤ i → i < end → column ≤ lastColumn f i
+  pub high : (i : ℕ) → start ≤ i → i < end → t + lastColumn f i - column < 4
+  pub byte : (i : ℕ) → start ≤ i → i < end → t + lastColumn f i - column ≡ lastByteOf f i j % 4
