@@ -1,13 +1,13 @@
 -- What a verdict of 0 gives the painters: a rectangle that can be painted, in an order that reads nothing too late, a line that can be drawn, an open host blit.
 -- Assumes nothing.
-use mathlib.Core.Path.{_≡_, refl, sym, ap, _∙_}
+use mathlib.Core.Path.{_≡_, refl, sym, ap, ap₂, _∙_}
 use mathlib.Core.Logic.{inl, inr}
 use mathlib.Core.Bool.{Bool, true, false, cond, not, _&&_, _||_, false≢true}
 use Prim.Native.Nat.{ℕ, _+_, _-_, _*_, _/_, _%_, _^_, _<_, _≤_}
 use native.Mathlib.Nat.{mul-pos, mul-left-comm}
 use native.Mathlib.Omega.{arith}
 use lib.Dec.{eqb, ltb}
-use borrow.Author.Tests.{eqb-true, ltb-false, eqb-false, not-false}
+use borrow.Author.Tests.{eqb-true, ltb-false, eqb-false, not-true, not-false}
 use Rattle.surface.specs.declared.Surface.{Surface}
 use Rattle.surface.specs.Place.{surface, rowPixels, Small}
 use Rattle.surface.specs.Pixels.{rect, Inside}
@@ -28,11 +28,12 @@ use Rattle.line.specs.Line.{points, Within, Placed}
 use Rattle.line.specs.Draw.{coveredPoints, lineOff, Drawable}
 use Rattle.host.specs.Host.{Sizes, wordsOf}
 use Rattle.host.specs.Draw.{Opened}
+use Rattle.host.specs.Plain.{Plainly}
 use Rattle.host.proofs.Needed.{data-small}
 use Rattle.registers.specs.declared.Regs.{Regs}
 use Rattle.registers.specs.Position.{placed}
 use Rattle.command.specs.declared.Cut.{Cut}
-use Rattle.command.specs.Decode.{bit, width, height, target, origins, inkOf, clipOf, firstOf, cutAt, fillCut, copyCut, covered, needed, fillTask, copyTask, lineOf, feedOf, CutRange}
+use Rattle.command.specs.Decode.{bit, width, height, target, origins, inkOf, plainBlit, plainOf, clipOf, firstOf, cutAt, fillCut, copyCut, covered, needed, fillTask, copyTask, lineOf, feedOf, CutRange}
 use Rattle.command.specs.Table.{targetFine, bothFine, allOnAt, pixels, sameSurface, hostFault, fillVerdict, copyVerdict, hostVerdict, lineVerdict, InRows}
 use Rattle.command.proofs.CutLaws.{clip-bits, Bounded, cut-bounded, needed-first, needed-as-pixels, needed-pixels, no-clash}
 
@@ -322,3 +323,20 @@ words-few r = by-test (eqb (feedOf r .width) 0 || eqb (feedOf r .height) 0)
     by-test : (z : Bool) → (cond z 0 ((feedOf r .height - 1) * feedOf r .step + rowLength (feedOf r .bytes) (feedOf r .width)) + 3) / 4 < 2 ^ 29
     by-test true = omega arith
     by-test false = omega (arith, data-small (feedOf r) (feed-sizes r))
+
+-- the ink of a plain blit draws as the plain one
+pub plain-ink : (r : Regs) → plainBlit r ≡ true → Plainly (inkOf r) (plainOf r)
+unfolding inkOf plainOf
+plain-ink r e =
+    let code = eqb (r .command / 2 ^ 24 % 2 ^ 8) 0xcc in
+    let source = not (bit (r .commandExtra) 0) in
+    let target = not (bit (r .commandExtra) 1) in
+    let keys = and-right code (source && target) e in
+    record {
+      target = refl;
+      fore = refl;
+      back = refl;
+      clear = refl;
+      gets = ap₂ (λ s t. s && t) (and-left code (source && target) e) (and-right source target keys);
+      unkeyed = not-true (bit (r .commandExtra) 0) (and-left source target keys);
+    }

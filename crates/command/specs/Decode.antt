@@ -1,6 +1,6 @@
 -- What the registers say of a command: its number and flags, surfaces, clip, ink, and the rectangle that the clip leaves.
 -- Assumes nothing.
-use mathlib.Core.Bool.{Bool, true, false, cond}
+use mathlib.Core.Bool.{Bool, true, false, cond, not, _&&_}
 use mathlib.Core.List.{List, map}
 use Prim.Native.Nat.{ℕ, _+_, _-_, _/_, _%_, _^_, _<_, min, max}
 use lib.Dec.{eqb}
@@ -17,6 +17,7 @@ use Rattle.registers.specs.Position.{placed}
 use Rattle.line.specs.declared.Line.{Line}
 use Rattle.line.specs.declared.Pen.{Pen}
 use Rattle.host.specs.declared.Feed.{Feed}
+use Rattle.host.specs.declared.Plain.{Plain}
 use Rattle.command.specs.declared.Cut.{Cut}
 
 abbrev pub bit : ℕ → ℕ → Bool
@@ -67,6 +68,13 @@ inkOf r = record {
   patY = r .command / 2 ^ 20 % 8;
   clear = bit (r .command) 16;
 }
+
+-- ---- a plain host blit: raster operation CC and neither key enabled; what it needs of the ink
+abbrev pub plainBlit : Regs → Bool
+plainBlit r = eqb (r .command / 2 ^ 24 % 2 ^ 8) 0xcc && (not (bit (r .commandExtra) 0) && not (bit (r .commandExtra) 1))
+
+unfoldable pub plainOf : Regs → Plain
+plainOf r = record { target = target r; fore = r .colorFore; back = r .colorBack; clear = bit (r .command) 16 }
 
 -- ---- the clip that bit 23 selects
 abbrev pub clipBy : ℕ → ℕ → Clip

@@ -1,5 +1,6 @@
 // What the registers say of a command, and rows 5 to 8 of the table of answers for it.
 use host::Feed;
+use host::Plain;
 use line::Line;
 use line::Pen;
 use paint::Clip;
@@ -11,7 +12,7 @@ ghost use mathlib.Core.Path.{_≡_};
 ghost use Prim.Native.Nat.{_-_, _^_, _<_, _≤_};
 ghost use Rattle.surface.specs.Place.{Small};
 ghost use Rattle.surface.specs.Span.{spanOf, meet};
-ghost use Rattle.command.specs.Decode.{target, origins, inkOf, clipBy, clipOf, firstOf, cutLow, cutSize, cutAt, fillCut, copyCut, covered, needed, fillTask, copyTask, lineOf, penOf, feedOf, Axis, CutRange};
+ghost use Rattle.command.specs.Decode.{target, origins, inkOf, plainBlit, plainOf, clipBy, clipOf, firstOf, cutLow, cutSize, cutAt, fillCut, copyCut, covered, needed, fillTask, copyTask, lineOf, penOf, feedOf, Axis, CutRange};
 ghost use Rattle.command.specs.Table.{bothFine, allOnAt, pixels, sameSurface, hostFault, InRows, fillVerdict, copyVerdict, hostVerdict, lineVerdict};
 
 // What the clip leaves of a rectangle: its first pixel and size, and the position of its first source pixel, counted from 16384.
@@ -61,6 +62,26 @@ pub fn decode_ink(r: Regs) -> Ink
         patX: c / 0x2_0000 % 8,
         patY: c / 0x10_0000 % 8,
         clear: c / 0x1_0000 % 2 == 1,
+    }
+}
+
+// Whether a host blit is plain: its pixels get their sources, by raster operation CC and no keys.
+pub fn is_plain(r: Regs) -> bool
+    ensures { λ b. ⌜ b ≡ plainBlit r ⌝ }
+{
+    let e = r.commandExtra;
+    (r.command / 0x100_0000 % 0x100 == 0xcc) & (!(e / 1 % 2 == 1) & !(e / 2 % 2 == 1))
+}
+
+pub fn decode_plain(r: Regs) -> Plain
+    ensures { λ p. ⌜ p ≡ plainOf r ⌝ }
+{
+    let target = target_surface(r);
+    Plain {
+        target: target,
+        fore: r.colorFore,
+        back: r.colorBack,
+        clear: r.command / 0x1_0000 % 2 == 1,
     }
 }
 

@@ -1,8 +1,8 @@
 -- How a method's outcome is the definition's: a refusal, a command carried out, and the painters' conditions from the verdict.
 -- Assumes nothing.
-use mathlib.Core.Path.{_≡_, sym, ap, ap₂, subst⁻¹, _∙_}
+use mathlib.Core.Path.{_≡_, refl, sym, ap, ap₂, subst⁻¹, _∙_}
 use mathlib.Core.Bool.{Bool, true, false, cond, _&&_, false≢true}
-use mathlib.Core.List.{List}
+use mathlib.Core.List.{List, []}
 use Prim.Native.Nat.{ℕ, _<_, _≤_}
 use native.Mathlib.Omega.{arith}
 use lib.Dec.{eqb, leb, ltb}
@@ -16,13 +16,16 @@ use Rattle.paint.specs.Copy.{asBefore, CanPaint, Orderly}
 use Rattle.line.specs.declared.Line.{Line}
 use Rattle.line.specs.Draw.{Drawable}
 use Rattle.host.specs.declared.Feed.{Feed}
-use Rattle.host.specs.Host.{wordsOf, Sizes}
-use Rattle.host.specs.Draw.{Opened, Waits}
+use Rattle.host.specs.declared.Plain.{Plain}
+use Rattle.host.specs.Host.{wordsOf, byWord, Sizes}
+use Rattle.host.specs.Draw.{hostTouches, drawn, Opened, Waits}
+use Rattle.host.specs.Plain.{plainInk}
+use Rattle.host.proofs.PlainLaws.{plain-drawn, plain-waits}
 use Rattle.registers.specs.declared.Regs.{Regs}
 use Rattle.command.specs.declared.Cut.{Cut}
-use Rattle.command.specs.Decode.{target, inkOf, clipOf, fillCut, copyCut, covered, fillTask, copyTask, lineOf, feedOf}
+use Rattle.command.specs.Decode.{target, inkOf, plainBlit, plainOf, clipOf, fillCut, copyCut, covered, fillTask, copyTask, lineOf, feedOf}
 use Rattle.command.specs.Table.{fillVerdict, copyVerdict, lineVerdict, hostVerdict}
-use Rattle.command.proofs.Verdicts.{fill-can, copy-can, copy-orderly, line-can, host-can, feed-sizes, words-few}
+use Rattle.command.proofs.Verdicts.{fill-can, copy-can, copy-orderly, line-can, host-can, feed-sizes, words-few, plain-ink}
 use Rattle.engine.specs.declared.Engine.{Engine}
 use Rattle.engine.specs.declared.Answer.{Answer}
 use Rattle.engine.specs.declared.Answer.the-variants.{Taken}
@@ -72,15 +75,33 @@ line-ready r len {i} {c} {l} e f g h z =
 pub feed-ready : (r : Regs) {f : Feed} → f ≡ feedOf r → Sizes f
 feed-ready r e = subst⁻¹ Sizes e (feed-sizes r)
 
-pub word-ready : (r : Regs) (len : ℕ) {i : Ink} {c : Clip} {f : Feed} {v words taken : ℕ} → i ≡ inkOf r → c ≡ clipOf r → f ≡ feedOf r
-    → v ≡ hostVerdict r len → v ≡ 0 → words ≡ wordsOf f → taken < words → Waits i c f len taken
-word-ready r len {i} {c} {f} {v} {words} {taken} p q e g z w h =
-    let k : words ≡ wordsOf (feedOf r) = w ∙ ap wordsOf e in
-    let open′ = host-can r len (sym g ∙ z) (omega arith) in
-    record {
-      opened = subst⁻¹ (λ (i : Ink). Opened i c f len) p (subst⁻¹ (λ (c : Clip). Opened (inkOf r) c f len) q (subst⁻¹ (λ (f : Feed). Opened (inkOf r) (clipOf r) f len) e open′));
-      few = omega (arith, words-few r);
-    }
+module _ (r : Regs) (len : ℕ) {c : Clip} {f : Feed} {taken : ℕ} (q : c ≡ clipOf r) (e : f ≡ feedOf r) (fine : hostVerdict r len ≡ 0) (more : taken < wordsOf (feedOf r)) where
+  pub word-ready : {i : Ink} → i ≡ inkOf r → Waits i c f len taken
+  word-ready {i} p =
+      let open′ = host-can r len fine (omega arith) in
+      record {
+        opened = subst⁻¹ (λ (i : Ink). Opened i c f len) p (subst⁻¹ (λ (c : Clip). Opened (inkOf r) c f len) q (subst⁻¹ (λ (f : Feed). Opened (inkOf r) (clipOf r) f len) e open′));
+        few = omega (arith, words-few r);
+      }
+
+  pub plain-ready : {b : Bool} {p : Plain} → b ≡ plainBlit r → b ≡ true → p ≡ plainOf r → Waits (plainInk p) c f len taken
+  plain-ready g t h = subst⁻¹ (λ (p : Plain). Waits (plainInk p) c f len taken) h (plain-waits (plain-ink r (sym g ∙ t)) (word-ready refl))
+
+-- the pixels of a word, drawn by what was decoded
+module _ (r : Regs) (pattern m : List ℕ) {c : Clip} {f : Feed} (last word taken : ℕ) (st : State) (q : c ≡ clipOf r) (e : f ≡ feedOf r) where
+  pub word-drawn : {i : Ink} → i ≡ inkOf r → st ≡ drawn i pattern c f (byWord f last word taken) (state m 0)
+      → st ≡ paint (target r) (hostTouches (inkOf r) pattern (clipOf r) (feedOf r) (byWord (feedOf r) last word taken)) (state m 0)
+  unfolding inkOf
+  word-drawn p d =
+      d ∙ ap₂ (λ (i : Ink) (k : Clip). drawn i pattern k f (byWord f last word taken) (state m 0)) p q
+      ∙ ap (λ (f : Feed). drawn (inkOf r) pattern (clipOf r) f (byWord f last word taken) (state m 0)) e
+
+  pub plain-word-drawn : {b : Bool} {p : Plain} → b ≡ plainBlit r → b ≡ true → p ≡ plainOf r → st ≡ drawn (plainInk p) [] c f (byWord f last word taken) (state m 0)
+      → st ≡ paint (target r) (hostTouches (inkOf r) pattern (clipOf r) (feedOf r) (byWord (feedOf r) last word taken)) (state m 0)
+  plain-word-drawn g t h d =
+      word-drawn refl
+      (d ∙ ap (λ (p : Plain). drawn (plainInk p) [] c f (byWord f last word taken) (state m 0)) h
+      ∙ plain-drawn (inkOf r) (plainOf r) (plain-ink r (sym g ∙ t)) pattern c f (byWord f last word taken) (state m 0))
 
 -- ---- by the number of the command
 abbrev pub picked : ℕ → Step → Step → Step → Step → Step → Step → Step

@@ -1,8 +1,9 @@
 -- One register write: the whole outcome, engine, memory and answer, as one function.
 -- Assumes nothing.
+use mathlib.Core.Path.{_≡_}
 use mathlib.Core.Bool.{true, false, cond, _&&_}
 use mathlib.Core.List.{List}
-use Prim.Native.Nat.{ℕ, _+_, _^_}
+use Prim.Native.Nat.{ℕ, _+_, _^_, _<_}
 use lib.Dec.{eqb, leb, ltb}
 use lib.ListN.{length}
 use Rattle.paint.specs.Paint.{State, state, Touch, paint}
@@ -155,6 +156,11 @@ fed e m word =
     (done (afterRect (idle e)) (painted e (wordTouches e word) m)))
     (step (afterRect (idle e)) m (Taken 0)))
     (step e m (refusal (hostVerdict (regs e) (length m))))
+
+-- what painting a word asks for: a blit that the table takes, and that has not had all its words
+pub record Feeds (e : Engine) (len : ℕ) : Type 0 where
+  pub fine : hostVerdict (regs e) len ≡ 0
+  pub more : e .blit .taken < wordsOf (feedOf (regs e))
 
 -- ---- the writes
 

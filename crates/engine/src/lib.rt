@@ -3,7 +3,9 @@ use registers::Bank;
 use registers::Place;
 use registers::Reading;
 ghost use mathlib.Core.Path.{_≡_};
-ghost use Rattle.engine.specs.Step.{refusal, freshEngine, withBlit, storedIn, afterRect, afterLine, step, filled, copied, lined, begun, fed, carried, launched, commanded, toRegister, toPattern, written, readFrom};
+ghost use lib.ListN.{length};
+ghost use Rattle.paint.specs.Paint.{state};
+ghost use Rattle.engine.specs.Step.{refusal, freshEngine, withBlit, storedIn, afterRect, afterLine, step, painted, wordTouches, Feeds, filled, copied, lined, begun, fed, carried, launched, commanded, toRegister, toPattern, written, readFrom};
 
 // A host blit: whether it waits for data, how many words it has taken, and the last of them.
 pub struct Blit {
@@ -213,6 +215,26 @@ impl Engine {
         }
     }
 
+    // The pixels that a word of data finishes; how many were written.
+    fn paint_word(self, mem: &mut [u8], word: u32) -> u32
+        requires { ⌜ Feeds self (length (now mem)) ⌝ }
+        ensures { λ r. ⌜ state (now (mem .exit)) r ≡ painted self (wordTouches self word) (now (mem .entry)) ⌝ }
+    {
+        let bank = self.bank;
+        let regs = bank.regs;
+        let feed = command::decode_feed(regs);
+        let clip = command::decode_clip(regs);
+        let taken = self.blit.taken;
+        let last = self.blit.last;
+        if command::is_plain(regs) {
+            let plain = command::decode_plain(regs);
+            return host::plain_word(mem, plain, clip, feed, taken, last, word);
+        }
+        let ink = command::decode_ink(regs);
+        let pattern = bank.pattern;
+        host::host_word(mem, ink, pattern, clip, feed, taken, last, word)
+    }
+
     // A word of data for the host blit that self holds, opened or not yet.
     fn feed(self, mem: &mut [u8], word: u32) -> Outcome
         ensures { λ r. ⌜ step (r .engine) (now (mem .exit)) (r .answer) ≡ fed self (now (mem .entry)) word ⌝ }
@@ -229,7 +251,6 @@ impl Engine {
         let feed = command::decode_feed(regs);
         let words = host::words_needed(feed);
         let taken = self.blit.taken;
-        let last = self.blit.last;
         if words <= taken {
             let resting = self.set_blit(false, 0, 0);
             return Outcome {
@@ -237,10 +258,7 @@ impl Engine {
                 answer: Answer::Taken(0),
             };
         }
-        let ink = command::decode_ink(regs);
-        let clip = command::decode_clip(regs);
-        let pattern = bank.pattern;
-        let count = host::host_word(mem, ink, pattern, clip, feed, taken, last, word);
+        let count = self.paint_word(mem, word);
         if taken + 1 < words {
             return Outcome {
                 engine: self.set_blit(true, taken + 1, word),

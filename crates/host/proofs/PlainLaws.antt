@@ -1,13 +1,13 @@
 -- Laws of a plain blit: one pixel of it, and that every ink with raster operation CC and no keys draws as the plain one.
 -- Assumes nothing.
-use mathlib.Core.Path.{_≡_, refl, sym, ap, ap₂, _∙_}
+use mathlib.Core.Path.{_≡_, refl, sym, ap, ap₂, subst, _∙_}
 use mathlib.Core.Bool.{Bool, true, false, cond}
 use mathlib.Core.Option.{Option}
 use mathlib.Core.List.{List, [], _∷_}
 use Prim.Native.Nat.{ℕ, _+_, _-_, _^_, _<_}
 use lib.Dec.{eqb}
 use Rattle.surface.specs.declared.Surface.{Surface}
-use Rattle.surface.specs.Place.{writePx}
+use Rattle.surface.specs.Place.{writePx, Colour, OnColour}
 use Rattle.surface.specs.Pixels.{Px}
 use Rattle.paint.specs.declared.Ink.{Ink}
 use Rattle.paint.specs.declared.Clip.{Clip}
@@ -20,7 +20,7 @@ use Rattle.paint.proofs.MixLaws.{direct-low, direct-mixed}
 use Rattle.host.specs.declared.Feed.{Feed}
 use Rattle.host.specs.declared.Plain.{Plain}
 use Rattle.host.specs.Host.{Pixel, pixel}
-use Rattle.host.specs.Draw.{hostSource, hostTouches, drawn}
+use Rattle.host.specs.Draw.{hostSource, hostTouches, drawn, Waits}
 use Rattle.host.specs.Plain.{plainInk, Plainly}
 
 -- ---- the plain ink
@@ -72,6 +72,24 @@ module _ (ink : Ink) (p : Plain) (same : Plainly ink p) where
       again (plainInk p .target) (ink .target) (inClip c (feed .x + q .i) (feed .y + q .j)) (pixelAt (feed .x + q .i) (feed .y + q .j)) _ _
       (hostTouches (plainInk p) [] c feed ps) (hostTouches ink pattern c feed ps) target-same (λ m. gives-same feed (q .value) _ _ _ _)
       (plain-drawn pattern c feed ps) st
+
+-- a blit that was opened with it was opened with the plain one
+pub plain-waits : {ink : Ink} {p : Plain} {c : Clip} {feed : Feed} {len taken : ℕ} → Plainly ink p → Waits ink c feed len taken → Waits (plainInk p) c feed len taken
+unfolding plainInk
+plain-waits {ink} {p} {c} {feed} {len} same w = record {
+  opened = record {
+    colour = subst Colour (same .target) (w .opened .colour);
+    bits12 = w .opened .bits12;
+    rows = w .opened .rows;
+    x = w .opened .x;
+    y = w .opened .y;
+    covered = record {
+      on = λ i j a b e.
+          subst (λ (s : Surface). OnColour s len (feed .x + i - origin) (feed .y + j - origin)) (same .target) (w .opened .covered .on i j a b e);
+    };
+  };
+  few = w .few;
+}
 
 -- ---- one pixel
 module _ (p : Plain) (c : Clip) (feed : Feed) (i j v value n : ℕ) (left : Bool) (m : List ℕ) (inside : inClip c (feed .x + i) (feed .y + j) ≡ true)

@@ -1,18 +1,12 @@
 -- `engine::Engine::feed` meets its contract: refused by the verdict, past the last word, or painted.
 -- Assumes nothing.
 use borrow.Author.Needs.{needs}
-use mathlib.Core.Path.{ap, ap₂, _∙_}
+use native.Mathlib.Omega.{arith}
+use mathlib.Core.Path.{sym, ap, _∙_}
 use borrow.Author.Tests.{lt-ltb, le-ltb}
-use lib.ListN.{length}
-use Rattle.paint.specs.declared.Ink.{Ink}
-use Rattle.paint.specs.declared.Clip.{Clip}
-use Rattle.paint.specs.Paint.{state, paint}
-use Rattle.host.specs.declared.Feed.{Feed}
-use Rattle.host.specs.Host.{byWord}
-use Rattle.host.specs.Draw.{hostTouches}
-use Rattle.command.specs.Decode.{target, inkOf, clipOf}
+use Rattle.host.specs.Host.{wordsOf}
 use Rattle.engine.specs.Step.{fed, afterRect}
-use Rattle.engine.proofs.Laws.{judged-no, judged-yes, carried-out, feed-ready, word-ready}
+use Rattle.engine.proofs.Laws.{judged-no, judged-yes, carried-out, feed-ready}
 use Rattle.engine.proofs.Engine.feed.Statement.{statement}
 use Rattle.engine.proofs.Engine.feed.Tie as tie
 
@@ -46,17 +40,13 @@ returns-2 c =
     judged-yes _ (c .before .before .before .before .before .before .host-verdict .result) _ _ _ (c .before .before .before .before .before .before .host-verdict .ensures) (c .before .before .before .before .before .if1 .left)
     (rw (← c .before .before .before .before .decode-feed .ensures, ← c .before .before .before .words-needed .ensures, le-ltb _ _ (c .before .before .if2 .taken), c .end-rect .ensures, c .before .set-blit .ensures))
 
-decode-ink-requires : tie.Need-decode-ink-requires
-decode-ink-requires c κs = search needs
-
-decode-clip-requires : tie.Need-decode-clip-requires
-decode-clip-requires c κs = search needs
-
-host-word-requires : tie.Need-host-word-requires
-host-word-requires c κs =
-    let a = c .before .before .before .before .before .before .before .before .before .before .before .before .args in
-    word-ready (a .self .bank .regs) (length (a .mem .now)) (c .before .before .before .decode-ink .ensures) (c .before .before .decode-clip .ensures) (c .before .before .before .before .before .before .decode-feed .ensures)
-    (c .before .before .before .before .before .before .before .before .host-verdict .ensures) (c .before .before .before .before .before .before .before .if1 .left) (c .before .before .before .before .before .words-needed .ensures) (c .before .before .before .before .if2 .left)
+paint-word-requires : tie.Need-paint-word-requires
+paint-word-requires c κs =
+    let w = c .before .before in
+    record {
+      fine = sym (w .before .before .before .host-verdict .ensures) ∙ w .before .before .if1 .left;
+      more = omega (arith, w .words-needed .ensures ∙ ap wordsOf (w .before .decode-feed .ensures), c .before .if2 .left);
+    }
 
 add-if3 : tie.Need-add-if3
 add-if3 c = search needs
@@ -71,15 +61,13 @@ same-length : tie.Need-same-length
 same-length c = search needs
 
 returns-3 : tie.Need-returns-3
-unfolding fed inkOf
+unfolding fed
 returns-3 c =
-    let a = c .before .before .before .before .before .before .before .before .before .before .before .before .before .before .before .before .before .args in
-    let r = a .self .bank .regs in
-    judged-yes _ (c .before .before .before .before .before .before .before .before .before .before .before .before .before .host-verdict .result) _ _ _ (c .before .before .before .before .before .before .before .before .before .before .before .before .before .host-verdict .ensures) (c .before .before .before .before .before .before .before .before .before .before .before .before .if1 .left)
-    (carried-out (c .set-blit2 .ensures) (c .before .before .before .before .host-word .ensures
-    ∙ ap₂ (λ (i : Ink) (k : Clip). paint (i .target) (hostTouches i (a .self .bank .pattern) k (c .before .before .before .before .before .before .before .before .before .before .before .decode-feed .result) (byWord (c .before .before .before .before .before .before .before .before .before .before .before .decode-feed .result) (a .self .blit .last) (a .word) (a .self .blit .taken))) (state (a .mem .now) 0)) (c .before .before .before .before .before .before .before .before .decode-ink .ensures) (c .before .before .before .before .before .before .before .decode-clip .ensures)
-    ∙ ap (λ (f : Feed). paint (target r) (hostTouches (inkOf r) (a .self .bank .pattern) (clipOf r) f (byWord f (a .self .blit .last) (a .word) (a .self .blit .taken))) (state (a .mem .now) 0)) (c .before .before .before .before .before .before .before .before .before .before .before .decode-feed .ensures))
-    ∙ rw (← c .before .before .before .before .before .before .before .before .before .before .before .decode-feed .ensures, ← c .before .before .before .before .before .before .before .before .before .before .words-needed .ensures, lt-ltb _ _ (c .before .before .before .before .before .before .before .before .before .if2 .left), lt-ltb _ _ (c .before .if3 .taken)))
+    let w = c .before .before .before .before .before .before .before in
+    let h = w .before .before .before .host-verdict in
+    judged-yes _ (h .result) _ _ _ (h .ensures) (w .before .before .if1 .left)
+    (carried-out (c .set-blit2 .ensures) (c .before .before .before .before .paint-word .ensures)
+    ∙ rw (← w .before .decode-feed .ensures, ← w .words-needed .ensures, lt-ltb _ _ (c .before .before .before .before .before .before .if2 .left), lt-ltb _ _ (c .before .if3 .taken)))
 
 set-blit-requires-3 : tie.Need-set-blit-requires-3
 set-blit-requires-3 c κs = search needs
@@ -91,15 +79,13 @@ same-length-2 : tie.Need-same-length-2
 same-length-2 c = search needs
 
 returns-4 : tie.Need-returns-4
-unfolding fed inkOf
+unfolding fed
 returns-4 c =
-    let a = c .before .before .before .before .before .before .before .before .before .before .before .before .before .before .before .before .before .before .args in
-    let r = a .self .bank .regs in
-    judged-yes _ (c .before .before .before .before .before .before .before .before .before .before .before .before .before .before .host-verdict .result) _ _ _ (c .before .before .before .before .before .before .before .before .before .before .before .before .before .before .host-verdict .ensures) (c .before .before .before .before .before .before .before .before .before .before .before .before .before .if1 .left)
-    (carried-out (c .end-rect2 .ensures ∙ ap afterRect (c .before .set-blit3 .ensures)) (c .before .before .before .before .before .host-word .ensures
-    ∙ ap₂ (λ (i : Ink) (k : Clip). paint (i .target) (hostTouches i (a .self .bank .pattern) k (c .before .before .before .before .before .before .before .before .before .before .before .before .decode-feed .result) (byWord (c .before .before .before .before .before .before .before .before .before .before .before .before .decode-feed .result) (a .self .blit .last) (a .word) (a .self .blit .taken))) (state (a .mem .now) 0)) (c .before .before .before .before .before .before .before .before .before .decode-ink .ensures) (c .before .before .before .before .before .before .before .before .decode-clip .ensures)
-    ∙ ap (λ (f : Feed). paint (target r) (hostTouches (inkOf r) (a .self .bank .pattern) (clipOf r) f (byWord f (a .self .blit .last) (a .word) (a .self .blit .taken))) (state (a .mem .now) 0)) (c .before .before .before .before .before .before .before .before .before .before .before .before .decode-feed .ensures))
-    ∙ rw (← c .before .before .before .before .before .before .before .before .before .before .before .before .decode-feed .ensures, ← c .before .before .before .before .before .before .before .before .before .before .before .words-needed .ensures, lt-ltb _ _ (c .before .before .before .before .before .before .before .before .before .before .if2 .left), le-ltb _ _ (c .before .before .if3 .left)))
+    let w = c .before .before .before .before .before .before .before .before in
+    let h = w .before .before .before .host-verdict in
+    judged-yes _ (h .result) _ _ _ (h .ensures) (w .before .before .if1 .left)
+    (carried-out (c .end-rect2 .ensures ∙ ap afterRect (c .before .set-blit3 .ensures)) (c .before .before .before .before .before .paint-word .ensures)
+    ∙ rw (← w .before .decode-feed .ensures, ← w .words-needed .ensures, lt-ltb _ _ (c .before .before .before .before .before .before .before .if2 .left), le-ltb _ _ (c .before .before .if3 .left)))
 
 pub feed-spec : {M : Type 1} → statement M
 feed-spec =
@@ -113,9 +99,7 @@ feed-spec =
     set-blit-requires
     end-rect-requires
     returns-2
-    decode-ink-requires
-    decode-clip-requires
-    host-word-requires
+    paint-word-requires
     add-if3
     add-set-blit
     set-blit-requires-2
