@@ -157,11 +157,6 @@ fed e m word =
     (step (afterRect (idle e)) m (Taken 0)))
     (step e m (refusal (hostVerdict (regs e) (length m))))
 
--- what painting a word asks for: a blit that the table takes, and that has not had all its words
-pub record Feeds (e : Engine) (len : ℕ) : Type 0 where
-  pub fine : hostVerdict (regs e) len ≡ 0
-  pub more : e .blit .taken < wordsOf (feedOf (regs e))
-
 -- ---- the writes
 
 -- by a command's number: nop, screen copy, host blit, fill, line and polyline, and those that are not built
@@ -208,3 +203,8 @@ written e m o d =
 -- ---- reading back
 abbrev pub readFrom : Engine → ℕ → Reading
 readFrom e o = readAt (e .bank) o
+
+-- ---- what a function asks for: a blit that the table takes, and that has not had all its words
+pub record Feeds (e : Engine) (len : ℕ) : Type 0 where
+  pub fine : hostVerdict (regs e) len ≡ 0
+  pub more : e .blit .taken < wordsOf (feedOf (regs e))
