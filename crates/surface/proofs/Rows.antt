@@ -1,4 +1,5 @@
--- All that is known elsewhere of the layout: laws of `byteAt` and `rowBytes`, which only this file and the proof of `byte_at` open.
+-- What is known elsewhere of the layout: laws of `byteAt` and `rowBytes`. Beside this file and the proof of `byte_at` only the fast paths open them, which
+-- need rows that lie in one piece: `Runs` of paint and `WalkLaws` of line; and `Fits` of picture, for the length of a picture.
 -- Assumes nothing.
 use mathlib.Core.Path.{_≡_, sym, ap, _∙_}
 use Prim.Native.Nat.{ℕ, _+_, _*_, _/_, _%_, _^_, _<_, _≤_}
