@@ -256,13 +256,20 @@ void plain_blit_open(struct plain_blit *b, int bytes, struct plain_surface to, u
     *b = fresh;
 }
 
+/* After a row's last pixel comes the next row's first. */
+INLINE void end_row(struct plain_blit *b)
+{
+    if (b->x == b->width) {
+        b->x = 0;
+        b->y++;
+    }
+}
+
 /* The pixels that a word of colour data finishes; rows follow each other with no gap. */
 INLINE u32 blit_word(int bytes, struct plain_blit *b, u32 word)
 {
     u32 done = 0;
-    for (int k = 0; k < 4; k++) {
-        if (b->y >= b->height)
-            break;
+    for (int k = 0; k < 4 && b->y < b->height; k++) {
         b->acc |= (word >> 8 * k & 255) << 8 * b->have;
         b->have++;
         if ((int)b->have == bytes) {
@@ -270,10 +277,8 @@ INLINE u32 blit_word(int bytes, struct plain_blit *b, u32 word)
             done++;
             b->acc = 0;
             b->have = 0;
-            if (++b->x == b->width) {
-                b->x = 0;
-                b->y++;
-            }
+            b->x++;
+            end_row(b);
         }
     }
     return done;
@@ -289,9 +294,7 @@ u32 plain_blit_word(struct plain_blit *b, u32 word)
 INLINE u32 blit_mono(int bytes, struct plain_blit *b, u32 word)
 {
     u32 done = 0;
-    for (int k = 0; k < 4; k++) {
-        if (b->y >= b->height)
-            break;
+    for (int k = 0; k < 4 && b->y < b->height; k++) {
         u32 byte = word >> 8 * k & 255;
         u8 *d = row_of(bytes, b->to, b->left + b->x, b->top + b->y);
         for (u32 i = 0; i < 8 && b->x < b->width; i++) {
@@ -299,10 +302,7 @@ INLINE u32 blit_mono(int bytes, struct plain_blit *b, u32 word)
             b->x++;
             done++;
         }
-        if (b->x == b->width) {
-            b->x = 0;
-            b->y++;
-        }
+        end_row(b);
     }
     return done;
 }
