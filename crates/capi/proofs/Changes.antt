@@ -19,7 +19,7 @@ use Rattle.registers.proofs.Arms.{Each}
 use Rattle.registers.proofs.RegsLaws.{registers, get-put, get-nowhere}
 use Rattle.host.specs.Host.{wordsOf}
 use Rattle.command.specs.Decode.{bit, number, feedOf}
-use Rattle.command.specs.Table.{fillVerdict, copyVerdict, hostVerdict, lineVerdict}
+use Rattle.table.specs.Table.{fillVerdict, copyVerdict, hostVerdict, lineVerdict}
 use Rattle.engine.specs.declared.Blit.{Blit}
 use Rattle.engine.specs.declared.Engine.{Engine}
 use Rattle.engine.specs.Step.{Step, regs, withBlit, idle, storedIn, afterRect, afterLine, filled, copied, lined, begun, fed, carried, launched, commanded, toRegister, toPlace, written}

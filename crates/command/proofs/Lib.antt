@@ -1,3 +1,1 @@
 pub mod CutLaws
-pub mod Rows
-pub mod Verdicts

@@ -10,7 +10,7 @@ use Rattle.surface.specs.Pixels.{Px, px, rect}
 use Rattle.surface.specs.Format.{targetOf, sourceOf}
 use Rattle.paint.specs.declared.Ink.{Ink}
 use Rattle.paint.specs.declared.Clip.{Clip}
-use Rattle.paint.specs.declared.Task.{Task}
+use Rattle.rect.specs.declared.Task.{Task}
 use Rattle.paint.specs.Clip.{origin, Bits12}
 use Rattle.registers.specs.declared.Regs.{Regs}
 use Rattle.registers.specs.Position.{placed}

@@ -1,2 +1,1 @@
 pub mod Decode
-pub mod Table

@@ -1,19 +1,16 @@
-// What the registers say of a command, and rows 5 to 8 of the table of answers for it.
+// What the registers say of a command.
 use host::Feed;
 use host::Plain;
 use line::Line;
 use line::Pen;
 use paint::Clip;
 use paint::Ink;
-use paint::Task;
+use rect::Task;
 use registers::Regs;
 use surface::Surface;
 ghost use mathlib.Core.Path.{_≡_};
 ghost use Prim.Native.Nat.{_-_, _^_, _<_, _≤_};
-ghost use Rattle.surface.specs.Place.{Small};
-ghost use Rattle.surface.specs.Span.{spanOf, meet};
-ghost use Rattle.command.specs.Decode.{target, origins, inkOf, plainBlit, plainOf, clipBy, clipOf, firstOf, cutLow, cutSize, cutAt, fillCut, copyCut, covered, needed, fillTask, copyTask, lineOf, penOf, feedOf, Axis, CutRange};
-ghost use Rattle.command.specs.Table.{bothFine, allOnAt, pixels, sameSurface, hostFault, InRows, fillVerdict, copyVerdict, hostVerdict, lineVerdict};
+ghost use Rattle.command.specs.Decode.{target, origins, inkOf, plainBlit, plainOf, clipBy, clipOf, firstOf, cutLow, cutSize, cutAt, fillCut, copyCut, fillTask, copyTask, lineOf, penOf, feedOf, Axis, CutRange};
 
 // What the clip leaves of a rectangle: its first pixel and size, and the position of its first source pixel, counted from 16384.
 pub struct Cut {
@@ -25,13 +22,13 @@ pub struct Cut {
     pub sy: u32,
 }
 
-fn target_surface(r: Regs) -> Surface
+pub fn target_surface(r: Regs) -> Surface
     ensures { λ s. ⌜ s ≡ target r ⌝ }
 {
     surface::target_of(r.dstBaseAddr, r.dstFormat)
 }
 
-fn source_surface(r: Regs) -> Surface
+pub fn source_surface(r: Regs) -> Surface
     ensures { λ s. ⌜ s ≡ origins r ⌝ }
 {
     surface::source_of(r.srcBaseAddr, r.srcFormat, r.dstSize % 0x2000)
@@ -269,137 +266,4 @@ pub fn decode_feed(r: Regs) -> Feed
         x: registers::place13(r.dstXY),
         y: registers::place13(r.dstXY / 0x1_0000),
     }
-}
-
-fn both_fine(r: Regs) -> bool
-    ensures { λ b. ⌜ b ≡ bothFine r ⌝ }
-{
-    let s = source_surface(r);
-    let t = target_surface(r);
-    surface::names_target(r.dstBaseAddr, r.dstFormat)
-        & (surface::names_source(r.srcBaseAddr, r.srcFormat)
-            & colour::may_convert(s.bytes, t.bytes))
-}
-
-fn same_surface(a: Surface, b: Surface) -> bool
-    ensures { λ r. ⌜ r ≡ sameSurface a b ⌝ }
-{
-    (a.base == b.base) & ((a.stride == b.stride) & (a.bytes == b.bytes))
-}
-
-// Whether every source pixel that a copy needs is on its surface: the first is not negative, and the last is there.
-fn needed_on(len: usize, s: Surface, c: Cut) -> bool
-    requires { ⌜ Small s ⌝ }
-    ensures { λ r. ⌜ r ≡ allOnAt s len (needed c) ⌝ }
-{
-    if c.w == 0 {
-        return true;
-    }
-    if c.h == 0 {
-        return true;
-    }
-    if c.sx < 16384 {
-        return false;
-    }
-    if c.sy < 16384 {
-        return false;
-    }
-    surface::rect_on(len, s, c.sx - 16384, c.sy - 16384, c.w, c.h)
-}
-
-// Whether the spans of a copy between two surfaces meet.
-fn spans_clash(t: Surface, s: Surface, c: Cut) -> bool
-    requires { ⌜ InRows t s c ⌝ }
-    ensures { λ r. ⌜ r ≡ meet (spanOf t (covered c)) (spanOf s (pixels (needed c))) ⌝ }
-{
-    if c.w == 0 {
-        return false;
-    }
-    if c.h == 0 {
-        return false;
-    }
-    let a = surface::rect_span(t, c.x, c.y, c.w, c.h);
-    let b = surface::rect_span(s, c.sx - 16384, c.sy - 16384, c.w, c.h);
-    surface::spans_meet(a, b)
-}
-
-pub fn fill_verdict(len: usize, r: Regs) -> u32
-    ensures { λ n. ⌜ n ≡ fillVerdict r len ⌝ }
-{
-    if !surface::names_target(r.dstBaseAddr, r.dstFormat) {
-        return 5;
-    }
-    let t = target_surface(r);
-    let c = fill_cut(r);
-    if surface::rect_on(len, t, c.x, c.y, c.w, c.h) {
-        return 0;
-    }
-    7
-}
-
-pub fn copy_verdict(len: usize, r: Regs) -> u32
-    ensures { λ n. ⌜ n ≡ copyVerdict r len ⌝ }
-{
-    if !both_fine(r) {
-        return 5;
-    }
-    let t = target_surface(r);
-    let s = source_surface(r);
-    let c = copy_cut(r);
-    if !surface::rect_on(len, t, c.x, c.y, c.w, c.h) {
-        return 7;
-    }
-    if !needed_on(len, s, c) {
-        return 7;
-    }
-    if same_surface(t, s) {
-        return 0;
-    }
-    if spans_clash(t, s, c) {
-        return 8;
-    }
-    0
-}
-
-// Whether row 6 applies to a host blit.
-fn host_fault(r: Regs) -> bool
-    ensures { λ b. ⌜ b ≡ hostFault r ⌝ }
-{
-    let s = source_surface(r);
-    let row = surface::row_length(s.bytes, r.dstSize % 0x2000);
-    !(r.srcFormat / 0x10_0000 % 4 == 0)
-        | (!(r.command / 0x4000 % 4 == 0)
-            | (!(r.srcXY == 0) | ((r.srcFormat / 0x40_0000 % 4 == 0) & (s.stride < row))))
-}
-
-pub fn host_verdict(len: usize, r: Regs) -> u32
-    ensures { λ n. ⌜ n ≡ hostVerdict r len ⌝ }
-{
-    if !both_fine(r) {
-        return 5;
-    }
-    if host_fault(r) {
-        return 6;
-    }
-    let t = target_surface(r);
-    let c = fill_cut(r);
-    if surface::rect_on(len, t, c.x, c.y, c.w, c.h) {
-        return 0;
-    }
-    7
-}
-
-pub fn line_verdict(len: usize, r: Regs) -> u32
-    ensures { λ n. ⌜ n ≡ lineVerdict r len ⌝ }
-{
-    if !surface::names_target(r.dstBaseAddr, r.dstFormat) {
-        return 5;
-    }
-    let t = target_surface(r);
-    let c = decode_clip(r);
-    let l = decode_line(r);
-    if line::line_off(len, t, c, l) {
-        return 7;
-    }
-    0
 }

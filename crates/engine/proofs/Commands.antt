@@ -16,10 +16,10 @@ use Rattle.surface.specs.Pixels.{Px}
 use Rattle.surface.specs.Span.{allOn, spanOf, meet}
 use Rattle.surface.proofs.Lists.{In, by-cases}
 use Rattle.surface.proofs.Rects.{rect-in}
-use Rattle.paint.specs.declared.Task.{Task}
+use Rattle.rect.specs.declared.Task.{Task}
 use Rattle.paint.specs.Clip.{origin}
 use Rattle.paint.specs.Paint.{state, Touch, paint}
-use Rattle.paint.specs.Copy.{giving, asBefore}
+use Rattle.rect.specs.Copy.{giving, asBefore}
 use Rattle.paint.proofs.ClipLaws.{in-clip}
 use Rattle.paint.proofs.Frame.{pixels-of}
 use Rattle.line.specs.Line.{points, pointCount}
@@ -35,8 +35,8 @@ use Rattle.registers.specs.Regs.{putReg}
 use Rattle.registers.specs.Bank.{stored, patterned}
 use Rattle.registers.specs.Offsets.{placeOf}
 use Rattle.command.specs.Decode.{bit, number, target, origins, inkOf, clipOf, cutAt, fillCut, copyCut, covered, needed, fillTask, copyTask, lineOf, penOf, feedOf}
-use Rattle.command.specs.Table.{targetFine, bothFine, allOnAt, pixels, sameSurface, hostFault, fillVerdict, copyVerdict, hostVerdict, lineVerdict}
-use Rattle.command.proofs.Verdicts.{fill-can, copy-can, line-can, host-can}
+use Rattle.table.specs.Table.{targetFine, bothFine, allOnAt, pixels, sameSurface, hostFault, fillVerdict, copyVerdict, hostVerdict, lineVerdict}
+use Rattle.table.proofs.Verdicts.{fill-can, copy-can, line-can, host-can}
 use Rattle.engine.specs.declared.Engine.{Engine}
 use Rattle.engine.specs.declared.Answer.the-variants.{Taken, Memory, Waiting, NotBuilt}
 use Rattle.engine.specs.Step.{Step, step, done, painted, numberOf, countOf, refusal, regs, idle, withBank, withBlit, storedIn, afterRect, afterLine, byNumber, fillTouches, copyTouches, drawTouches, wordTouches, filled, copied, lined, begun, fed, carried, launched, commanded, toRegister, toPattern, toPlace, written}

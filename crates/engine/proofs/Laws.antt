@@ -8,11 +8,11 @@ use native.Mathlib.Omega.{arith}
 use lib.Dec.{eqb, leb, ltb}
 use borrow.Author.Tests.{eq-eqb, ne-eqb, lt-ltb, le-ltb, le-leb, lt-leb}
 use Rattle.surface.specs.Pixels.{rect}
-use Rattle.paint.specs.declared.Task.{Task}
+use Rattle.rect.specs.declared.Task.{Task}
 use Rattle.paint.specs.declared.Ink.{Ink}
 use Rattle.paint.specs.declared.Clip.{Clip}
 use Rattle.paint.specs.Paint.{State, state, paint}
-use Rattle.paint.specs.Copy.{asBefore, CanPaint, Orderly}
+use Rattle.rect.specs.Copy.{asBefore, CanPaint, Orderly}
 use Rattle.line.specs.declared.Line.{Line}
 use Rattle.line.specs.Draw.{Drawable}
 use Rattle.host.specs.declared.Feed.{Feed}
@@ -24,8 +24,8 @@ use Rattle.host.proofs.PlainLaws.{plain-drawn, plain-waits}
 use Rattle.registers.specs.declared.Regs.{Regs}
 use Rattle.command.specs.declared.Cut.{Cut}
 use Rattle.command.specs.Decode.{target, inkOf, plainBlit, plainOf, clipOf, fillCut, copyCut, covered, fillTask, copyTask, lineOf, feedOf}
-use Rattle.command.specs.Table.{fillVerdict, copyVerdict, lineVerdict, hostVerdict}
-use Rattle.command.proofs.Verdicts.{fill-can, copy-can, copy-orderly, line-can, host-can, feed-sizes, words-few, plain-ink}
+use Rattle.table.specs.Table.{fillVerdict, copyVerdict, lineVerdict, hostVerdict}
+use Rattle.table.proofs.Verdicts.{fill-can, copy-can, copy-orderly, line-can, host-can, feed-sizes, words-few, plain-ink}
 use Rattle.engine.specs.declared.Engine.{Engine}
 use Rattle.engine.specs.declared.Answer.{Answer}
 use Rattle.engine.specs.declared.Answer.the-variants.{Taken}

@@ -17,7 +17,7 @@ use Rattle.line.specs.Line.{pointCount}
 use Rattle.line.specs.Stipple.{styleAfter}
 use Rattle.host.specs.Host.{wordsOf}
 use Rattle.command.specs.Decode.{bit, number, lineOf, penOf, feedOf}
-use Rattle.command.specs.Table.{fillVerdict, copyVerdict, hostVerdict, lineVerdict}
+use Rattle.table.specs.Table.{fillVerdict, copyVerdict, hostVerdict, lineVerdict}
 use Rattle.engine.specs.declared.Blit.{Blit}
 use Rattle.engine.specs.declared.Engine.{Engine}
 use Rattle.engine.specs.Step.{Step, noBlit, freshEngine, withBank, withBlit, afterRect, afterLine, regs, idle, storedIn, filled, copied, lined, begun, fed, carried, launched, commanded, toRegister, toPattern, toPlace, written}

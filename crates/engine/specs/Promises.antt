@@ -21,7 +21,7 @@ use Rattle.registers.specs.declared.Place.the-variants.{Register, Pattern, Laun
 use Rattle.registers.specs.Offsets.{placeOf}
 use Rattle.host.specs.Host.{wordsOf}
 use Rattle.command.specs.Decode.{number, target, origins, clipOf, copyCut, covered, needed, feedOf}
-use Rattle.command.specs.Table.{targetFine, bothFine, allOnAt, pixels, sameSurface, hostFault, hostVerdict}
+use Rattle.table.specs.Table.{targetFine, bothFine, allOnAt, pixels, sameSurface, hostFault, hostVerdict}
 use Rattle.engine.specs.declared.Engine.{Engine}
 use Rattle.engine.specs.Step.{Step, written, numberOf, countOf, regs, noBlit, freshEngine, readFrom, byNumber}
 use Rattle.engine.specs.Orders.{order, coveredBy, touchesOf}

@@ -7,7 +7,7 @@ use Prim.Native.Nat.{ℕ, _+_, _^_, _<_}
 use lib.Dec.{eqb, leb, ltb}
 use lib.ListN.{length}
 use Rattle.paint.specs.Paint.{State, state, Touch, paint}
-use Rattle.paint.specs.Copy.{asBefore}
+use Rattle.rect.specs.Copy.{asBefore}
 use Rattle.line.specs.Line.{points, pointCount}
 use Rattle.line.specs.Stipple.{styleAfter}
 use Rattle.line.specs.Draw.{lineTouches}
@@ -26,7 +26,7 @@ use Rattle.engine.specs.declared.Engine.{Engine}
 use Rattle.engine.specs.declared.Answer.{Answer}
 use Rattle.engine.specs.declared.Answer.the-variants.{Taken, Memory, Offset, Waiting, NotBuilt, Format, Host, Off, Meet}
 use Rattle.command.specs.Decode.{bit, number, target, inkOf, clipOf, fillCut, copyCut, covered, fillTask, copyTask, lineOf, penOf, feedOf}
-use Rattle.command.specs.Table.{fillVerdict, copyVerdict, hostVerdict, lineVerdict}
+use Rattle.table.specs.Table.{fillVerdict, copyVerdict, hostVerdict, lineVerdict}
 
 -- ---- answers: document 01's number and count of each
 abbrev pub numberOf : Answer → ℕ

@@ -125,7 +125,7 @@ impl Engine {
     {
         let bank = self.bank;
         let regs = bank.regs;
-        let verdict = command::fill_verdict(mem.len(), regs);
+        let verdict = table::fill_verdict(mem.len(), regs);
         if verdict != 0 {
             return Outcome {
                 engine: old,
@@ -135,7 +135,7 @@ impl Engine {
         let cut = command::fill_cut(regs);
         let task = command::fill_task(regs);
         let pattern = bank.pattern;
-        let count = paint::paint_rect(mem, task, pattern, cut.w, cut.h);
+        let count = rect::paint_rect(mem, task, pattern, cut.w, cut.h);
         Outcome {
             engine: self.end_rect(),
             answer: Answer::Taken(count),
@@ -147,7 +147,7 @@ impl Engine {
     {
         let bank = self.bank;
         let regs = bank.regs;
-        let verdict = command::copy_verdict(mem.len(), regs);
+        let verdict = table::copy_verdict(mem.len(), regs);
         if verdict != 0 {
             return Outcome {
                 engine: old,
@@ -157,7 +157,7 @@ impl Engine {
         let c = command::copy_cut(regs);
         let task = command::copy_task(regs);
         let pattern = bank.pattern;
-        let count = paint::paint_rect(mem, task, pattern, c.w, c.h);
+        let count = rect::paint_rect(mem, task, pattern, c.w, c.h);
         Outcome {
             engine: self.end_rect(),
             answer: Answer::Taken(count),
@@ -169,7 +169,7 @@ impl Engine {
     {
         let bank = self.bank;
         let regs = bank.regs;
-        let verdict = command::line_verdict(mem.len(), regs);
+        let verdict = table::line_verdict(mem.len(), regs);
         if verdict != 0 {
             return Outcome {
                 engine: old,
@@ -194,7 +194,7 @@ impl Engine {
     {
         let bank = self.bank;
         let regs = bank.regs;
-        let verdict = command::host_verdict(mem.len(), regs);
+        let verdict = table::host_verdict(mem.len(), regs);
         if verdict != 0 {
             return Outcome {
                 engine: old,
@@ -241,7 +241,7 @@ impl Engine {
     {
         let bank = self.bank;
         let regs = bank.regs;
-        let verdict = command::host_verdict(mem.len(), regs);
+        let verdict = table::host_verdict(mem.len(), regs);
         if verdict != 0 {
             return Outcome {
                 engine: self,

@@ -13,9 +13,8 @@ use Rattle.paint.specs.declared.Ink.{Ink}
 use Rattle.paint.specs.declared.Clip.{Clip}
 use Rattle.paint.specs.declared.Source.{Source}
 use Rattle.paint.specs.Paint.{State, state, dab, Touch, touch, paint}
-use Rattle.paint.specs.Mix.{source, bitSource, colourSource, mixed}
+use Rattle.paint.specs.Mix.{source, bitSource, colourSource, mixed, direct}
 use Rattle.paint.specs.Clip.{origin, inClip, pixelAt}
-use Rattle.paint.specs.Fast.{direct}
 use Rattle.paint.proofs.MixLaws.{direct-low, direct-mixed}
 use Rattle.host.specs.declared.Feed.{Feed}
 use Rattle.host.specs.declared.Plain.{Plain}

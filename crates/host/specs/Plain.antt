@@ -6,7 +6,7 @@ use mathlib.Core.Bool.{true, false}
 use mathlib.Core.List.{List, [], _∷_}
 use Prim.Native.Nat.{ℕ, zero, suc, _+_, _-_, _*_, _%_, _^_, _<_, _≤_}
 use Rattle.paint.specs.declared.Ink.{Ink}
-use Rattle.paint.specs.Fast.{direct}
+use Rattle.paint.specs.Mix.{direct}
 use Rattle.host.specs.declared.Feed.{Feed}
 use Rattle.host.specs.declared.Plain.{Plain}
 use Rattle.host.specs.Host.{lastColumn, lastByteOf, Pixel, pixel, valueOf}

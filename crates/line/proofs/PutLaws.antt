@@ -13,8 +13,7 @@ use Rattle.surface.specs.Pixels.{px}
 use Rattle.paint.specs.declared.Ink.{Ink}
 use Rattle.paint.specs.declared.Source.{Source}
 use Rattle.paint.specs.Paint.{state, dab}
-use Rattle.paint.specs.Mix.{bitSource, mixed}
-use Rattle.paint.specs.Fast.{direct}
+use Rattle.paint.specs.Mix.{bitSource, mixed, direct}
 use Rattle.paint.proofs.MixLaws.{direct-mixed}
 use Rattle.line.specs.Walk.{sourced, putFrom}
 use Rattle.line.proofs.Sides.{either}

@@ -19,9 +19,8 @@ use Rattle.paint.specs.declared.Ink.{Ink}
 use Rattle.paint.specs.declared.Source.{Source}
 use Rattle.paint.specs.Paint.{State, state, dab, Touch, touch, paint}
 use Rattle.paint.specs.Pattern.{patternValue}
-use Rattle.paint.specs.Mix.{bitSource, placed}
+use Rattle.paint.specs.Mix.{bitSource, placed, direct}
 use Rattle.paint.specs.Clip.{origin, inClip, pixelAt}
-use Rattle.paint.specs.Fast.{direct}
 use Rattle.paint.proofs.ClipLaws.{in-clip, clip-in}
 use Rattle.line.specs.declared.Line.{Line}
 use Rattle.line.specs.declared.Pen.{Pen}

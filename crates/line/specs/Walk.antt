@@ -13,9 +13,8 @@ use Rattle.paint.specs.declared.Clip.{Clip}
 use Rattle.paint.specs.declared.Ink.{Ink}
 use Rattle.paint.specs.declared.Source.{Source}
 use Rattle.paint.specs.Paint.{State, state, Touch, touch}
-use Rattle.paint.specs.Mix.{bitSource}
+use Rattle.paint.specs.Mix.{bitSource, direct}
 use Rattle.paint.specs.Clip.{origin, inClip, pixelAt}
-use Rattle.paint.specs.Fast.{direct}
 use Rattle.line.specs.declared.Point.{Point}
 use Rattle.line.specs.declared.Line.{Line}
 use Rattle.line.specs.declared.Pen.{Pen}

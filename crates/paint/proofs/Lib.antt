@@ -1,14 +1,7 @@
 pub mod MixLaws
 pub mod PatternLaws
 pub mod Turns
-pub mod Even
-pub mod Runs
-pub mod EvenRows
-pub mod TaskLaws
 pub mod Owners
 pub mod Settle
-pub mod Order
 pub mod Frame
-pub mod Plain
-pub mod Moves
 pub mod ClipLaws

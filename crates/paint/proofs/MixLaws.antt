@@ -17,8 +17,7 @@ use Rattle.surface.proofs.OnLaws.{and-left, and-right}
 use Rattle.paint.specs.declared.Ink.{Ink}
 use Rattle.paint.specs.declared.Source.{Source}
 use Rattle.paint.specs.Paint.{state, dab}
-use Rattle.paint.specs.Mix.{source, chosen, targetMatch, mixed}
-use Rattle.paint.specs.Fast.{direct}
+use Rattle.paint.specs.Mix.{source, chosen, targetMatch, mixed, direct}
 
 pub left-alone : (ink : Ink) (pattern : ℕ) (s : Source) (x y n : ℕ) (m : List ℕ) → s .left ≡ true
     → state m n ≡ dab (ink .target) (px x y) (mixed ink pattern s (readPx m (ink .target) x y)) (state m n)

@@ -8,8 +8,7 @@ use Prim.Native.Nat.{ℕ, suc, _+_, _-_, _<_, _≤_}
 use native.Mathlib.Omega.{arith}
 use Rattle.surface.specs.declared.Surface.{Surface}
 use Rattle.surface.specs.Pixels.{Px, px, across, rect}
-use Rattle.paint.specs.Paint.{State, Touch, touch, dab, paint}
-use Rattle.paint.specs.Copy.{nth}
+use Rattle.paint.specs.Paint.{State, Touch, touch, dab, paint, nth}
 
 -- ---- what remains after i turns
 abbrev first : Bool → ℕ → ℕ → ℕ

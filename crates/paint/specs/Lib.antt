@@ -2,5 +2,3 @@ pub mod Paint
 pub mod Mix
 pub mod Pattern
 pub mod Clip
-pub mod Copy
-pub mod Fast

@@ -1,6 +1,6 @@
 -- What is put at one covered pixel: the raster operation, chosen by the two key tests, of pattern, source and target.
 -- Assumes nothing.
-use mathlib.Core.Bool.{Bool, false, cond, _&&_}
+use mathlib.Core.Bool.{Bool, false, cond, not, _&&_}
 use mathlib.Core.List.{List}
 use mathlib.Core.Option.{Option, none, some}
 use Prim.Native.Nat.{ℕ, _+_, _^_, _<_}
@@ -45,6 +45,10 @@ unfoldable pub mixed : Ink → ℕ → Source → ℕ → Option ℕ
 mixed ink pattern s old =
     cond (s .left) none
     (some (ropBits 32 (chosen ink (s .key) (targetMatch ink old)) pattern (s .value) old))
+
+-- a pixel gets its source, where the source matches no key: raster operation CC, no target key
+abbrev pub direct : Ink → Bool
+direct ink = eqb (ink .rop0) 0xcc && not (ink .dstKey)
 
 -- pixel p, with a source that is known
 abbrev pub placed : Ink → List ℕ → Px → Source → Touch

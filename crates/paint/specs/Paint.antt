@@ -1,8 +1,9 @@
 -- Painting: pixels touched one after the other, each given a value or left unwritten; the memory and the count of pixels written.
 -- Assumes nothing.
+use mathlib.Core.Bool.{Bool, true, false}
 use mathlib.Core.List.{List, [], _∷_}
 use mathlib.Core.Option.{Option, none, some}
-use Prim.Native.Nat.{ℕ, _+_}
+use Prim.Native.Nat.{ℕ, _+_, _-_}
 use Rattle.surface.specs.declared.Surface.{Surface}
 use Rattle.surface.specs.Place.{writePx}
 use Rattle.surface.specs.Pixels.{Px}
@@ -30,3 +31,8 @@ touch p g = record { at = p; gives = g }
 unfoldable pub paint : Surface → List Touch → State → State
 paint s [] st = st
 paint s (t ∷ ts) st = paint s ts (dab s (t .at) (t .gives (st .mem)) st)
+
+-- the place number i of n from `at`: from the low end, or from the high end
+abbrev pub nth : Bool → ℕ → ℕ → ℕ → ℕ
+nth false at n i = at + i
+nth true at n i = at + (n - 1 - i)

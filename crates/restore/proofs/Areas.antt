@@ -14,9 +14,10 @@ use Rattle.surface.proofs.Spans.{IsByte, addresses-in}
 use Rattle.paint.specs.Clip.{origin, pixelAt}
 use Rattle.command.specs.declared.Cut.{Cut}
 use Rattle.command.specs.Decode.{needed}
-use Rattle.command.specs.Table.{allOnAt, pixels}
-use Rattle.command.proofs.CutLaws.{needed-rect, needed-first, needed-pixels}
-use Rattle.command.proofs.Verdicts.{source-on}
+use Rattle.table.specs.Table.{allOnAt, pixels}
+use Rattle.command.proofs.CutLaws.{needed-rect}
+use Rattle.table.proofs.Sources.{needed-first, needed-pixels}
+use Rattle.table.proofs.Verdicts.{source-on}
 use Rattle.restore.specs.Rectangles.{Rectangle, positions, Has, addressesIn}
 
 -- pixel p is one of the rectangle's

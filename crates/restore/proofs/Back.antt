@@ -21,7 +21,7 @@ use Rattle.surface.proofs.OnLaws.{on-column}
 use Rattle.surface.proofs.Spans.{IsByte, span-holds}
 use Rattle.paint.specs.Clip.{origin}
 use Rattle.paint.proofs.Owners.{byte-of, of-byte, one-owner, owner}
-use Rattle.command.specs.Table.{allOnAt, pixels}
+use Rattle.table.specs.Table.{allOnAt, pixels}
 use Rattle.restore.specs.Rectangles.{Rectangle, positions, Apart}
 use Rattle.restore.proofs.Areas.{Of, Elsewhere, not-negative, pixels-rect, all-on}
 use Rattle.restore.proofs.Copies.{Came}

@@ -19,19 +19,21 @@ use Rattle.surface.proofs.Spans.{IsByte}
 use Rattle.paint.specs.declared.Clip.{Clip}
 use Rattle.paint.specs.Clip.{origin}
 use Rattle.paint.specs.Paint.{State, state, paint}
-use Rattle.paint.specs.Copy.{sourcePlace, asBefore}
-use Rattle.paint.specs.Fast.{Given, sourceByte}
+use Rattle.rect.specs.Copy.{sourcePlace, asBefore}
+use Rattle.rect.specs.Fast.{sourceByte}
+use Rattle.runs.specs.Runs.{Given}
 use Rattle.paint.proofs.Owners.{byte-of}
 use Rattle.paint.proofs.ClipLaws.{Covered, in-clip}
 use Rattle.paint.proofs.Frame.{Bytes}
-use Rattle.paint.proofs.Plain.{PlainCopy, plain-moves, plain-counts}
+use Rattle.rect.proofs.Plain.{PlainCopy, plain-moves, plain-counts}
 use Rattle.registers.specs.declared.Regs.{Regs}
 use Rattle.command.specs.declared.Cut.{Cut}
 use Rattle.command.specs.Decode.{width, height, target, origins, inkOf, clipOf, firstOf, cutAt, copyCut, covered, needed, copyTask}
-use Rattle.command.specs.Table.{allOnAt, pixels, sameSurface, copyVerdict}
-use Rattle.command.proofs.CutLaws.{needed-rect, needed-none, no-clash}
-use Rattle.command.proofs.Rows.{copy-by}
-use Rattle.command.proofs.Verdicts.{copy-can}
+use Rattle.table.specs.Table.{allOnAt, pixels, sameSurface, copyVerdict}
+use Rattle.command.proofs.CutLaws.{needed-rect}
+use Rattle.table.proofs.Sources.{needed-none, no-clash}
+use Rattle.table.proofs.Rows.{copy-by}
+use Rattle.table.proofs.Verdicts.{copy-can}
 use Rattle.restore.specs.Rectangles.{Rectangle, sourceRect, targetRect, positions, Apart}
 use Rattle.restore.specs.Restore.{Plain}
 use Rattle.restore.proofs.Areas.{Of, not-negative, pixels-rect, all-on}

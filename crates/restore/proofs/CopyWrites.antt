@@ -11,14 +11,14 @@ use lib.ListN.{length}
 use borrow.Author.Tests.{eqb-true, eq-eqb, ne-eqb, le-ltb}
 use Rattle.surface.proofs.OnLaws.{and-left, and-right}
 use Rattle.paint.specs.Paint.{state, paint}
-use Rattle.paint.specs.Copy.{asBefore}
+use Rattle.rect.specs.Copy.{asBefore}
 use Rattle.paint.proofs.Frame.{Bytes, paint-bytes}
 use Rattle.registers.specs.declared.Regs.{Regs}
 use Rattle.registers.specs.declared.Place.{Place}
 use Rattle.registers.specs.declared.Place.the-variants.{Register, Pattern, Launch, Nowhere}
 use Rattle.registers.specs.Offsets.{placeOf}
 use Rattle.command.specs.Decode.{bit, number, width, height, target, copyCut, covered, copyTask}
-use Rattle.command.specs.Table.{copyVerdict}
+use Rattle.table.specs.Table.{copyVerdict}
 use Rattle.engine.specs.declared.Engine.{Engine}
 use Rattle.engine.specs.declared.Answer.{Answer}
 use Rattle.engine.specs.declared.Answer.the-variants.{Taken, Waiting}

@@ -9,7 +9,7 @@ use Rattle.surface.proofs.OnLaws.{and-left}
 use Rattle.surface.proofs.FormatLaws.{target-colour}
 use Rattle.registers.specs.declared.Regs.{Regs}
 use Rattle.command.specs.Decode.{width, height, origins}
-use Rattle.command.specs.Table.{targetFine}
+use Rattle.table.specs.Table.{targetFine}
 use Rattle.engine.specs.declared.Engine.{Engine}
 use Rattle.engine.specs.declared.Answer.{Answer}
 use Rattle.engine.specs.declared.Answer.the-variants.{Taken}

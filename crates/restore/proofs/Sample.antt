@@ -16,7 +16,7 @@ use Rattle.surface.specs.Step.{stepOf}
 use Rattle.paint.specs.Paint.{paint, dab}
 use Rattle.paint.specs.Mix.{colourSource, fillSource, mixed, chosen}
 use Rattle.paint.specs.Pattern.{patternIn, patternPixel, patternBit}
-use Rattle.paint.specs.Copy.{giving, sourceBy, sourcePlace}
+use Rattle.rect.specs.Copy.{giving, sourceBy, sourcePlace}
 use Rattle.paint.proofs.ClipLaws.{in-clip, clip-in}
 use Rattle.registers.specs.declared.Regs.{Regs}
 use Rattle.registers.specs.Bank.{freshBank, stored}
@@ -25,7 +25,7 @@ use Rattle.registers.specs.Regs.{putReg}
 use Rattle.registers.specs.Offsets.{placeOf}
 use Rattle.registers.specs.Position.{steppedXY}
 use Rattle.command.specs.Decode.{inkOf, clipOf, cutAt, fillCut, copyCut, fillTask, copyTask}
-use Rattle.command.specs.Table.{allOnAt, fillVerdict, copyVerdict}
+use Rattle.table.specs.Table.{allOnAt, fillVerdict, copyVerdict}
 use Rattle.engine.specs.declared.Engine.{Engine}
 use Rattle.engine.specs.Step.{freshEngine, storedIn, afterRect, filled, copied, launched, toRegister, commanded, written}
 use Rattle.engine.specs.Orders.{launching}

@@ -17,7 +17,7 @@ use Rattle.registers.specs.declared.Place.the-variants.{Register, Pattern, Laun
 use Rattle.registers.specs.Offsets.{placeOf}
 use Rattle.registers.specs.Bank.{patterned}
 use Rattle.command.specs.Decode.{bit, number, lineOf, penOf, feedOf}
-use Rattle.command.specs.Table.{fillVerdict, copyVerdict, hostVerdict, lineVerdict}
+use Rattle.table.specs.Table.{fillVerdict, copyVerdict, hostVerdict, lineVerdict}
 use Rattle.engine.specs.declared.Engine.{Engine}
 use Rattle.engine.specs.declared.Answer.{Answer}
 use Rattle.engine.specs.Step.{Step, step, numberOf, regs, idle, withBank, withBlit, storedIn, afterRect, afterLine, filled, copied, lined, begun, fed, carried, launched, commanded, toRegister, toPattern, toPlace, written}

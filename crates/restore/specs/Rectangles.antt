@@ -11,7 +11,7 @@ use Rattle.surface.specs.Span.{addresses, spanOf, meet}
 use Rattle.registers.specs.declared.Regs.{Regs}
 use Rattle.registers.specs.Position.{placed}
 use Rattle.command.specs.Decode.{width, height, target, origins}
-use Rattle.command.specs.Table.{pixels}
+use Rattle.table.specs.Table.{pixels}
 
 pub record Rectangle : Type 0 where
   pub surface : Surface

@@ -10,7 +10,7 @@ use Rattle.surface.specs.Step.{packingOf}
 use Rattle.paint.specs.Clip.{inClip}
 use Rattle.registers.specs.declared.Regs.{Regs}
 use Rattle.command.specs.Decode.{bit, number, width, height, target, origins, clipOf}
-use Rattle.command.specs.Table.{bothFine, allOnAt}
+use Rattle.table.specs.Table.{bothFine, allOnAt}
 use Rattle.engine.specs.declared.Engine.{Engine}
 use Rattle.engine.specs.declared.Answer.{Answer}
 use Rattle.engine.specs.declared.Answer.the-variants.{Taken}

@@ -1,0 +1,5 @@
+pub mod Solid
+pub mod TaskLaws
+pub mod Order
+pub mod Plain
+pub mod Moves

@@ -1,0 +1,49 @@
+-- Laws of a rectangle's pixels: what one is given, by the numbers that the loop has; and that a rectangle that can be painted has its rows ready.
+-- Assumes nothing.
+use mathlib.Core.Path.{_≡_}
+use mathlib.Core.Bool.{false}
+use mathlib.Core.List.{List}
+use Prim.Native.Nat.{ℕ, _+_, _-_, _^_, _<_, _≤_}
+use native.Mathlib.Omega.{arith}
+use lib.ListN.{getD}
+use Rattle.surface.specs.Place.{OnColour}
+use Rattle.surface.specs.Pixels.{Px, px, rect, Inside}
+use Rattle.surface.proofs.Rects.{rect-in}
+use Rattle.surface.proofs.Corner.{all-each}
+use Rattle.rect.specs.declared.Task.{Task}
+use Rattle.paint.specs.Pattern.{patternColumn, patternRow, patternBit, RowOf}
+use Rattle.rect.specs.Copy.{giving, HasSource, RowReady, CanPaint}
+use Rattle.rect.specs.Fast.{rowGiving}
+
+-- a row's pixels are given what the pattern's row gives them
+pub by-row : (t : Task) (pattern now : List ℕ) (p : Px) {row bits : ℕ} {values : List ℕ} → row ≡ patternRow (t .ink) (p .y) → bits ≡ getD pattern row 0
+    → RowOf (t .ink) pattern row values → rowGiving t values bits now p ≡ giving t pattern now now p
+unfolding rowGiving giving patternBit
+by-row t pattern now p {row} e b rows =
+    let column = patternColumn (t .ink) (p .x) in
+    let v = rows .at column (omega arith) in
+    rw (v, b, e)
+
+-- the pixels of the rectangle, one by one
+pub can-pixel : {t : Task} {w h len : ℕ} → CanPaint t w h len → (x y : ℕ) → Inside (t .x) (t .y) w h (px x y)
+    → OnColour (t .ink .target) len x y × HasSource t len x y
+can-pixel {t} {w} {h} {len} can x y i = (
+  record { colour = can .colour; on = all-each (t .ink .target) len (rect false false (t .x) (t .y) w h) (can .target) (px x y) (rect-in false false (t .x) (t .y) w h (px x y) i) },
+  record {
+    small = can .small;
+    left = i .left;
+    top = i .top;
+    column = omega (arith, can .sourceWide);
+    row = omega (arith, can .sourceHigh);
+    on = λ copies. all-each (t .from) len (rect false false (t .sx) (t .sy) w h) (can .origin copies) (px (t .sx + (x - t .x)) (t .sy + (y - t .y)))
+        (rect-in false false (t .sx) (t .sy) w h _ (omega arith));
+  },
+)
+
+pub can-row : {t : Task} {w h len : ℕ} → CanPaint t w h len → (y n : ℕ) → t .y ≤ y → y < t .y + h → n + w < 2 ^ 32 → RowReady t w y len n
+can-row {t} {w} {h} {len} can y n top bottom room = record {
+  colour = can .colour;
+  wide = can .wide;
+  room = room;
+  each = λ x left right. can-pixel can x y (record { left = left; right = right; top = top; bottom = bottom });
+}

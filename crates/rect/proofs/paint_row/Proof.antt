@@ -1,0 +1,54 @@
+-- `paint::paint_row` meets its contract: the pattern's row gives each pixel what the pattern does.
+-- Assumes nothing.
+use mathlib.Core.Path.{sym, ap, _∙_}
+use Prim.Native.Nat.{ℕ}
+use borrow.Author.Needs.{needs}
+use Rattle.surface.specs.Pixels.{across}
+use Rattle.surface.proofs.Rects.{in-across}
+use Rattle.paint.specs.Paint.{state}
+use Rattle.paint.specs.Pattern.{patternRow}
+use Rattle.rect.specs.Copy.{giving}
+use Rattle.rect.specs.Fast.{rowGiving}
+use Rattle.paint.proofs.Turns.{paint-same}
+use Rattle.rect.proofs.TaskLaws.{by-row}
+use Rattle.rect.proofs.paint_row.Statement.{statement}
+use Rattle.rect.proofs.paint_row.Tie as tie
+
+pattern-row-requires : tie.Need-pattern-row-requires
+pattern-row-requires c κs = search needs
+
+row-values-requires : tie.Need-row-values-requires
+row-values-requires c κs = search needs
+
+pattern-byte-requires : tie.Need-pattern-byte-requires
+pattern-byte-requires c κs = search needs
+
+paint-across-requires : tie.Need-paint-across-requires
+paint-across-requires c κs = search needs
+
+same-length : tie.Need-same-length
+same-length c = search needs
+
+returns : tie.Need-returns
+returns c =
+    let a = c .before .before .before .before .before .before .before .before .before .args in
+    let values = c .before .before .before .before .before .row-values .ensures in
+    let bits = c .before .before .before .before .pattern-byte .ensures .0 in
+    let row = c .before .before .before .before .before .before .pattern-row .ensures .0 in (
+      c .before .before .paint-across .ensures .0
+          ∙ paint-same (a .t .ink .target) (λ p now. rowGiving (a .t) _ _ now p) (λ p now. giving (a .t) (a .pattern) now now p) (across (a .back) (a .t .x) (a .w) (a .y))
+          (λ p i now. by-row (a .t) (a .pattern) now p (row ∙ ap (λ (y : ℕ). patternRow (a .t .ink) y) (sym (in-across (a .back) (a .t .x) (a .w) (a .y) p i .2))) bits values)
+          (state (a .mem .now) (a .n)),
+      c .before .before .paint-across .ensures .1,
+    )
+
+pub paint-row-spec : {M : Type 1} → statement M
+paint-row-spec =
+    tie.close
+    (tie.spec
+    pattern-row-requires
+    row-values-requires
+    pattern-byte-requires
+    paint-across-requires
+    same-length
+    returns)

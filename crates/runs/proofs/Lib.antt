@@ -1,0 +1,3 @@
+pub mod Even
+pub mod Runs
+pub mod EvenRows

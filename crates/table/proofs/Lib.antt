@@ -1,0 +1,3 @@
+pub mod Sources
+pub mod Rows
+pub mod Verdicts

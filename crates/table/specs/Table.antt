@@ -1,0 +1,75 @@
+-- Rows 5 to 8 of the table of answers, for each command: the number of the first row that applies, 0 where none does.
+-- Assumes nothing.
+use mathlib.Core.Bool.{Bool, true, cond, not, _&&_, _||_}
+use mathlib.Core.List.{List, [], _∷_, map}
+use Prim.Native.Nat.{ℕ, _+_, _-_, _/_, _%_, _^_, _<_, _≤_}
+use lib.Dec.{eqb, leb, ltb}
+use Rattle.colour.specs.Convert.{allowed}
+use Rattle.surface.specs.declared.Surface.{Surface}
+use Rattle.surface.specs.Place.{onSurface, rowPixels, Small}
+use Rattle.surface.specs.Pixels.{Px}
+use Rattle.surface.specs.Span.{allOn, spanOf, meet}
+use Rattle.surface.specs.Format.{targetNamed, sourceNamed}
+use Rattle.surface.specs.Step.{packingOf, rowLength}
+use Rattle.paint.specs.Clip.{origin, pixelAt}
+use Rattle.line.specs.Line.{points}
+use Rattle.line.specs.Draw.{lineOff}
+use Rattle.registers.specs.declared.Regs.{Regs}
+use Rattle.command.specs.declared.Cut.{Cut}
+use Rattle.command.specs.Decode.{width, target, origins, clipOf, fillCut, copyCut, covered, needed, lineOf}
+
+-- ---- row 5: a surface is tiled or has a format not listed, or the conversion is not allowed
+abbrev pub targetFine : Regs → Bool
+targetFine r = targetNamed (r .dstBaseAddr) (r .dstFormat)
+
+abbrev pub bothFine : Regs → Bool
+bothFine r = targetFine r && (sourceNamed (r .srcBaseAddr) (r .srcFormat) && allowed (origins r .bytes) (target r .bytes))
+
+-- ---- row 7: a source position, counted from 16384, is on its surface
+abbrev pub onAt : Surface → ℕ → Px → Bool
+onAt s len q = (leb origin (q .x) && leb origin (q .y)) && onSurface s len (q .x - origin) (q .y - origin)
+
+unfoldable pub allOnAt : Surface → ℕ → List Px → Bool
+allOnAt s len [] = true
+allOnAt s len (q ∷ qs) = onAt s len q && allOnAt s len qs
+
+abbrev pub pixels : List Px → List Px
+pixels qs = map (λ q. pixelAt (q .x) (q .y)) qs
+
+-- ---- row 8: the same base, step and format
+abbrev pub sameSurface : Surface → Surface → Bool
+sameSurface a b = eqb (a .base) (b .base) && (eqb (a .stride) (b .stride) && eqb (a .bytes) (b .bytes))
+
+-- ---- the commands
+unfoldable pub fillVerdict : Regs → ℕ → ℕ
+fillVerdict r len = cond (not (targetFine r)) 5 (cond (not (allOn (target r) len (covered (fillCut r)))) 7 0)
+
+unfoldable pub copyVerdict : Regs → ℕ → ℕ
+copyVerdict r len =
+    cond (not (bothFine r)) 5
+    (cond (not (allOn (target r) len (covered (copyCut r))) || not (allOnAt (origins r) len (needed (copyCut r)))) 7
+    (cond (not (sameSurface (target r) (origins r)) && meet (spanOf (target r) (covered (copyCut r))) (spanOf (origins r) (pixels (needed (copyCut r))))) 8
+    0))
+
+-- row 6, for a host blit: swizzle bits, direction bits or srcXY not 0, or packing 0 with a stride below the row's bytes
+abbrev pub hostFault : Regs → Bool
+hostFault r =
+    not (eqb (r .srcFormat / 2 ^ 20 % 4) 0)
+    || (not (eqb (r .command / 2 ^ 14 % 4) 0)
+    || (not (eqb (r .srcXY) 0)
+    || (eqb (packingOf (r .srcFormat)) 0 && ltb (origins r .stride) (rowLength (origins r .bytes) (width r)))))
+
+unfoldable pub hostVerdict : Regs → ℕ → ℕ
+hostVerdict r len =
+    cond (not (bothFine r)) 5 (cond (hostFault r) 6 (cond (not (allOn (target r) len (covered (fillCut r)))) 7 0))
+
+unfoldable pub lineVerdict : Regs → ℕ → ℕ
+lineVerdict r len = cond (not (targetFine r)) 5 (cond (lineOff (target r) len (clipOf r) (points (lineOf r))) 7 0)
+
+-- ---- what functions ask for: the two rectangles of a copy are in the rows of their surfaces, where they have pixels
+pub record InRows (t s : Surface) (c : Cut) : Type 0 where
+  pub target : Small t
+  pub source : Small s
+  pub columns : 0 < c .w → 0 < c .h → (c .x + (c .w - 1) < rowPixels t) × (c .sx - origin + (c .w - 1) < rowPixels s)
+  pub left : 0 < c .w → 0 < c .h → origin ≤ c .sx
+  pub top : 0 < c .w → 0 < c .h → origin ≤ c .sy
