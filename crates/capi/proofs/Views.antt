@@ -9,9 +9,9 @@ use lib.ListN.{length, take, drop}
 use borrow.Author.Tests.{eq-eqb, ne-eqb, eqb-true, eqb-false}
 use Rattle.surface.specs.declared.Surface.{Surface}
 use Rattle.surface.specs.Place.{byteOf, Colour}
-use Rattle.surface.specs.Format.{targetOf}
-use Rattle.surface.specs.View.{viewAnswer, viewed}
-use Rattle.surface.proofs.ViewLaws.{given-zero, view-given, view-refused}
+use Rattle.formats.specs.Format.{targetOf}
+use Rattle.views.specs.View.{viewAnswer, viewed}
+use Rattle.views.proofs.ViewLaws.{given-zero, view-given, view-refused}
 use Rattle.engine.proofs.Cases.{by-test}
 use Rattle.capi.specs.Calls.{Part, part, partOf}
 use Rattle.capi.specs.Promises.{PartViewed}

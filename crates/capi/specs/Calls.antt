@@ -7,8 +7,8 @@ use Prim.Native.Nat.{ℕ, _+_, _*_, _^_}
 use lib.Dec.{eqb, ltb}
 use lib.ListN.{length}
 use Rattle.surface.specs.Place.{byteOf}
-use Rattle.surface.specs.Format.{targetOf}
-use Rattle.surface.specs.View.{viewAnswer}
+use Rattle.formats.specs.Format.{targetOf}
+use Rattle.views.specs.View.{viewAnswer}
 use Rattle.registers.specs.declared.Reading.{Reading}
 use Rattle.registers.specs.declared.Place.the-variants.{Register, Pattern}
 use Rattle.registers.specs.Offsets.{placeOf}

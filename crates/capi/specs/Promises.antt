@@ -7,7 +7,7 @@ use mathlib.Core.List.{List}
 use Prim.Native.Nat.{ℕ, _^_, _<_}
 use lib.ListN.{length, take, drop}
 use Rattle.registers.specs.Regs.{getReg}
-use Rattle.surface.specs.View.{viewAnswer, viewed}
+use Rattle.views.specs.View.{viewAnswer, viewed}
 use Rattle.engine.specs.declared.Engine.{Engine}
 use Rattle.capi.specs.Layout.{stateSize, encoded, decoded, isState, Bytes}
 use Rattle.capi.specs.Calls.{Call, writtenTo, Opening, openedTo, readOf, Part, partOf}

@@ -282,13 +282,13 @@ pub extern "C" fn rimebarrow_view(
 ) -> u32
     ensures { λ r. ⌜ part r (now (start .exit)) (now (count .exit)) ≡ partOf (now (memory .entry)) base format x y width ⌝ }
 {
-    let answer = surface::view_answer(memory.len(), base, format, x, y, width);
+    let answer = views::view_answer(memory.len(), base, format, x, y, width);
     if answer != 0 {
         *start = 0;
         *count = 0;
         return answer;
     }
-    let s = surface::target_of(base, format);
+    let s = formats::target_of(base, format);
     *start = surface::byte_of(s, x, y, 0);
     *count = width as usize * s.bytes as usize;
     0

@@ -7,7 +7,7 @@ use lib.Dec.{eqb}
 use Rattle.surface.specs.declared.Surface.{Surface}
 use Rattle.surface.specs.Place.{surface}
 use Rattle.surface.specs.Pixels.{Px, px, rect}
-use Rattle.surface.specs.Format.{targetOf, sourceOf}
+use Rattle.formats.specs.Format.{targetOf, sourceOf}
 use Rattle.paint.specs.declared.Ink.{Ink}
 use Rattle.paint.specs.declared.Clip.{Clip}
 use Rattle.rect.specs.declared.Task.{Task}

@@ -25,13 +25,13 @@ pub struct Cut {
 pub fn target_surface(r: Regs) -> Surface
     ensures { λ s. ⌜ s ≡ target r ⌝ }
 {
-    surface::target_of(r.dstBaseAddr, r.dstFormat)
+    formats::target_of(r.dstBaseAddr, r.dstFormat)
 }
 
 pub fn source_surface(r: Regs) -> Surface
     ensures { λ s. ⌜ s ≡ origins r ⌝ }
 {
-    surface::source_of(r.srcBaseAddr, r.srcFormat, r.dstSize % 0x2000)
+    formats::source_of(r.srcBaseAddr, r.srcFormat, r.dstSize % 0x2000)
 }
 
 pub fn decode_ink(r: Regs) -> Ink

@@ -12,7 +12,7 @@ use Rattle.surface.specs.declared.Surface.{Surface}
 use Rattle.surface.specs.Pixels.{Px, Inside}
 use Rattle.surface.proofs.Lists.{In, by-cases}
 use Rattle.surface.proofs.Rects.{in-rect}
-use Rattle.surface.proofs.Spans.{IsByte, addresses-in}
+use Rattle.spans.proofs.Spans.{IsByte, addresses-in}
 use Rattle.paint.specs.declared.Clip.{Clip}
 use Rattle.paint.specs.Clip.{origin, inClip}
 use Rattle.paint.specs.Paint.{state, Touch, paint}

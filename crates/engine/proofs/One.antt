@@ -1,7 +1,7 @@
 -- Each contract says what the outcome equals, and so allows one.
 -- Assumes nothing.
 use mathlib.Core.Path.{_≡_, sym, _∙_}
-use Rattle.surface.specs.View.{viewAnswer, viewed}
+use Rattle.views.specs.View.{viewAnswer, viewed}
 use Rattle.engine.specs.Step.{freshEngine, readFrom, written}
 use Rattle.engine.specs.Promises.{OneOutcome, OneFresh, OneReading, OneView, OneViewAnswer}
 

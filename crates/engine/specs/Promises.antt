@@ -10,8 +10,8 @@ use lib.Dec.{eqb, ltb}
 use lib.ListN.{length, getD}
 use Rattle.surface.specs.declared.Surface.{Surface}
 use Rattle.surface.specs.Pixels.{Px}
-use Rattle.surface.specs.Span.{allOn, addresses, spanOf, meet}
-use Rattle.surface.specs.View.{viewAnswer, viewed}
+use Rattle.spans.specs.Span.{allOn, addresses, spanOf, meet}
+use Rattle.views.specs.View.{viewAnswer, viewed}
 use Rattle.paint.specs.Clip.{origin, inClip}
 use Rattle.paint.specs.Paint.{state, Touch, dab, paint}
 use Rattle.registers.specs.declared.Regs.{Regs}

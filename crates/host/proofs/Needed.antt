@@ -6,9 +6,9 @@ use Prim.Native.Nat.{ℕ, _+_, _-_, _*_, _/_, _%_, _^_, _<_, _≤_}
 use native.Mathlib.Nat.{mul-le-mul-right, zero-mul}
 use native.Mathlib.Omega.{arith}
 use borrow.Author.Tests.{eq-eqb, ne-eqb}
-use Rattle.surface.specs.Step.{rowLength, dataBytes, dataWords}
+use Rattle.formats.specs.Step.{rowLength, dataBytes, dataWords}
 use Rattle.surface.proofs.Bytes.{product-lt}
-use Rattle.surface.proofs.FormatLaws.{row-small}
+use Rattle.formats.proofs.FormatLaws.{row-small}
 use Rattle.surface.proofs.OnLaws.{pos-of-ne}
 use Rattle.host.specs.declared.Feed.{Feed}
 use Rattle.host.specs.Host.{bitsOf, lastColumn, lastByteOf, wordsOf, Pixel, pixel, valueOf, byWord, Sizes, Rows}

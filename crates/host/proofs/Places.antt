@@ -8,7 +8,7 @@ use native.Mathlib.Omega.{arith}
 use borrow.Author.Tests.{eq-eqb, ne-eqb, eqb-false}
 use lib.Arith.{digits-div, digits-mod}
 use lib.Dec.{eqb}
-use Rattle.surface.specs.Step.{rowLength}
+use Rattle.formats.specs.Step.{rowLength}
 use Rattle.surface.proofs.OnLaws.{pos-of-ne}
 use Rattle.host.specs.declared.Feed.{Feed}
 use Rattle.host.specs.Host.{bitsOf, lastColumn, lastByteOf, whole, Rows}

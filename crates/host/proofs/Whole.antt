@@ -11,7 +11,7 @@ use native.Mathlib.Omega.{arith}
 use borrow.Author.Tests.{ltb-true, ltb-false, lt-ltb, le-ltb}
 use lib.Arith.{digits-div, digits-mod}
 use lib.Dec.{ltb}
-use Rattle.surface.specs.Step.{rowLength, dataBytes, dataWords}
+use Rattle.formats.specs.Step.{rowLength, dataBytes, dataWords}
 use Rattle.host.specs.declared.Feed.{Feed}
 use Rattle.host.specs.Host.{lastByteOf, wordsOf, Pixel, pixel, valueOf, whole, run, byByte, byBytes, byWord, Rows}
 use Rattle.host.specs.Stream.{valueAt, rowFrom, rows, before, byWords}

@@ -5,7 +5,7 @@ use mathlib.Core.Bool.{cond}
 use mathlib.Core.List.{List, [], _∷_, _++_}
 use Prim.Native.Nat.{ℕ, zero, suc, _+_, _-_, _*_, _/_, _%_, _^_, _<_, _≤_, min}
 use lib.Dec.{eqb, ltb}
-use Rattle.surface.specs.Step.{bitsPer, rowLength, dataWords}
+use Rattle.formats.specs.Step.{bitsPer, rowLength, dataWords}
 use Rattle.host.specs.declared.Feed.{Feed}
 
 -- ---- places in the data

@@ -8,7 +8,7 @@ ghost use mathlib.Core.Bool.{false};
 ghost use mathlib.Core.List.{[], _∷_};
 ghost use Prim.Native.Nat.{_+_, _-_, _*_, _/_, _%_, _^_, _<_, _≤_, min};
 ghost use lib.ListN.{length};
-ghost use Rattle.surface.specs.Step.{bitsPer, dataWords};
+ghost use Rattle.formats.specs.Step.{bitsPer, dataWords};
 ghost use Rattle.paint.specs.Paint.{state, paint};
 ghost use Rattle.paint.specs.Mix.{source};
 ghost use Rattle.host.specs.Host.{lastColumn, pixel, valueOf, whole, byByte, byBytes, byWord, Sizes};
@@ -37,7 +37,7 @@ pub fn words_needed(feed: Feed) -> u32
     if feed.height == 0 {
         return 0;
     }
-    let row = surface::row_length(feed.bytes, feed.width);
+    let row = formats::row_length(feed.bytes, feed.width);
     ((feed.height - 1) * feed.step + row + 3) / 4
 }
 

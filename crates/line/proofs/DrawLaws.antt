@@ -9,11 +9,11 @@ use native.Mathlib.Omega.{arith}
 use Rattle.surface.specs.declared.Surface.{Surface}
 use Rattle.surface.specs.Place.{onSurface, readPx}
 use Rattle.surface.specs.Pixels.{Px, rect}
-use Rattle.surface.specs.Span.{allOn}
+use Rattle.spans.specs.Span.{allOn}
 use Rattle.surface.proofs.OnLaws.{and-left, and-right}
 use Rattle.surface.proofs.Lists.{In}
 use Rattle.surface.proofs.Rects.{Distinct, rect-in}
-use Rattle.surface.proofs.Corner.{all-each, each-all}
+use Rattle.spans.proofs.Corner.{all-each, each-all}
 use Rattle.paint.specs.declared.Clip.{Clip}
 use Rattle.paint.specs.declared.Ink.{Ink}
 use Rattle.paint.specs.Paint.{State, state, dab, Touch, paint}

@@ -10,7 +10,7 @@ use native.Mathlib.Omega.{arith}
 use Rattle.surface.specs.declared.Surface.{Surface}
 use Rattle.surface.specs.Place.{byteAt, byteOf, readPx, writeBytes, writePx, onSurface, OnColour}
 use Rattle.surface.specs.Pixels.{Px, px}
-use Rattle.surface.specs.Span.{allOn}
+use Rattle.spans.specs.Span.{allOn}
 use Rattle.surface.proofs.OnLaws.{and-left, and-right, colour-byte}
 use Rattle.surface.proofs.Rows.{byteAt-run}
 use Rattle.surface.proofs.Lists.{by-cases}

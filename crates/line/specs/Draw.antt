@@ -7,7 +7,7 @@ use Prim.Native.Nat.{ℕ, _+_, _^_, _<_}
 use Rattle.surface.specs.declared.Surface.{Surface}
 use Rattle.surface.specs.Place.{Small, Colour}
 use Rattle.surface.specs.Pixels.{Px}
-use Rattle.surface.specs.Span.{allOn}
+use Rattle.spans.specs.Span.{allOn}
 use Rattle.paint.specs.declared.Clip.{Clip}
 use Rattle.paint.specs.declared.Ink.{Ink}
 use Rattle.paint.specs.Paint.{Touch}

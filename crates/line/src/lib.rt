@@ -200,7 +200,7 @@ fn point_off(len: usize, s: Surface, c: Clip, p: Point) -> bool
     ensures { λ r. ⌜ r ≡ lineOff s len c (p ∷ []) ⌝ }
 {
     if paint::covers(c, p.x, p.y) {
-        return !surface::on_surface(len, s, wide(p.x - 16384), wide(p.y - 16384));
+        return !spans::on_surface(len, s, wide(p.x - 16384), wide(p.y - 16384));
     }
     false
 }
@@ -232,7 +232,7 @@ pub fn line_off(len: usize, s: Surface, c: Clip, l: Line) -> bool
 {
     let w = reach(l.x0, l.x1, c.right);
     let h = reach(l.y0, l.y1, c.bottom);
-    if surface::rect_on(len, s, 0, 0, w, h) {
+    if spans::rect_on(len, s, 0, 0, w, h) {
         return false;
     }
     let total = point_count(l);

@@ -12,7 +12,7 @@ use Rattle.surface.specs.declared.Surface.{Surface}
 use Rattle.surface.specs.Place.{byteOf, writeBytes, writePx}
 use Rattle.surface.specs.Pixels.{Px}
 use Rattle.surface.proofs.Lists.{In, by-cases}
-use Rattle.surface.proofs.Spans.{IsByte}
+use Rattle.spans.proofs.Spans.{IsByte}
 use Rattle.paint.specs.Paint.{State, Touch, touch, dab, paint}
 use Rattle.paint.proofs.Owners.{dab-leaves, dab-length}
 

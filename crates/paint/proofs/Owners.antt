@@ -16,7 +16,7 @@ use Rattle.surface.proofs.OnLaws.{colour-first, colour-count, mono-first, some-
 use Rattle.surface.proofs.Pixels.{same-byte, write-leaves, read-same, length-write}
 use Rattle.surface.proofs.Lists.{In, by-cases}
 use Rattle.surface.proofs.Rects.{same-px}
-use Rattle.surface.proofs.Spans.{IsByte}
+use Rattle.spans.proofs.Spans.{IsByte}
 use Rattle.paint.specs.Paint.{State, dab}
 
 -- ---- the bytes of a colour pixel are its bytes by number

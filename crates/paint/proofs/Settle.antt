@@ -15,7 +15,7 @@ use Rattle.surface.specs.Place.{rowPixels}
 use Rattle.surface.specs.Pixels.{Px}
 use Rattle.surface.proofs.Lists.{In, Pairs}
 use Rattle.surface.proofs.Rects.{Distinct}
-use Rattle.surface.proofs.Spans.{IsByte}
+use Rattle.spans.proofs.Spans.{IsByte}
 use Rattle.paint.specs.Paint.{State, state, Touch, touch, dab, paint}
 use Rattle.paint.proofs.Owners.{one-owner, dab-leaves, dab-length, dab-agree, owner}
 

@@ -14,10 +14,10 @@ use borrow.Author.Tests.{lt-ltb}
 use Rattle.surface.specs.declared.Surface.{Surface}
 use Rattle.surface.specs.Place.{rowBytes, byteAt, readPx, Colour}
 use Rattle.surface.specs.Pixels.{Px, rect}
-use Rattle.surface.specs.Span.{allOn}
+use Rattle.spans.specs.Span.{allOn}
 use Rattle.surface.proofs.OnLaws.{colour-first, lastByte, last-in-row, on-column, on-last}
 use Rattle.surface.proofs.Rects.{rect-length}
-use Rattle.surface.proofs.Corner.{rect-corner}
+use Rattle.spans.proofs.Corner.{rect-corner}
 use Rattle.registers.specs.declared.Regs.{Regs}
 use Rattle.engine.specs.Step.{regs}
 use Rattle.picture.specs.Text.{Page, page, each, put, said, digit, digits, decimal, numeral}

@@ -11,10 +11,10 @@ use borrow.Author.Tests.{ltb-true}
 use Rattle.surface.specs.declared.Surface.{Surface}
 use Rattle.surface.specs.Place.{readPx, onSurface, OnColour}
 use Rattle.surface.specs.Pixels.{Px, across, rect}
-use Rattle.surface.specs.Span.{allOn}
-use Rattle.surface.specs.Format.{targetNamed}
+use Rattle.spans.specs.Span.{allOn}
+use Rattle.formats.specs.Format.{targetNamed}
 use Rattle.surface.proofs.OnLaws.{and-left, and-right}
-use Rattle.surface.proofs.FormatLaws.{target-colour}
+use Rattle.formats.proofs.FormatLaws.{target-colour}
 use Rattle.registers.specs.declared.Regs.{Regs}
 use Rattle.picture.specs.Text.{Page, each, put, said}
 use Rattle.picture.specs.Picture.{shade, line, lines, header, noPicture, left, top, right, bottom, target, pixels, shows, picture, RowOn, RectOn}

@@ -10,8 +10,8 @@ use Rattle.colour.specs.Convert.{converted}
 use Rattle.surface.specs.declared.Surface.{Surface}
 use Rattle.surface.specs.Place.{readPx, Colour}
 use Rattle.surface.specs.Pixels.{Px, across, rect}
-use Rattle.surface.specs.Span.{allOn}
-use Rattle.surface.specs.Format.{targetNamed, targetOf}
+use Rattle.spans.specs.Span.{allOn}
+use Rattle.formats.specs.Format.{targetNamed, targetOf}
 use Rattle.registers.specs.declared.Regs.{Regs}
 use Rattle.picture.specs.Text.{numeral}
 

@@ -172,7 +172,7 @@ fn say_nothing(out: &mut [u8], at: usize) -> usize
 fn has_picture(len: usize, r: Regs) -> bool
     ensures { λ b. ⌜ b ≡ shows r len ⌝ }
 {
-    if !surface::names_target(r.dstBaseAddr, r.dstFormat) {
+    if !formats::names_target(r.dstBaseAddr, r.dstFormat) {
         return false;
     }
     let left = r.clip0Min % 0x1000;
@@ -185,8 +185,8 @@ fn has_picture(len: usize, r: Regs) -> bool
     if bottom <= top {
         return false;
     }
-    let s = surface::target_of(r.dstBaseAddr, r.dstFormat);
-    surface::rect_on(len, s, left, top, right - left, bottom - top)
+    let s = formats::target_of(r.dstBaseAddr, r.dstFormat);
+    spans::rect_on(len, s, left, top, right - left, bottom - top)
 }
 
 fn say_picture(out: &mut [u8], at: usize, mem: &[u8], r: Regs) -> usize
@@ -199,7 +199,7 @@ fn say_picture(out: &mut [u8], at: usize, mem: &[u8], r: Regs) -> usize
     let top = r.clip0Min / 0x1_0000 % 0x1000;
     let w = r.clip0Max % 0x1000 - left;
     let h = r.clip0Max / 0x1_0000 % 0x1000 - top;
-    let s = surface::target_of(r.dstBaseAddr, r.dstFormat);
+    let s = formats::target_of(r.dstBaseAddr, r.dstFormat);
     let body = say_header(out, at, w, h);
     say_rows(out, body, mem, s, left, top, w, h)
 }

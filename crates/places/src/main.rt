@@ -22,7 +22,7 @@ fn verdict(ok: bool) {
 
 // Whether the view of pixel (x, y) at 8 bits a pixel begins with a marked byte.
 fn sees_mark(mem: &[u8], stride: u32, x: u32, y: u32) -> bool {
-    let view = surface::row_view(mem, 0, 0x1_0000 + stride % 0x4000, x, y, 1);
+    let view = views::row_view(mem, 0, 0x1_0000 + stride % 0x4000, x, y, 1);
     if view.len() == 0 {
         return false;
     }
@@ -52,7 +52,7 @@ fn try_step(code: u32, width: u32, packing: u32, step: u32) {
     say_number(b", width ", width);
     say_number(b", packing ", packing);
     say_number(b": step ", step);
-    let s = surface::source_of(
+    let s = formats::source_of(
         0,
         code % 16 * 0x1_0000 + packing % 4 * 0x40_0000,
         width % 0x2000,

@@ -14,7 +14,7 @@ use Rattle.surface.specs.Pixels.{Px, px, Inside}
 use Rattle.surface.proofs.Lists.{by-cases}
 use Rattle.surface.proofs.OnLaws.{colour-byte, on-column}
 use Rattle.surface.proofs.Rects.{Past}
-use Rattle.surface.proofs.Spans.{IsByte}
+use Rattle.spans.proofs.Spans.{IsByte}
 use Rattle.rect.specs.declared.Task.{Task}
 use Rattle.rect.specs.Copy.{sourcePlace, backward}
 use Rattle.paint.specs.Paint.{nth}

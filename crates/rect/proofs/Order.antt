@@ -13,12 +13,12 @@ use borrow.Author.Tests.{ltb-true, ltb-false, lt-ltb, eqb-true, eqb-false}
 use Rattle.surface.specs.declared.Surface.{Surface}
 use Rattle.surface.specs.Place.{byteOf, readPx, monoBit, rowPixels}
 use Rattle.surface.specs.Pixels.{Px, rect, Inside}
-use Rattle.surface.specs.Span.{spanOf, meet}
+use Rattle.spans.specs.Span.{spanOf, meet}
 use Rattle.surface.proofs.OnLaws.{on-column, pos-of-ne}
 use Rattle.surface.proofs.Lists.{Pairs, pairs-map}
 use Rattle.surface.proofs.Pixels.{same-byte}
 use Rattle.surface.proofs.Rects.{in-rect, rect-in, rect-pairs, rect-distinct, Past, Ahead}
-use Rattle.surface.proofs.Spans.{IsByte, span-holds}
+use Rattle.spans.proofs.Spans.{IsByte, span-holds}
 use Rattle.rect.specs.declared.Task.{Task}
 use Rattle.paint.specs.declared.Source.{Source}
 use Rattle.paint.specs.Paint.{state, paint}

@@ -9,7 +9,7 @@ use lib.ListN.{getD}
 use Rattle.surface.specs.Place.{OnColour}
 use Rattle.surface.specs.Pixels.{Px, px, rect, Inside}
 use Rattle.surface.proofs.Rects.{rect-in}
-use Rattle.surface.proofs.Corner.{all-each}
+use Rattle.spans.proofs.Corner.{all-each}
 use Rattle.rect.specs.declared.Task.{Task}
 use Rattle.paint.specs.Pattern.{patternColumn, patternRow, patternBit, RowOf}
 use Rattle.rect.specs.Copy.{giving, HasSource, RowReady, CanPaint}

@@ -9,7 +9,7 @@ use Prim.Native.Nat.{ℕ, _+_, _-_, _^_, _≤_, _<_}
 use lib.Dec.{eqb, ltb}
 use Rattle.surface.specs.Place.{readPx, monoBit, onSurface, Small, Colour, OnColour}
 use Rattle.surface.specs.Pixels.{Px, px, rect}
-use Rattle.surface.specs.Span.{allOn, spanOf, meet}
+use Rattle.spans.specs.Span.{allOn, spanOf, meet}
 use Rattle.paint.specs.declared.Source.{Source}
 use Rattle.rect.specs.declared.Task.{Task}
 use Rattle.paint.specs.Paint.{Touch, touch}

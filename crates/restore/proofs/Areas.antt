@@ -7,10 +7,10 @@ use Prim.Native.Nat.{ℕ, _+_, _-_, _<_, _≤_}
 use native.Mathlib.Omega.{arith}
 use lib.ListN.{length, getD}
 use Rattle.surface.specs.Pixels.{Px, px, rect}
-use Rattle.surface.specs.Span.{allOn}
+use Rattle.spans.specs.Span.{allOn}
 use Rattle.surface.proofs.Lists.{In}
 use Rattle.surface.proofs.Rects.{same-px, rect-in}
-use Rattle.surface.proofs.Spans.{IsByte, addresses-in}
+use Rattle.spans.proofs.Spans.{IsByte, addresses-in}
 use Rattle.paint.specs.Clip.{origin, pixelAt}
 use Rattle.command.specs.declared.Cut.{Cut}
 use Rattle.command.specs.Decode.{needed}

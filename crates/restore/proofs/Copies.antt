@@ -12,10 +12,10 @@ use borrow.Author.Tests.{eq-eqb}
 use Rattle.surface.specs.declared.Surface.{Surface}
 use Rattle.surface.specs.Place.{byteOf}
 use Rattle.surface.specs.Pixels.{Px, px, Inside}
-use Rattle.surface.specs.Span.{allOn, spanOf, meet}
+use Rattle.spans.specs.Span.{allOn, spanOf, meet}
 use Rattle.surface.proofs.Lists.{by-cases}
-use Rattle.surface.proofs.Corner.{rect-none}
-use Rattle.surface.proofs.Spans.{IsByte}
+use Rattle.spans.proofs.Corner.{rect-none}
+use Rattle.spans.proofs.Spans.{IsByte}
 use Rattle.paint.specs.declared.Clip.{Clip}
 use Rattle.paint.specs.Clip.{origin}
 use Rattle.paint.specs.Paint.{State, state, paint}

@@ -8,7 +8,7 @@ use Prim.Native.Nat.{ℕ, _+_}
 use native.Mathlib.Decide.{ℕ-discrete}
 use Rattle.surface.specs.declared.Surface.{Surface}
 use Rattle.surface.proofs.Lists.{In, by-cases}
-use Rattle.surface.proofs.Spans.{IsByte}
+use Rattle.spans.proofs.Spans.{IsByte}
 use Rattle.paint.specs.Clip.{origin}
 use Rattle.paint.proofs.Frame.{Bytes}
 use Rattle.registers.specs.declared.Regs.{Regs}

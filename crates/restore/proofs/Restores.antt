@@ -6,7 +6,7 @@ use Prim.Native.Nat.{ℕ, _*_, _^_, _<_, _≤_}
 use native.Mathlib.Omega.{arith}
 use lib.ListN.{length}
 use Rattle.surface.proofs.OnLaws.{and-left}
-use Rattle.surface.proofs.FormatLaws.{target-colour}
+use Rattle.formats.proofs.FormatLaws.{target-colour}
 use Rattle.registers.specs.declared.Regs.{Regs}
 use Rattle.command.specs.Decode.{width, height, origins}
 use Rattle.table.specs.Table.{targetFine}

@@ -10,9 +10,9 @@ use Rattle.colour.specs.Rop as Rop
 use Rattle.colour.specs.Convert.{converted, allowed}
 use Rattle.surface.specs.Place as Place
 use Rattle.surface.specs.Pixels.{across, rect}
-use Rattle.surface.specs.Span.{allOn}
-use Rattle.surface.specs.Format.{targetOf, sourceOf}
-use Rattle.surface.specs.Step.{stepOf}
+use Rattle.spans.specs.Span.{allOn}
+use Rattle.formats.specs.Format.{targetOf, sourceOf}
+use Rattle.formats.specs.Step.{stepOf}
 use Rattle.paint.specs.Paint.{paint, dab}
 use Rattle.paint.specs.Mix.{colourSource, fillSource, mixed, chosen}
 use Rattle.paint.specs.Pattern.{patternIn, patternPixel, patternBit}

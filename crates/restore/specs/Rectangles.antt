@@ -7,7 +7,7 @@ use mathlib.Core.List.{List}
 use Prim.Native.Nat.{ℕ, _/_, _^_}
 use Rattle.surface.specs.declared.Surface.{Surface}
 use Rattle.surface.specs.Pixels.{Px, px, rect, Inside}
-use Rattle.surface.specs.Span.{addresses, spanOf, meet}
+use Rattle.spans.specs.Span.{addresses, spanOf, meet}
 use Rattle.registers.specs.declared.Regs.{Regs}
 use Rattle.registers.specs.Position.{placed}
 use Rattle.command.specs.Decode.{width, height, target, origins}

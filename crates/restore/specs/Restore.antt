@@ -6,7 +6,7 @@ use mathlib.Core.List.{List, [], _∷_, _++_, List·Memᴰ}
 use mathlib.Core.Option.{some}
 use Prim.Native.Nat.{ℕ, _*_, _/_, _%_, _^_, _<_, _≤_}
 use lib.ListN.{length, getD}
-use Rattle.surface.specs.Step.{packingOf}
+use Rattle.formats.specs.Step.{packingOf}
 use Rattle.paint.specs.Clip.{inClip}
 use Rattle.registers.specs.declared.Regs.{Regs}
 use Rattle.command.specs.Decode.{bit, number, width, height, target, origins, clipOf}

@@ -5,10 +5,10 @@ use mathlib.Core.List.{map}
 use Rattle.colour.specs.Rop.{ropBit, ropBits}
 use Rattle.surface.specs.Place.{rowBytes, byteAt, monoBit, rowPixels, firstByte, byteCount, inMemory, onSurface}
 use Rattle.surface.specs.Pixels.{across}
-use Rattle.surface.specs.Span.{allOn}
-use Rattle.surface.specs.Format.{targetOf}
-use Rattle.surface.specs.Step.{rowLength, stepOf, dataBytes, dataWords}
-use Rattle.surface.specs.View.{viewAnswer}
+use Rattle.spans.specs.Span.{allOn}
+use Rattle.formats.specs.Format.{targetOf}
+use Rattle.formats.specs.Step.{rowLength, stepOf, dataBytes, dataWords}
+use Rattle.views.specs.View.{viewAnswer}
 use Rattle.line.specs.Line.{far, towards, xMajor, longer, shorter, aside, place, pointAt, pointsFrom, pointCount, points}
 use Rattle.line.specs.Stipple.{stepped, after, styleAfter}
 use Rattle.registers.specs.Position.{steppedXY}

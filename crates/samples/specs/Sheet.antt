@@ -7,8 +7,8 @@ use lib.Dec.{eqb}
 use Rattle.colour.specs.Convert.{repeated, narrowed}
 use Rattle.colour.specs.Rop.{ropBits}
 use Rattle.surface.specs.Place.{surface, monoBit}
-use Rattle.surface.specs.Step.{stepOf, dataWords}
-use Rattle.surface.specs.View.{viewAnswer}
+use Rattle.formats.specs.Step.{stepOf, dataWords}
+use Rattle.views.specs.View.{viewAnswer}
 use Rattle.line.specs.Line.{lineFrom, flat, points}
 use Rattle.line.specs.Stipple.{styleAfter}
 use Rattle.registers.specs.Position.{origin, placed, steppedXY}

@@ -4,7 +4,3 @@ pub mod OnLaws
 pub mod Pixels
 pub mod Lists
 pub mod Rects
-pub mod Corner
-pub mod Spans
-pub mod FormatLaws
-pub mod ViewLaws

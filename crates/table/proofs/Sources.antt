@@ -11,13 +11,13 @@ use borrow.Author.Tests.{le-leb, le-ltb, leb-true}
 use Rattle.surface.specs.declared.Surface.{Surface}
 use Rattle.surface.specs.Place.{onSurface}
 use Rattle.surface.specs.Pixels.{Px, px, rect}
-use Rattle.surface.specs.declared.Span.{Span}
-use Rattle.surface.specs.Span.{allOn, spanOf, meet}
+use Rattle.spans.specs.declared.Span.{Span}
+use Rattle.spans.specs.Span.{allOn, spanOf, meet}
 use Rattle.surface.proofs.OnLaws.{and-left, and-right, same-test}
 use Rattle.surface.proofs.Lists.{In}
 use Rattle.surface.proofs.Rects.{same-px, in-rect, rect-in}
-use Rattle.surface.proofs.Corner.{all-each, each-all}
-use Rattle.surface.proofs.Spans.{rect-empty}
+use Rattle.spans.proofs.Corner.{all-each, each-all}
+use Rattle.spans.proofs.Spans.{rect-empty}
 use Rattle.paint.specs.Clip.{origin, pixelAt}
 use Rattle.command.specs.declared.Cut.{Cut}
 use Rattle.command.specs.Decode.{covered, needed}

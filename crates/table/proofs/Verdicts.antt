@@ -11,15 +11,15 @@ use borrow.Author.Tests.{eqb-true, ltb-false, eqb-false, not-true, not-false}
 use Rattle.surface.specs.declared.Surface.{Surface}
 use Rattle.surface.specs.Place.{surface, rowPixels, Small}
 use Rattle.surface.specs.Pixels.{rect, Inside}
-use Rattle.surface.specs.Span.{allOn, spanOf, meet}
-use Rattle.surface.specs.Step.{packingOf, rowLength, stepOf, dataBytes, dataWords}
-use Rattle.surface.specs.Format.{sourceOf, sourceCode, bytesOf}
+use Rattle.spans.specs.Span.{allOn, spanOf, meet}
+use Rattle.formats.specs.Step.{packingOf, rowLength, stepOf, dataBytes, dataWords}
+use Rattle.formats.specs.Format.{sourceOf, sourceCode, bytesOf}
 use Rattle.surface.proofs.OnLaws.{and-left, and-right, on-column, pos-of-ne}
 use Rattle.surface.proofs.Rects.{rect-in}
-use Rattle.surface.proofs.Corner.{all-each, rect-corner, rect-none}
+use Rattle.spans.proofs.Corner.{all-each, rect-corner, rect-none}
 use Rattle.surface.proofs.Lists.{by-cases}
 use native.Mathlib.Decide.{decLt}
-use Rattle.surface.proofs.FormatLaws.{target-colour, source-small}
+use Rattle.formats.proofs.FormatLaws.{target-colour, source-small}
 use Rattle.paint.specs.declared.Clip.{Clip}
 use Rattle.paint.specs.Clip.{origin, inClip, pixelAt}
 use Rattle.paint.proofs.ClipLaws.{in-clip}

@@ -8,9 +8,9 @@ use Rattle.colour.specs.Convert.{allowed}
 use Rattle.surface.specs.declared.Surface.{Surface}
 use Rattle.surface.specs.Place.{onSurface, rowPixels, Small}
 use Rattle.surface.specs.Pixels.{Px}
-use Rattle.surface.specs.Span.{allOn, spanOf, meet}
-use Rattle.surface.specs.Format.{targetNamed, sourceNamed}
-use Rattle.surface.specs.Step.{packingOf, rowLength}
+use Rattle.spans.specs.Span.{allOn, spanOf, meet}
+use Rattle.formats.specs.Format.{targetNamed, sourceNamed}
+use Rattle.formats.specs.Step.{packingOf, rowLength}
 use Rattle.paint.specs.Clip.{origin, pixelAt}
 use Rattle.line.specs.Line.{points}
 use Rattle.line.specs.Draw.{lineOff}

@@ -5,7 +5,7 @@ use surface::Surface;
 ghost use mathlib.Core.Path.{_≡_};
 ghost use Prim.Native.Nat.{_-_, _<_};
 ghost use Rattle.surface.specs.Place.{Small};
-ghost use Rattle.surface.specs.Span.{spanOf, meet};
+ghost use Rattle.spans.specs.Span.{spanOf, meet};
 ghost use Rattle.command.specs.Decode.{covered, needed};
 ghost use Rattle.table.specs.Table.{bothFine, allOnAt, pixels, sameSurface, hostFault, InRows, fillVerdict, copyVerdict, hostVerdict, lineVerdict};
 
@@ -14,8 +14,8 @@ fn both_fine(r: Regs) -> bool
 {
     let s = command::source_surface(r);
     let t = command::target_surface(r);
-    surface::names_target(r.dstBaseAddr, r.dstFormat)
-        & (surface::names_source(r.srcBaseAddr, r.srcFormat)
+    formats::names_target(r.dstBaseAddr, r.dstFormat)
+        & (formats::names_source(r.srcBaseAddr, r.srcFormat)
             & colour::may_convert(s.bytes, t.bytes))
 }
 
@@ -42,7 +42,7 @@ fn needed_on(len: usize, s: Surface, c: Cut) -> bool
     if c.sy < 16384 {
         return false;
     }
-    surface::rect_on(len, s, c.sx - 16384, c.sy - 16384, c.w, c.h)
+    spans::rect_on(len, s, c.sx - 16384, c.sy - 16384, c.w, c.h)
 }
 
 // Whether the spans of a copy between two surfaces meet.
@@ -56,20 +56,20 @@ fn spans_clash(t: Surface, s: Surface, c: Cut) -> bool
     if c.h == 0 {
         return false;
     }
-    let a = surface::rect_span(t, c.x, c.y, c.w, c.h);
-    let b = surface::rect_span(s, c.sx - 16384, c.sy - 16384, c.w, c.h);
-    surface::spans_meet(a, b)
+    let a = spans::rect_span(t, c.x, c.y, c.w, c.h);
+    let b = spans::rect_span(s, c.sx - 16384, c.sy - 16384, c.w, c.h);
+    spans::spans_meet(a, b)
 }
 
 pub fn fill_verdict(len: usize, r: Regs) -> u32
     ensures { λ n. ⌜ n ≡ fillVerdict r len ⌝ }
 {
-    if !surface::names_target(r.dstBaseAddr, r.dstFormat) {
+    if !formats::names_target(r.dstBaseAddr, r.dstFormat) {
         return 5;
     }
     let t = command::target_surface(r);
     let c = command::fill_cut(r);
-    if surface::rect_on(len, t, c.x, c.y, c.w, c.h) {
+    if spans::rect_on(len, t, c.x, c.y, c.w, c.h) {
         return 0;
     }
     7
@@ -84,7 +84,7 @@ pub fn copy_verdict(len: usize, r: Regs) -> u32
     let t = command::target_surface(r);
     let s = command::source_surface(r);
     let c = command::copy_cut(r);
-    if !surface::rect_on(len, t, c.x, c.y, c.w, c.h) {
+    if !spans::rect_on(len, t, c.x, c.y, c.w, c.h) {
         return 7;
     }
     if !needed_on(len, s, c) {
@@ -104,7 +104,7 @@ fn host_fault(r: Regs) -> bool
     ensures { λ b. ⌜ b ≡ hostFault r ⌝ }
 {
     let s = command::source_surface(r);
-    let row = surface::row_length(s.bytes, r.dstSize % 0x2000);
+    let row = formats::row_length(s.bytes, r.dstSize % 0x2000);
     !(r.srcFormat / 0x10_0000 % 4 == 0)
         | (!(r.command / 0x4000 % 4 == 0)
             | (!(r.srcXY == 0) | ((r.srcFormat / 0x40_0000 % 4 == 0) & (s.stride < row))))
@@ -121,7 +121,7 @@ pub fn host_verdict(len: usize, r: Regs) -> u32
     }
     let t = command::target_surface(r);
     let c = command::fill_cut(r);
-    if surface::rect_on(len, t, c.x, c.y, c.w, c.h) {
+    if spans::rect_on(len, t, c.x, c.y, c.w, c.h) {
         return 0;
     }
     7
@@ -130,7 +130,7 @@ pub fn host_verdict(len: usize, r: Regs) -> u32
 pub fn line_verdict(len: usize, r: Regs) -> u32
     ensures { λ n. ⌜ n ≡ lineVerdict r len ⌝ }
 {
-    if !surface::names_target(r.dstBaseAddr, r.dstFormat) {
+    if !formats::names_target(r.dstBaseAddr, r.dstFormat) {
         return 5;
     }
     let t = command::target_surface(r);

@@ -3,7 +3,7 @@
 use borrow.Author.Needs.{needs}
 use native.Mathlib.Omega.{arith}
 use Prim.Native.Nat.{_+_, _-_, _*_, _^_, _≤_}
-use Rattle.surface.specs.Step.{dataWords}
+use Rattle.formats.specs.Step.{dataWords}
 use Rattle.host.proofs.Needed.{some-needed, narrow, flat, data-small}
 use Rattle.host.proofs.words_needed.Statement.{statement}
 use Rattle.host.proofs.words_needed.Tie as tie

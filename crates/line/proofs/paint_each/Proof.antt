@@ -7,7 +7,7 @@ use mathlib.Core.Bool.{true}
 use mathlib.Core.List.{List}
 use Prim.Native.Nat.{_-_, _≤_}
 use lib.ListN.{length}
-use Rattle.surface.specs.Span.{allOn}
+use Rattle.spans.specs.Span.{allOn}
 use Rattle.paint.specs.Paint.{state, paint}
 use Rattle.line.specs.declared.Point.{Point}
 use Rattle.line.specs.Line.{pointCount, pointsFrom, points}

@@ -4,8 +4,8 @@ use borrow.Author.Needs.{needs}
 use mathlib.Core.Path.{ap, _∙_}
 use borrow.Author.Tests.{lt-ltb, le-ltb, not-true, not-false}
 use Rattle.surface.specs.declared.Surface.{Surface}
-use Rattle.surface.specs.Span.{allOn}
-use Rattle.surface.proofs.FormatLaws.{target-small}
+use Rattle.spans.specs.Span.{allOn}
+use Rattle.formats.proofs.FormatLaws.{target-small}
 use Rattle.picture.specs.Picture.{pixels, shows}
 use Rattle.picture.proofs.has_picture.Statement.{statement}
 use Rattle.picture.proofs.has_picture.Tie as tie

@@ -4,12 +4,12 @@ use borrow.Author.Needs.{needs}
 use mathlib.Core.Path.{refl, sym, ap, ap₂, _∙_}
 use borrow.Author.Tests.{not-true, not-false}
 use Rattle.surface.specs.declared.Surface.{Surface}
-use Rattle.surface.specs.Span.{allOn, spanOf, meet}
+use Rattle.spans.specs.Span.{allOn, spanOf, meet}
 use Rattle.command.specs.declared.Cut.{Cut}
 use Rattle.command.specs.Decode.{origins, copyCut, covered, needed, width}
 use Rattle.table.specs.Table.{allOnAt, pixels, sameSurface}
 use native.Mathlib.Omega.{arith}
-use Rattle.surface.proofs.FormatLaws.{target-small, source-small}
+use Rattle.formats.proofs.FormatLaws.{target-small, source-small}
 use Rattle.table.proofs.Rows.{copy-format, copy-off, copy-source-off, copy-by}
 use Rattle.table.proofs.Verdicts.{in-rows}
 use Rattle.table.proofs.copy_verdict.Statement.{statement}

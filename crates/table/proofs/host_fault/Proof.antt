@@ -3,7 +3,7 @@
 use borrow.Author.Needs.{needs}
 use native.Mathlib.Omega.{arith}
 use Rattle.command.specs.Decode.{width}
-use Rattle.surface.proofs.FormatLaws.{source-small}
+use Rattle.formats.proofs.FormatLaws.{source-small}
 use Rattle.table.proofs.host_fault.Statement.{statement}
 use Rattle.table.proofs.host_fault.Tie as tie
 

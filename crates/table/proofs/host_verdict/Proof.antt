@@ -3,10 +3,10 @@
 use borrow.Author.Needs.{needs}
 use mathlib.Core.Path.{sym, ap₂, _∙_}
 use borrow.Author.Tests.{not-true, not-false}
-use Rattle.surface.proofs.FormatLaws.{target-small}
+use Rattle.formats.proofs.FormatLaws.{target-small}
 use Rattle.table.proofs.Rows.{host-format, host-faulty, host-by}
 use Rattle.surface.specs.declared.Surface.{Surface}
-use Rattle.surface.specs.Span.{allOn}
+use Rattle.spans.specs.Span.{allOn}
 use Rattle.command.specs.declared.Cut.{Cut}
 use Rattle.command.specs.Decode.{covered}
 use Rattle.table.proofs.host_verdict.Statement.{statement}

@@ -3,7 +3,7 @@
 use borrow.Author.Needs.{needs}
 use mathlib.Core.Path.{sym, ap, ap₂, _∙_}
 use borrow.Author.Tests.{not-true, not-false}
-use Rattle.surface.proofs.FormatLaws.{target-small}
+use Rattle.formats.proofs.FormatLaws.{target-small}
 use Rattle.surface.specs.declared.Surface.{Surface}
 use Rattle.paint.specs.declared.Clip.{Clip}
 use Rattle.line.specs.declared.Line.{Line}

@@ -3,7 +3,7 @@
 use borrow.Author.Needs.{needs}
 use native.Mathlib.Omega.{arith}
 use mathlib.Core.Path.{sym, ap, ap₂, _∙_}
-use Rattle.surface.specs.Span.{spanOf, meet}
+use Rattle.spans.specs.Span.{spanOf, meet}
 use Rattle.command.specs.Decode.{needed}
 use Rattle.table.specs.Table.{pixels}
 use Rattle.table.proofs.Sources.{no-clash, needed-pixels}
