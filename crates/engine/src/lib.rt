@@ -181,7 +181,7 @@ impl Engine {
         let l = command::decode_line(regs);
         let pen = command::decode_pen(regs);
         let pattern = bank.pattern;
-        let drawn = line::paint_line(mem, ink, pattern, clip, l, pen, regs.lineStyle);
+        let drawn = strokes::paint_line(mem, ink, pattern, clip, l, pen, regs.lineStyle);
         Outcome {
             engine: self.end_line(drawn.style),
             answer: Answer::Taken(drawn.count),

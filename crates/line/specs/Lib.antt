@@ -1,4 +1,3 @@
 pub mod Line
 pub mod Stipple
 pub mod Draw
-pub mod Walk

@@ -1,0 +1,3 @@
+pub mod PutLaws
+pub mod WalkLaws
+pub mod WalkDraw

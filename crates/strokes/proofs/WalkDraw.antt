@@ -1,0 +1,131 @@
+-- Laws of drawing by address: one point and the others, and that a line inside the clip whose points get their source is drawn so.
+-- Assumes nothing.
+use mathlib.Core.Path.{_≡_, refl, sym, ap, ap₂, subst, _∙_}
+use mathlib.Core.Bool.{true, _&&_}
+use mathlib.Core.List.{List, [], _∷_}
+use Prim.Native.Nat.{ℕ, zero, suc, _+_, _-_, _*_, _^_, _<_, _≤_}
+use native.Mathlib.Nat.{add-zero}
+use native.Mathlib.Decide.{ℕ-discrete}
+use native.Mathlib.Omega.{arith}
+use Rattle.surface.specs.declared.Surface.{Surface}
+use Rattle.surface.specs.Place.{byteAt, byteOf, readPx, writeBytes, writePx, onSurface, OnColour}
+use Rattle.surface.specs.Pixels.{Px, px}
+use Rattle.spans.specs.Span.{allOn}
+use Rattle.surface.proofs.OnLaws.{and-left, and-right, colour-byte}
+use Rattle.surface.proofs.Rows.{byteAt-run}
+use Rattle.surface.proofs.Lists.{by-cases}
+use Rattle.paint.specs.declared.Clip.{Clip}
+use Rattle.paint.specs.declared.Ink.{Ink}
+use Rattle.paint.specs.declared.Source.{Source}
+use Rattle.paint.specs.Paint.{State, state, dab, Touch, touch, paint}
+use Rattle.paint.specs.Pattern.{patternValue}
+use Rattle.paint.specs.Mix.{bitSource, placed, direct}
+use Rattle.paint.specs.Clip.{origin, inClip, pixelAt}
+use Rattle.paint.proofs.ClipLaws.{in-clip, clip-in}
+use Rattle.line.specs.declared.Line.{Line}
+use Rattle.line.specs.declared.Pen.{Pen}
+use Rattle.line.specs.Line.{longer, pointAt, pointsFrom, pointCount, points}
+use Rattle.line.specs.Stipple.{stippleBit, after}
+use Rattle.line.specs.Draw.{coveredPoints, lineTouches, Drawable}
+use Rattle.strokes.specs.Walk.{sourced, walkTouches, putFrom, whole, walks, Walkable}
+use Rattle.line.proofs.Sides.{either, count-le}
+use Rattle.line.proofs.PointLaws.{point-box, from-cons, from-none}
+use Rattle.line.proofs.DrawLaws.{point-on, on-turn}
+use Rattle.strokes.proofs.PutLaws.{direct-source}
+
+-- ---- a pixel from its address on
+byte-run : (s : Surface) (x y k : ℕ) → byteOf s x y k ≡ byteOf s x y 0 + k
+unfolding byteOf
+byte-run s x y k = byteAt-run s (x * s .bytes) k y ∙ ap (λ (a : ℕ). byteAt s a y + k) (sym (add-zero (x * s .bytes)))
+
+pub bytes-inside : {s : Surface} {len x y : ℕ} → OnColour s len x y → (a : ℕ) → a ≡ byteOf s x y 0 → a + s .bytes ≤ len
+bytes-inside {s} {len} {x} {y} on a e =
+    let p = on .colour .some in
+    omega (arith, colour-byte on (s .bytes - 1) (omega arith) .inside, byte-run s x y (s .bytes - 1))
+
+pub put-dab : (s : Surface) (x y a : ℕ) (source : Source) (st : State) → a ≡ byteOf s x y 0
+    → putFrom a (s .bytes) source st ≡ dab s (px x y) (sourced source) st
+unfolding putFrom sourced dab writePx
+put-dab s x y a source st e =
+    let run : (k : ℕ) → a + k ≡ byteOf s x y k = λ k. ap (λ (b : ℕ). b + k) e ∙ sym (byte-run s x y k) in
+    either (source .left) (λ f. rw f)
+    (λ f. rw f (λ i. state (writeBytes (λ k. run k i) 0 (s .bytes) (source .value) (st .mem)) (st .count + 1)))
+
+-- ---- one point, and the others
+module _ (ink : Ink) (pen : Pen) (l : Line) (i e style : ℕ) (st : State) where
+  pub walk-left : {next : ℕ} {st′ : State} → i < e → next ≡ after pen style
+      → st′ ≡ dab (ink .target) (pixelAt (pointAt l i .x) (pointAt l i .y)) (sourced (bitSource ink (stippleBit pen style))) st
+      → paint (ink .target) (walkTouches ink pen next (pointsFrom l (i + 1) (e - (i + 1)))) st′
+      ≡ paint (ink .target) (walkTouches ink pen style (pointsFrom l i (e - i))) st
+  unfolding paint walkTouches
+  walk-left h n q = rw (from-cons l i e h, q, n)
+
+  pub walk-none : e ≤ i → paint (ink .target) (walkTouches ink pen style (pointsFrom l i (e - i))) st ≡ st
+  unfolding paint walkTouches
+  walk-none h = rw (from-none l i e h)
+
+-- ---- a line whose ends are inside the clip
+module _ (c : Clip) (l : Line) (start : inClip c (l .x0) (l .y0) ≡ true) (end : inClip c (l .x1) (l .y1) ≡ true) where
+  points-inside : (i : ℕ) → i ≤ longer l → inClip c (pointAt l i .x) (pointAt l i .y) ≡ true
+  points-inside i h =
+      let a = in-clip c (l .x0) (l .y0) start in
+      let b = in-clip c (l .x1) (l .y1) end in
+      let box = point-box l i h in
+      clip-in c (pointAt l i .x) (pointAt l i .y) (record { left = omega arith; right = omega arith; top = omega arith; bottom = omega arith })
+
+  each-on : (s : Surface) (len i k : ℕ) → i + k ≤ longer l + 1 → allOn s len (coveredPoints c (pointsFrom l i k)) ≡ true
+      → (j : ℕ) → i ≤ j → j < i + k → onSurface s len (pointAt l j .x - origin) (pointAt l j .y - origin) ≡ true
+  unfolding pointsFrom
+  each-on s len i zero g on j a b = absurd (omega arith)
+  each-on s len i (suc k) g on j a b =
+      let both = sym (on-turn s len c (pointAt l i) (pointsFrom l (i + 1) k)) ∙ on in
+      by-cases (ℕ-discrete j i)
+      (λ e. subst (λ (n : ℕ). onSurface s len (pointAt l n .x - origin) (pointAt l n .y - origin) ≡ true) (sym e)
+      (point-on s len c (pointAt l i) (and-left _ (allOn s len (coveredPoints c (pointsFrom l (i + 1) k))) both) (points-inside i (omega arith))))
+      (λ e. each-on s len (i + 1) k (omega arith) (and-right (allOn s len (coveredPoints c (pointAt l i ∷ []))) _ both) j (omega arith) (omega arith))
+
+  module _ (ink : Ink) (pattern : List ℕ) (pen : Pen) (d : direct ink ≡ true) (fore : ink .fore < 2 ^ 32) (back : ink .back < 2 ^ 32) where
+    same-touch : (p : Px) (bit : ℕ) → placed ink pattern p (bitSource ink bit) ≡ touch p (λ m. sourced (bitSource ink bit))
+    same-touch p bit = λ i. touch p (λ m. direct-source ink (patternValue ink pattern (p .x) (p .y)) (readPx m (ink .target) (p .x) (p .y)) bit d fore back i)
+
+    same-touches : (i k style : ℕ) → i + k ≤ longer l + 1
+        → walkTouches ink pen style (pointsFrom l i k) ≡ lineTouches ink pattern c pen style (pointsFrom l i k)
+    unfolding pointsFrom walkTouches lineTouches
+    same-touches i zero style h = refl
+    same-touches i (suc k) style h =
+        rw (points-inside i (omega arith))
+        (ap₂ {A = Touch} {B = List Touch} (λ t ts. t ∷ ts) (sym (same-touch (pixelAt (pointAt l i .x) (pointAt l i .y)) (stippleBit pen style)))
+        (same-touches (i + 1) k (after pen style) (omega arith)))
+
+    pub walk-drawn : (style : ℕ) → walkTouches ink pen style (points l) ≡ lineTouches ink pattern c pen style (points l)
+    unfolding points
+    walk-drawn style = same-touches 0 (pointCount l) style (omega (arith, count-le l))
+
+-- ---- when a line is walked
+module _ (ink : Ink) (c : Clip) (l : Line) (style : ℕ) (can : walks ink c l style ≡ true) where
+  first-three : ((direct ink && whole style) && inClip c (l .x0) (l .y0)) ≡ true
+  first-three = and-left _ (inClip c (l .x1) (l .y1)) can
+
+  first-two : (direct ink && whole style) ≡ true
+  first-two = and-left _ (inClip c (l .x0) (l .y0)) first-three
+
+  pub is-direct : direct ink ≡ true
+  is-direct = and-left _ (whole style) first-two
+
+  pub from-inside : inClip c (l .x0) (l .y0) ≡ true
+  from-inside = and-right (direct ink && whole style) _ first-three
+
+  pub to-inside : inClip c (l .x1) (l .y1) ≡ true
+  to-inside = and-right ((direct ink && whole style) && inClip c (l .x0) (l .y0)) _ can
+
+  pub walkable : {len : ℕ} → Drawable (ink .target) len c l → Walkable (ink .target) len l style
+  unfolding points
+  walkable {len} h =
+      let a = in-clip c (l .x0) (l .y0) from-inside in
+      let b = in-clip c (l .x1) (l .y1) to-inside in
+      record {
+        surface = h .surface;
+        ahead = record { line = h .line; left = omega arith; top = omega arith; right = omega arith; bottom = omega arith };
+        fields = and-right (direct ink) _ first-two;
+        on = λ i g. each-on c l from-inside to-inside (ink .target) len 0 (pointCount l) (omega (arith, count-le l)) (h .on) i (omega arith) (omega arith);
+      }

@@ -1,0 +1,194 @@
+-- Laws of a walk along a line by address: a step from point i leads to point i + 1.
+-- Assumes nothing.
+use mathlib.Core.Path.{_≡_, refl, sym, ap, _∙_}
+use mathlib.Core.Bool.{Bool, true, false}
+use Prim.Native.Nat.{ℕ, zero, suc, _+_, _-_, _*_, _/_, _%_, _^_, _<_, _≤_}
+use native.Mathlib.Nat.{add-mul, mul-le-mul-left, div-add-mod', mod-lt, mod-eq-of-lt}
+use native.Mathlib.Omega.{arith}
+use borrow.Author.Tests.{ltb-true, ltb-false, leb-false}
+use lib.Arith.{digits-div, digits-mod}
+use lib.Dec.{leb, ltb}
+use Rattle.surface.specs.declared.Surface.{Surface}
+use Rattle.surface.specs.Place.{byteAt, byteOf, Small}
+use Rattle.surface.proofs.Rows.{byteAt-small}
+use Rattle.paint.specs.Clip.{origin}
+use Rattle.line.specs.declared.Point.{Point}
+use Rattle.line.specs.declared.Line.{Line}
+use Rattle.strokes.specs.declared.Walk.{Walk}
+use Rattle.line.specs.Line.{far, towards, xMajor, longer, shorter, aside, pointAt, Placed}
+use Rattle.strokes.specs.Walk.{shift, across, down, stepsOf, walk, walkedOn, AtPoint, Ahead}
+use Rattle.line.proofs.Sides.{either, longer-x, longer-y, shorter-x, shorter-y, shorter-le, longer-lt, aside-le}
+use Rattle.line.proofs.PointLaws.{place-x, place-y, point-box, first}
+
+-- ---- the steps along the minor axis: a sum goes on by k, at most the divisor
+module _ (q r d t k : ℕ) (e : t ≡ q * d + r + k) where
+  below : r + k < d → (t / d ≡ q) × (t % d ≡ r + k)
+  below h =
+      let f : t ≡ q * d + (r + k) = omega arith in
+      (ap (λ (u : ℕ). u / d) f ∙ digits-div q h, ap (λ (u : ℕ). u % d) f ∙ digits-mod q h)
+
+  above : d ≤ r + k → r + k < d + d → (t / d ≡ q + 1) × (t % d ≡ r + k - d)
+  above h g =
+      let f : t ≡ (q + 1) * d + (r + k - d) = omega (arith, add-mul q 1 d) in
+      let s : r + k - d < d = omega arith in
+      (ap (λ (u : ℕ). u / d) f ∙ digits-div (q + 1) s, ap (λ (u : ℕ). u % d) f ∙ digits-mod (q + 1) s)
+
+abbrev leftOver : ℕ → ℕ → ℕ → ℕ
+leftOver n m i = (2 * i * m + n) % (2 * n)
+
+module _ (n m i : ℕ) (h : m ≤ n) (p : 0 < n) where
+  sum : 2 * (i + 1) * m + n ≡ aside n m i * (2 * n) + leftOver n m i + 2 * m
+  unfolding aside
+  sum =
+      let d : 2 * (i + 1) * m ≡ 2 * i * m + 2 * m = ap (λ (k : ℕ). k * m) (omega arith) ∙ add-mul (2 * i) 2 m in
+      let f : 2 * (i + 1) * m + n ≡ 2 * i * m + n + 2 * m = omega arith in
+      f ∙ ap (λ (t : ℕ). t + 2 * m) (sym (div-add-mod' (2 * i * m + n) (2 * n)))
+
+  aside-stays : leftOver n m i < 2 * n - 2 * m → (aside n m (i + 1) ≡ aside n m i) × (leftOver n m (i + 1) ≡ leftOver n m i + 2 * m)
+  unfolding aside
+  aside-stays g = below (aside n m i) (leftOver n m i) (2 * n) (2 * (i + 1) * m + n) (2 * m) sum (omega arith)
+
+  aside-grows : 2 * n - 2 * m ≤ leftOver n m i
+      → (aside n m (i + 1) ≡ aside n m i + 1) × (leftOver n m (i + 1) ≡ leftOver n m i - (2 * n - 2 * m))
+  unfolding aside
+  aside-grows g =
+      let l : leftOver n m i < 2 * n = mod-lt (2 * i * m + n) (omega arith) in
+      let r = above (aside n m i) (leftOver n m i) (2 * n) (2 * (i + 1) * m + n) (2 * m) sum (omega arith) (omega arith) in
+      (r .0, r .1 ∙ omega arith)
+
+-- ---- from a to b, up by u or down by u
+abbrev pub Step : Bool → ℕ → ℕ → ℕ → Type 0
+Step true u a b = b ≡ a + u
+Step false u a b = a ≡ b + u
+
+towards-next : (a b k : ℕ) → origin ≤ a → origin ≤ b → k + 1 ≤ far a b → Step (leb a b) 1 (towards a b k - origin) (towards a b (k + 1) - origin)
+unfolding towards far
+towards-next a b k g h f = either (leb a b) (λ e. rw e (omega arith)) (λ e. rw e (omega (arith, leb-false a b e)))
+
+shift-sum : (up : Bool) (u a b : ℕ) → a < 2 ^ 60 → b < 2 ^ 60 → Step up u a b → b ≡ (a + shift up u) % 2 ^ 64
+unfolding shift
+shift-sum true u a b g h e = omega arith
+shift-sum false u a b g h e = omega arith
+
+both-sum : (a d e : ℕ) → ((a + d) % 2 ^ 64 + e) % 2 ^ 64 ≡ (a + (d + e) % 2 ^ 64) % 2 ^ 64
+both-sum a d e = omega arith
+
+-- ---- the address of a pixel
+step-right : (s : Surface) (x x′ y : ℕ) → x′ ≡ x + 1 → byteOf s x′ y 0 ≡ byteOf s x y 0 + s .bytes
+unfolding byteOf byteAt
+step-right s x x′ y e = rw e (omega (arith, add-mul x 1 (s .bytes)))
+
+step-down : (s : Surface) (x y y′ : ℕ) → y′ ≡ y + 1 → byteOf s x y′ 0 ≡ byteOf s x y 0 + s .stride
+unfolding byteOf byteAt
+step-down s x y y′ e = rw e (omega (arith, add-mul y 1 (s .stride)))
+
+module _ (s : Surface) (small : Small s) (x y : ℕ) (hx : x < 8192) (hy : y < 8192) where
+  address-small : byteOf s x y 0 < 2 ^ 60
+  unfolding byteOf
+  address-small =
+      let p : x * s .bytes ≤ x * 5 = mul-le-mul-left x (omega arith) in
+      byteAt-small (record { small = small; across = omega arith; down = omega arith })
+
+  go-across : (x′ : ℕ) → (up : Bool) → Step up 1 x x′ → byteOf s x′ y 0 < 2 ^ 60 → byteOf s x′ y 0 ≡ (byteOf s x y 0 + shift up (s .bytes)) % 2 ^ 64
+  go-across x′ up e h = shift-sum up (s .bytes) (byteOf s x y 0) (byteOf s x′ y 0) address-small h (by-way up e)
+    where
+      by-way : (up : Bool) → Step up 1 x x′ → Step up (s .bytes) (byteOf s x y 0) (byteOf s x′ y 0)
+      by-way true e = step-right s x x′ y e
+      by-way false e = step-right s x′ x y e
+
+  go-down : (y′ : ℕ) → (up : Bool) → Step up 1 y y′ → byteOf s x y′ 0 < 2 ^ 60 → byteOf s x y′ 0 ≡ (byteOf s x y 0 + shift up (s .stride)) % 2 ^ 64
+  go-down y′ up e h = shift-sum up (s .stride) (byteOf s x y 0) (byteOf s x y′ 0) address-small h (by-way up e)
+    where
+      by-way : (up : Bool) → Step up 1 y y′ → Step up (s .stride) (byteOf s x y 0) (byteOf s x y′ 0)
+      by-way true e = step-down s x y y′ e
+      by-way false e = step-down s x y′ y e
+
+-- ---- the walk
+pub steps-small : (s : Surface) (l : Line) → Placed l → stepsOf s l .limit + stepsOf s l .more < 2 ^ 32
+unfolding stepsOf
+steps-small s l h = omega (arith, longer-lt h, shorter-le l)
+
+start-rest : (n m : ℕ) → n ≡ leftOver n m 0
+start-rest zero m = let q : 2 * 0 * m + 0 ≡ 0 = omega arith in rw q refl
+start-rest (suc n) m = let q : 2 * 0 * m + suc n ≡ suc n = omega arith in rw q (sym (mod-eq-of-lt (omega arith)))
+
+pub walk-start : (s : Surface) (l : Line) (a r : ℕ) → a ≡ byteOf s (l .x0 - origin) (l .y0 - origin) 0 → r ≡ longer l → AtPoint s l 0 (walk a r)
+walk-start s l a r e f = record { at = rw (first l) e; rest = f ∙ start-rest (longer l) (shorter l) }
+
+abbrev address : Surface → Point → ℕ
+address s p = byteOf s (p .x - origin) (p .y - origin) 0
+
+module _ (s : Surface) (small : Small s) (l : Line) (ahead : Ahead l) (i : ℕ) (h : i + 1 ≤ longer l) where
+  abbrev p : Point
+  p = pointAt l i
+
+  abbrev p′ : Point
+  p′ = pointAt l (i + 1)
+
+  moves-across : Step (leb (l .x0) (l .x1)) 1 (p .x - origin) (p′ .x - origin) → p′ .y ≡ p .y → address s p′ ≡ (address s p + across s l) % 2 ^ 64
+  moves-across e f =
+      let b = point-box l i (omega arith) in
+      let b′ = point-box l (i + 1) h in
+      rw f (go-across s small (p .x - origin) (p .y - origin) (omega arith) (omega arith) (p′ .x - origin) _ e
+      (address-small s small (p′ .x - origin) (p .y - origin) (omega arith) (omega arith)))
+
+  moves-down : Step (leb (l .y0) (l .y1)) 1 (p .y - origin) (p′ .y - origin) → p′ .x ≡ p .x → address s p′ ≡ (address s p + down s l) % 2 ^ 64
+  moves-down e f =
+      let b = point-box l i (omega arith) in
+      let b′ = point-box l (i + 1) h in
+      rw f (go-down s small (p .x - origin) (p .y - origin) (omega arith) (omega arith) (p′ .y - origin) _ e
+      (address-small s small (p .x - origin) (p′ .y - origin) (omega arith) (omega arith)))
+
+  moves-both : Step (leb (l .x0) (l .x1)) 1 (p .x - origin) (p′ .x - origin) → Step (leb (l .y0) (l .y1)) 1 (p .y - origin) (p′ .y - origin)
+      → address s p′ ≡ (address s p + (across s l + down s l) % 2 ^ 64) % 2 ^ 64
+  moves-both e f =
+      let b = point-box l i (omega arith) in
+      let b′ = point-box l (i + 1) h in
+      let mid = address-small s small (p′ .x - origin) (p .y - origin) (omega arith) (omega arith) in
+      let one = go-across s small (p .x - origin) (p .y - origin) (omega arith) (omega arith) (p′ .x - origin) _ e mid in
+      let two = go-down s small (p′ .x - origin) (p .y - origin) (omega arith) (omega arith) (p′ .y - origin) _ f
+      (address-small s small (p′ .x - origin) (p′ .y - origin) (omega arith) (omega arith)) in
+      two ∙ ap (λ (a : ℕ). (a + down s l) % 2 ^ 64) one ∙ both-sum (address s p) (across s l) (down s l)
+
+  along-x : xMajor l ≡ true → aside (longer l) (shorter l) (i + 1) ≡ aside (longer l) (shorter l) i → address s p′ ≡ (address s p + across s l) % 2 ^ 64
+  unfolding pointAt
+  along-x e f =
+      moves-across (rw (place-x l i _ e, place-x l (i + 1) _ e) (towards-next (l .x0) (l .x1) i (ahead .left) (ahead .right) (omega (arith, longer-x l e))))
+      (rw (place-x l i _ e, place-x l (i + 1) _ e, f))
+
+  along-y : xMajor l ≡ false → aside (longer l) (shorter l) (i + 1) ≡ aside (longer l) (shorter l) i → address s p′ ≡ (address s p + down s l) % 2 ^ 64
+  unfolding pointAt
+  along-y e f =
+      moves-down (rw (place-y l i _ e, place-y l (i + 1) _ e) (towards-next (l .y0) (l .y1) i (ahead .top) (ahead .bottom) (omega (arith, longer-y l e))))
+      (rw (place-y l i _ e, place-y l (i + 1) _ e, f))
+
+  along-both : aside (longer l) (shorter l) (i + 1) ≡ aside (longer l) (shorter l) i + 1
+      → address s p′ ≡ (address s p + (across s l + down s l) % 2 ^ 64) % 2 ^ 64
+  unfolding pointAt
+  along-both f =
+      let k = aside-le (longer l) (shorter l) (i + 1) (shorter-le l) h in
+      either (xMajor l)
+      (λ e. moves-both (rw (place-x l i _ e, place-x l (i + 1) _ e) (towards-next (l .x0) (l .x1) i (ahead .left) (ahead .right) (omega (arith, longer-x l e))))
+      (rw (place-x l i _ e, place-x l (i + 1) _ e, f) (towards-next (l .y0) (l .y1) _ (ahead .top) (ahead .bottom) (omega (arith, shorter-y l e)))))
+      (λ e. moves-both (rw (place-y l i _ e, place-y l (i + 1) _ e, f) (towards-next (l .x0) (l .x1) _ (ahead .left) (ahead .right) (omega (arith, shorter-x l e))))
+      (rw (place-y l i _ e, place-y l (i + 1) _ e) (towards-next (l .y0) (l .y1) i (ahead .top) (ahead .bottom) (omega (arith, longer-y l e)))))
+
+  pub walk-next : (w : Walk) → AtPoint s l i w → AtPoint s l (i + 1) (walkedOn (stepsOf s l) w)
+  unfolding walkedOn stepsOf
+  walk-next w at =
+      let n = longer l in
+      let m = shorter l in
+      let low = shorter-le l in
+      either (ltb (w .rest) (2 * n - 2 * m))
+      (λ e.
+      let a = aside-stays n m i low (omega arith) (rw (at .rest) at (ltb-true (w .rest) (2 * n - 2 * m) e)) in
+      rw e (record {
+        at = either (xMajor l) (λ f. rw f (ap (λ (b : ℕ). (b + across s l) % 2 ^ 64) (at .at) ∙ sym (along-x f (a .0)))) (λ f. rw f (ap (λ (b : ℕ). (b + down s l) % 2 ^ 64) (at .at) ∙ sym (along-y f (a .0))));
+        rest = ap (λ (r : ℕ). r + 2 * m) (at .rest) ∙ sym (a .1);
+      }))
+      (λ e.
+      let a = aside-grows n m i low (omega arith) (rw (at .rest) at (ltb-false (w .rest) (2 * n - 2 * m) e)) in
+      rw e (record {
+        at = ap (λ (b : ℕ). (b + (across s l + down s l) % 2 ^ 64) % 2 ^ 64) (at .at) ∙ sym (along-both (a .0));
+        rest = ap (λ (r : ℕ). r - (2 * n - 2 * m)) (at .rest) ∙ sym (a .1);
+      }))

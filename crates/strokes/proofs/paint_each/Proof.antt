@@ -1,0 +1,111 @@
+-- `line::paint_each` meets its contract: what the points that are left do from now on is what all of them do from the start.
+-- Assumes nothing.
+use borrow.Author.Needs.{needs}
+use native.Mathlib.Omega.{arith}
+use mathlib.Core.Path.{_≡_, refl, sym, ap, _∙_}
+use mathlib.Core.Bool.{true}
+use mathlib.Core.List.{List}
+use Prim.Native.Nat.{_-_, _≤_}
+use lib.ListN.{length}
+use Rattle.spans.specs.Span.{allOn}
+use Rattle.paint.specs.Paint.{state, paint}
+use Rattle.line.specs.declared.Point.{Point}
+use Rattle.line.specs.Line.{pointCount, pointsFrom, points}
+use Rattle.line.specs.Stipple.{styleAfter}
+use Rattle.line.specs.Draw.{coveredPoints, lineTouches}
+use Rattle.line.proofs.Sides.{count-le, longer-lt}
+use Rattle.line.proofs.PointLaws.{from-start}
+use Rattle.line.proofs.StippleLaws.{style-start, style-turn, style-done}
+use Rattle.line.proofs.DrawLaws.{on-left, paint-left, paint-none}
+use Rattle.strokes.proofs.paint_each.Statement.{statement}
+use Rattle.strokes.proofs.paint_each.Tie as tie
+
+abbrev Inv-loop : tie.InvT-loop
+Inv-loop mem₀ ink pattern c l pen style total done₀ i₀ mem done i =
+    (paint (ink .target) (lineTouches ink pattern c pen (done .style) (pointsFrom l i (total - i))) (state mem (done .count))
+    ≡ paint (ink .target) (lineTouches ink pattern c pen style (points l)) (state mem₀ 0))
+    × (styleAfter pen (total - i) (done .style) ≡ styleAfter pen (pointCount l) style)
+    × (allOn (ink .target) (length mem₀) (coveredPoints c (pointsFrom l i (total - i))) ≡ true)
+    × (length mem ≡ length mem₀) × (i ≤ total) × (done .count ≤ i)
+
+abbrev μ-loop : tie.MeasureT-loop
+μ-loop mem₀ ink pattern c l pen style total done₀ i₀ mem done i = total - i
+
+point-count-requires : tie.Need-point-count-requires Inv-loop μ-loop
+point-count-requires c κs = c .before .pre .line
+
+loop-holds : tie.Need-loop-holds Inv-loop μ-loop
+loop-holds c =
+    let a = c .before .before .args in
+    let q = from-start (a .l) _ (c .point-count .ensures) in (
+      ap (λ (ps : List Point). paint (a .ink .target) (lineTouches (a .ink) (a .pattern) (a .c) (a .pen) (a .style) ps) (state (a .mem .now) 0)) q,
+      style-start (a .pen) _ _ (a .style) (c .point-count .ensures),
+      ap (λ (ps : List Point). allOn (a .ink .target) (length (a .mem .now)) (coveredPoints (a .c) ps)) q ∙ c .before .before .pre .on,
+      refl,
+      omega arith,
+      omega arith,
+    )
+
+line-point-requires : tie.Need-line-point-requires Inv-loop μ-loop
+line-point-requires c κs = (c .before .before .before .before .pre .line, omega (arith, count-le (c .before .before .before .before .args .l), c .before .before .point-count .ensures))
+
+paint-point-requires : tie.Need-paint-point-requires Inv-loop μ-loop
+paint-point-requires c κs =
+    let a = c .before .before .before .before .before .before .args in
+    let p = c .before .before .before .before .before .before .pre in
+    let k = c .before .before .before .loop in
+    let n = on-left (a .ink .target) (length (a .mem .now)) (a .c) (a .l) (k .i) _ (c .before .before .loop-test .taken) (k .inv .2) in
+    rw (k .inv .3, c .before .line-point .ensures) (record {
+      surface = p .surface;
+      clip = p .clip;
+      on = n .0;
+      room = omega (arith, longer-lt (p .line), count-le (a .l), c .before .before .before .before .point-count .ensures);
+    })
+
+add-i : tie.Need-add-i Inv-loop μ-loop
+add-i c = omega arith
+
+loop-less : tie.Need-loop-less Inv-loop μ-loop
+loop-less c = omega arith
+
+loop-again : tie.Need-loop-again Inv-loop μ-loop
+loop-again c =
+    let a = c .before .before .before .before .before .before .before .before .before .args in
+    let k = c .before .before .before .before .before .before .loop in
+    let h = c .before .before .before .before .before .loop-test .taken in
+    let r = c .before .before .paint-point .ensures in (
+      paint-left (a .ink) (a .pattern) (a .c) (a .pen) (a .l) (k .i) _ (k .done .style) (state (k .mem) (k .done .count)) h (c .before .before .before .before .line-point .ensures) (r .1 .0) (r .0) ∙ k .inv .0,
+      style-turn (a .pen) (k .i) _ (k .done .style) _ h (r .1 .0) ∙ k .inv .1,
+      on-left (a .ink .target) (length (a .mem .now)) (a .c) (a .l) (k .i) _ h (k .inv .2) .1,
+      c .before .before .paint-point .kept .0 ∙ k .inv .3,
+      omega arith,
+      omega arith,
+    )
+
+same-length : tie.Need-same-length Inv-loop μ-loop
+same-length c = search needs
+
+returns : tie.Need-returns Inv-loop μ-loop
+returns c =
+    let a = c .before .before .before .before .args in
+    let k = c .before .loop in
+    let h = c .loop-test .left in (
+      sym (paint-none (a .ink) (a .pattern) (a .c) (a .pen) (a .l) (k .i) _ (k .done .style) (state (k .mem) (k .done .count)) h) ∙ k .inv .0,
+      sym (style-done (a .pen) (k .i) _ (k .done .style) h) ∙ k .inv .1,
+    )
+
+pub paint-each-spec : {M : Type 1} → statement M
+paint-each-spec =
+    tie.close
+    (tie.spec
+    Inv-loop
+    μ-loop
+    point-count-requires
+    loop-holds
+    line-point-requires
+    paint-point-requires
+    add-i
+    loop-less
+    loop-again
+    same-length
+    returns)

@@ -1,0 +1,75 @@
+-- `line::put_point` meets its contract: a pixel that gets its source needs neither the pattern nor what stands there.
+-- Assumes nothing.
+use borrow.Author.Needs.{needs}
+use native.Mathlib.Omega.{arith}
+use mathlib.Core.Path.{sym, ap, ap₂, _∙_}
+use mathlib.Core.Option.{Option}
+use Prim.Native.Nat.{ℕ}
+use Rattle.surface.specs.Place.{readPx}
+use Rattle.surface.specs.Pixels.{px}
+use Rattle.paint.specs.declared.Source.{Source}
+use Rattle.paint.specs.Paint.{state, dab}
+use Rattle.paint.specs.Mix.{mixed}
+use Rattle.paint.specs.Pattern.{patternValue}
+use Rattle.strokes.specs.Walk.{sourced}
+use Rattle.strokes.proofs.PutLaws.{direct-source}
+use Rattle.strokes.proofs.put_point.Statement.{statement}
+use Rattle.strokes.proofs.put_point.Tie as tie
+
+bit-source-requires : tie.Need-bit-source-requires
+bit-source-requires c κs = search needs
+
+is-direct-requires : tie.Need-is-direct-requires
+is-direct-requires c κs = search needs
+
+put-plain-requires : tie.Need-put-plain-requires
+put-plain-requires c κs = search needs
+
+same-length : tie.Need-same-length
+same-length c = search needs
+
+returns : tie.Need-returns
+returns c =
+    let a = c .before .before .before .before .before .before .before .before .args in
+    let s = a .ink .target in
+    let put = c .before .before .put-plain .ensures in
+    let direct = direct-source (a .ink) (patternValue (a .ink) (a .pattern) (a .x) (a .y)) (readPx (a .mem .now) s (a .x) (a .y)) (a .bit)
+    (sym (c .before .before .before .before .before .is-direct .ensures) ∙ c .before .before .before .before .if1 .taken) (omega (arith, c .before .before .before .before .before .before .before .before .good)) (omega (arith, c .before .before .before .before .before .before .before .before .good)) in (
+      put .0 ∙ ap (λ (source : Source). dab s (px (a .x) (a .y)) (sourced source) (state (a .mem .now) (a .n))) (c .before .before .before .before .before .before .bit-source .ensures)
+          ∙ ap (λ (v : Option ℕ). dab s (px (a .x) (a .y)) v (state (a .mem .now) (a .n))) (sym direct),
+      put .1,
+    )
+
+pattern-at-requires : tie.Need-pattern-at-requires
+pattern-at-requires c κs = search needs
+
+put-source-requires : tie.Need-put-source-requires
+put-source-requires c κs = search needs
+
+same-length-2 : tie.Need-same-length-2
+same-length-2 c = search needs
+
+returns-2 : tie.Need-returns-2
+returns-2 c =
+    let a = c .before .before .before .before .before .before .before .before .before .args in
+    let s = a .ink .target in
+    let put = c .before .before .put-source .ensures in (
+      put .0
+          ∙ ap₂ (λ (v : ℕ) (source : Source). dab s (px (a .x) (a .y)) (mixed (a .ink) v source (readPx (a .mem .now) s (a .x) (a .y))) (state (a .mem .now) (a .n)))
+          (c .before .before .before .before .pattern-at .ensures) (c .before .before .before .before .before .before .before .bit-source .ensures),
+      put .1,
+    )
+
+pub put-point-spec : {M : Type 1} → statement M
+put-point-spec =
+    tie.close
+    (tie.spec
+    bit-source-requires
+    is-direct-requires
+    put-plain-requires
+    same-length
+    returns
+    pattern-at-requires
+    put-source-requires
+    same-length-2
+    returns-2)

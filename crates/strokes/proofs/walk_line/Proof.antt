@@ -1,0 +1,162 @@
+-- `line::walk_line` meets its contract: what the points that are left do from now on is what all of them do from the start, and the walk is at the next of them.
+-- Assumes nothing.
+use borrow.Author.Needs.{needs}
+use native.Mathlib.Omega.{arith}
+use mathlib.Core.Path.{_≡_, refl, sym, ap, _∙_}
+use mathlib.Core.List.{List}
+use Prim.Native.Nat.{ℕ, _-_, _<_, _≤_}
+use lib.ListN.{length}
+use Rattle.paint.specs.declared.Source.{Source}
+use Rattle.paint.specs.Paint.{state, dab, paint}
+use Rattle.paint.specs.Mix.{bitSource}
+use Rattle.paint.specs.Clip.{origin, pixelAt}
+use Rattle.line.specs.declared.Point.{Point}
+use Rattle.line.specs.Line.{pointAt, pointCount, pointsFrom, points}
+use Rattle.line.specs.Stipple.{styleAfter}
+use Rattle.strokes.specs.Walk.{sourced, walkTouches, wordOf, AtPoint, Fields}
+use Rattle.line.proofs.Sides.{count-le, longer-lt}
+use Rattle.line.proofs.PointLaws.{from-start}
+use Rattle.line.proofs.StippleLaws.{style-start, style-turn, style-done}
+use Rattle.strokes.proofs.WalkLaws.{steps-small, walk-start, walk-next}
+use Rattle.strokes.proofs.WalkDraw.{bytes-inside, put-dab, walk-left, walk-none}
+use Rattle.strokes.proofs.walk_line.Statement.{statement}
+use Rattle.strokes.proofs.walk_line.Tie as tie
+
+abbrev Inv-loop : tie.InvT-loop
+Inv-loop mem₀ ink l pen style n t w₀ p₀ count₀ i₀ mem w p count i =
+    (paint (ink .target) (walkTouches ink pen (wordOf p) (pointsFrom l i (pointCount l - i))) (state mem count)
+    ≡ paint (ink .target) (walkTouches ink pen style (points l)) (state mem₀ 0))
+    × (styleAfter pen (pointCount l - i) (wordOf p) ≡ styleAfter pen (pointCount l) style)
+    × (i < pointCount l → AtPoint (ink .target) l i w)
+    × Fields p × (length mem ≡ length mem₀) × (i ≤ pointCount l) × (count ≤ i)
+
+abbrev μ-loop : tie.MeasureT-loop
+μ-loop mem₀ ink l pen style n t w₀ p₀ count₀ i₀ mem w p count i = pointCount l - i
+
+steps-of-requires : tie.Need-steps-of-requires Inv-loop μ-loop
+steps-of-requires c κs = c .before .before .pre .ahead .line
+
+sub-byte-of : tie.Need-sub-byte-of Inv-loop μ-loop
+sub-byte-of c = c .before .before .before .before .pre .ahead .left
+
+sub-byte-of-2 : tie.Need-sub-byte-of-2 Inv-loop μ-loop
+sub-byte-of-2 c = c .before .before .before .before .before .pre .ahead .top
+
+byte-of-requires : tie.Need-byte-of-requires Inv-loop μ-loop
+byte-of-requires c κs = (c .before .before .before .before .before .pre .surface, c .before .before .before .before .before .pre .surface .some)
+
+long-side-requires : tie.Need-long-side-requires Inv-loop μ-loop
+long-side-requires c κs = search needs
+
+phase-of-requires : tie.Need-phase-of-requires Inv-loop μ-loop
+phase-of-requires c κs = c .before .before .before .before .before .before .before .pre .fields
+
+loop-holds : tie.Need-loop-holds Inv-loop μ-loop
+loop-holds c =
+    let a = c .before .before .before .before .before .before .before .before .args in
+    let e = c .phase-of .ensures .1 in
+    let n = pointCount (a .l) in (
+      ap (λ (u : ℕ). paint (a .ink .target) (walkTouches (a .ink) (a .pen) u (pointsFrom (a .l) 0 (n - 0))) (state (a .mem .now) 0)) e
+          ∙ ap (λ (ps : List Point). paint (a .ink .target) (walkTouches (a .ink) (a .pen) (a .style) ps) (state (a .mem .now) 0)) (from-start (a .l) n refl),
+      ap (styleAfter (a .pen) (n - 0)) e ∙ style-start (a .pen) n n (a .style) refl,
+      (λ h. walk-start (a .ink .target) (a .l) _ _ (c .before .before .byte-of .ensures) (c .before .long-side .ensures)),
+      c .phase-of .ensures .0,
+      refl,
+      omega arith,
+      omega arith,
+    )
+
+point-count-requires : tie.Need-point-count-requires Inv-loop μ-loop
+point-count-requires c κs = c .before .before .before .before .before .before .before .before .before .pre .ahead .line
+
+phase-bit-requires : tie.Need-phase-bit-requires Inv-loop μ-loop
+phase-bit-requires c κs = c .before .before .before .loop .inv .3
+
+bit-source-requires : tie.Need-bit-source-requires Inv-loop μ-loop
+bit-source-requires c κs = search needs
+
+put-from-requires : tie.Need-put-from-requires Inv-loop μ-loop
+put-from-requires c κs =
+    let a = c .before .before .before .before .before .before .before .before .before .before .before .before .before .before .args in
+    let p = c .before .before .before .before .before .before .before .before .before .before .before .before .before .before .pre in
+    let k = c .before .before .before .before .before .loop in
+    let h : k .i < pointCount (a .l) = omega (arith, c .before .before .before .before .point-count .ensures) in
+    record {
+      some = p .surface .some;
+      few = p .surface .small .bytes;
+      inside = rw (k .inv .4) (bytes-inside (record { colour = p .surface; on = p .on (k .i) h }) _ (k .inv .2 h .at));
+      room = omega (arith, longer-lt (p .ahead .line), count-le (a .l));
+    }
+
+walk-on-requires : tie.Need-walk-on-requires Inv-loop μ-loop
+walk-on-requires c κs = rw (c .before .before .before .before .before .before .before .before .before .before .before .before .before .before .steps-of .ensures) (steps-small (c .before .before .before .before .before .before .before .before .before .before .before .before .before .before .before .before .before .args .ink .target) (c .before .before .before .before .before .before .before .before .before .before .before .before .before .before .before .before .before .args .l) (c .before .before .before .before .before .before .before .before .before .before .before .before .before .before .before .before .before .pre .ahead .line))
+
+phase-after-requires : tie.Need-phase-after-requires Inv-loop μ-loop
+phase-after-requires c κs = c .before .before .before .before .before .before .before .before .before .loop .inv .3
+
+add-i : tie.Need-add-i Inv-loop μ-loop
+add-i c = omega (arith, c .before .before .before .before .before .before .before .before .before .point-count .ensures)
+
+loop-less : tie.Need-loop-less Inv-loop μ-loop
+loop-less c = omega (arith, c .before .before .before .before .before .before .before .before .before .point-count .ensures)
+
+loop-again : tie.Need-loop-again Inv-loop μ-loop
+loop-again c =
+    let a = c .before .before .before .before .before .before .before .before .before .before .before .before .before .before .before .before .before .before .before .args in
+    let p = c .before .before .before .before .before .before .before .before .before .before .before .before .before .before .before .before .before .before .before .pre in
+    let k = c .before .before .before .before .before .before .before .before .before .before .loop in
+    let s = a .ink .target in
+    let h : k .i < pointCount (a .l) = omega (arith, c .before .before .before .before .before .before .before .before .before .point-count .ensures) in
+    let at = k .inv .2 h in
+    let q = pointAt (a .l) (k .i) in
+    let put = c .before .before .before .before .put-from .ensures .0 ∙ put-dab s (q .x - origin) (q .y - origin) _ _ (state (k .mem) (k .count)) (at .at)
+    ∙ ap (λ (source : Source). dab s (pixelAt (q .x) (q .y)) (sourced source) (state (k .mem) (k .count))) (c .before .before .before .before .before .bit-source .ensures ∙ ap (bitSource (a .ink)) (c .before .before .before .before .before .before .phase-bit .ensures)) in (
+      walk-left (a .ink) (a .pen) (a .l) (k .i) (pointCount (a .l)) (wordOf (k .p)) (state (k .mem) (k .count)) h (c .phase-after .ensures .1) put ∙ k .inv .0,
+      style-turn (a .pen) (k .i) (pointCount (a .l)) (wordOf (k .p)) _ h (c .phase-after .ensures .1) ∙ k .inv .1,
+      (λ g. rw (c .before .walk-on .ensures, c .before .before .before .before .before .before .before .before .before .before .before .before .before .before .before .before .steps-of .ensures) (walk-next s (p .surface .small) (a .l) (p .ahead) (k .i) (omega (arith, count-le (a .l))) (k .w) at)),
+      c .phase-after .ensures .0,
+      c .before .before .before .before .put-from .kept .0 ∙ k .inv .4,
+      omega arith,
+      omega (arith, c .before .before .before .before .put-from .ensures .1),
+    )
+
+style-of-requires : tie.Need-style-of-requires Inv-loop μ-loop
+style-of-requires c κs = c .before .before .loop .inv .3
+
+same-length : tie.Need-same-length Inv-loop μ-loop
+same-length c = search needs
+
+returns : tie.Need-returns Inv-loop μ-loop
+returns c =
+    let a = c .before .before .before .before .before .before .before .before .before .before .before .before .args in
+    let k = c .before .before .before .loop in
+    let h : pointCount (a .l) ≤ k .i = omega (arith, c .before .before .point-count .ensures) in (
+      sym (walk-none (a .ink) (a .pen) (a .l) (k .i) (pointCount (a .l)) (wordOf (k .p)) (state (k .mem) (k .count)) h) ∙ k .inv .0,
+      c .style-of .ensures ∙ sym (style-done (a .pen) (k .i) (pointCount (a .l)) (wordOf (k .p)) h) ∙ k .inv .1,
+    )
+
+pub walk-line-spec : {M : Type 1} → statement M
+walk-line-spec =
+    tie.close
+    (tie.spec
+    Inv-loop
+    μ-loop
+    steps-of-requires
+    sub-byte-of
+    sub-byte-of-2
+    byte-of-requires
+    long-side-requires
+    phase-of-requires
+    loop-holds
+    point-count-requires
+    phase-bit-requires
+    bit-source-requires
+    put-from-requires
+    walk-on-requires
+    phase-after-requires
+    add-i
+    loop-less
+    loop-again
+    style-of-requires
+    same-length
+    returns)

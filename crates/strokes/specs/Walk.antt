@@ -1,0 +1,116 @@
+-- A line that lies inside the clip and whose points get their source, walked by address: each step adds to the address of the point before, and to a
+-- remainder that says when it goes along the minor axis too. The stipple's word is kept as its four numbers.
+-- Assumes nothing.
+use mathlib.Core.Path.{_≡_}
+use mathlib.Core.Bool.{Bool, true, cond, _&&_}
+use mathlib.Core.List.{List, [], _∷_}
+use mathlib.Core.Option.{Option, none, some}
+use Prim.Native.Nat.{ℕ, _+_, _-_, _*_, _%_, _^_, _<_, _≤_}
+use lib.Dec.{eqb, leb, ltb}
+use Rattle.surface.specs.declared.Surface.{Surface}
+use Rattle.surface.specs.Place.{byteOf, writeBytes, onSurface, Colour}
+use Rattle.paint.specs.declared.Clip.{Clip}
+use Rattle.paint.specs.declared.Ink.{Ink}
+use Rattle.paint.specs.declared.Source.{Source}
+use Rattle.paint.specs.Paint.{State, state, Touch, touch}
+use Rattle.paint.specs.Mix.{bitSource, direct}
+use Rattle.paint.specs.Clip.{origin, inClip, pixelAt}
+use Rattle.line.specs.declared.Point.{Point}
+use Rattle.line.specs.declared.Line.{Line}
+use Rattle.line.specs.declared.Pen.{Pen}
+use Rattle.strokes.specs.declared.Walk.{Walk}
+use Rattle.strokes.specs.declared.Steps.{Steps}
+use Rattle.strokes.specs.declared.Phase.{Phase}
+use Rattle.line.specs.Line.{xMajor, longer, shorter, pointAt, pointCount, Placed}
+use Rattle.line.specs.Stipple.{repeatCount, size, position, bitNumber, styleOf, stippleBit, after}
+
+-- ---- the steps
+
+-- u, or what takes u off in 64 bits
+unfoldable pub shift : Bool → ℕ → ℕ
+shift up u = cond up u ((2 ^ 64 - u) % 2 ^ 64)
+
+abbrev pub across : Surface → Line → ℕ
+across s l = shift (leb (l .x0) (l .x1)) (s .bytes)
+
+abbrev pub down : Surface → Line → ℕ
+down s l = shift (leb (l .y0) (l .y1)) (s .stride)
+
+abbrev pub steps : ℕ → ℕ → ℕ → ℕ → Steps
+steps along both limit more = record { along = along; both = both; limit = limit; more = more }
+
+unfoldable pub stepsOf : Surface → Line → Steps
+stepsOf s l =
+    steps (cond (xMajor l) (across s l) (down s l)) ((across s l + down s l) % 2 ^ 64)
+    (2 * longer l - 2 * shorter l) (2 * shorter l)
+
+abbrev pub walk : ℕ → ℕ → Walk
+walk at rest = record { at = at; rest = rest }
+
+unfoldable pub walkedOn : Steps → Walk → Walk
+walkedOn t w =
+    cond (ltb (w .rest) (t .limit)) (walk ((w .at + t .along) % 2 ^ 64) (w .rest + t .more))
+    (walk ((w .at + t .both) % 2 ^ 64) (w .rest - t .limit))
+
+-- the walk is at point i: the address of its first byte, and what the division that gives its steps along the minor axis leaves
+pub record AtPoint (s : Surface) (l : Line) (i : ℕ) (w : Walk) : Type 0 where
+  pub at : w .at ≡ byteOf s (pointAt l i .x - origin) (pointAt l i .y - origin) 0
+  pub rest : w .rest ≡ (2 * i * shorter l + longer l) % (2 * longer l)
+
+-- ---- what is put there
+
+unfoldable pub sourced : Source → Option ℕ
+sourced s = cond (s .left) none (some (s .value))
+
+-- each point is given its source
+unfoldable pub walkTouches : Ink → Pen → ℕ → List Point → List Touch
+walkTouches ink pen style [] = []
+walkTouches ink pen style (p ∷ ps) =
+    touch (pixelAt (p .x) (p .y)) (λ m. sourced (bitSource ink (stippleBit pen style))) ∷ walkTouches ink pen (after pen style) ps
+
+-- the source in the n bytes from an address on, and counted; or they are left
+unfoldable pub putFrom : ℕ → ℕ → Source → State → State
+putFrom at n s st = cond (s .left) st (state (writeBytes (λ k. at + k) 0 n (s .value) (st .mem)) (st .count + 1))
+
+-- ---- the stipple's four numbers
+
+abbrev pub wordOf : Phase → ℕ
+wordOf p = styleOf (p .repeat) (p .size) (p .position) (p .bit)
+
+-- a word that has no other bits
+abbrev pub whole : ℕ → Bool
+whole style = eqb (styleOf (repeatCount style) (size style) (position style) (bitNumber style)) style
+
+pub record Fields (p : Phase) : Type 0 where
+  pub repeat : p .repeat < 256
+  pub size : p .size < 32
+  pub position : p .position < 256
+  pub bit : p .bit < 32
+
+-- ---- what functions ask for
+
+-- both ends are inside the clip, and each point gets its source
+abbrev pub walks : Ink → Clip → Line → ℕ → Bool
+walks ink c l style = ((direct ink && whole style) && inClip c (l .x0) (l .y0)) && inClip c (l .x1) (l .y1)
+
+-- n bytes from an address on, in a memory of len bytes, after k pixels that were written
+pub record Spot (at n len k : ℕ) : Type 0 where
+  pub some : 0 < n
+  pub few : n < 5
+  pub inside : at + n ≤ len
+  pub room : k + 1 < 2 ^ 32
+
+-- the ends of a line are at the origin or after it
+pub record Ahead (l : Line) : Type 0 where
+  pub line : Placed l
+  pub left : origin ≤ l .x0
+  pub top : origin ≤ l .y0
+  pub right : origin ≤ l .x1
+  pub bottom : origin ≤ l .y1
+
+-- a line that can be walked, in a memory of len bytes
+pub record Walkable (s : Surface) (len : ℕ) (l : Line) (style : ℕ) : Type 0 where
+  pub surface : Colour s
+  pub ahead : Ahead l
+  pub fields : whole style ≡ true
+  pub on : (i : ℕ) → i < pointCount l → onSurface s len (pointAt l i .x - origin) (pointAt l i .y - origin) ≡ true

@@ -1,0 +1,359 @@
+// A line drawn: walked by address where it lies inside the clip and its points get their source, and else point by point.
+use line::Line;
+use line::Pen;
+use line::Point;
+use paint::Clip;
+use paint::Ink;
+use paint::Source;
+use surface::Surface;
+ghost use mathlib.Core.Path.{_≡_};
+ghost use mathlib.Core.Bool.{true};
+ghost use mathlib.Core.List.{[], _∷_};
+ghost use Prim.Native.Nat.{_+_, _-_, _%_, _^_, _<_, _≤_};
+ghost use lib.ListN.{length, set};
+ghost use Rattle.surface.specs.Place.{readPx, writeBytes, OnColour};
+ghost use Rattle.surface.specs.Pixels.{px};
+ghost use Rattle.paint.specs.Paint.{state, dab, paint};
+ghost use Rattle.paint.specs.Pattern.{patternValue};
+ghost use Rattle.paint.specs.Mix.{bitSource, mixed, Ready};
+ghost use Rattle.paint.specs.Clip.{Bits12};
+ghost use Rattle.line.specs.Line.{pointCount, points, Placed};
+ghost use Rattle.line.specs.Stipple.{stippleBit, after, styleAfter};
+ghost use Rattle.line.specs.Draw.{lineTouches, Drawable, DrawablePoint};
+ghost use Rattle.strokes.specs.Walk.{shift, stepsOf, walkedOn, sourced, walkTouches, putFrom, wordOf, whole, Fields, walks, Spot, Walkable};
+
+// What a line leaves: the word lineStyle, and how many pixels it wrote.
+pub struct LineDone {
+    pub style: u32,
+    pub count: u32,
+}
+
+// Where a walk along a line is: the address of a point's first byte, and the remainder of its steps along the minor axis.
+pub struct Walk {
+    pub at: usize,
+    pub rest: u32,
+}
+
+// What a step adds to the address, along the major axis alone and along both; the remainder from which on it goes along both, and what it adds to one below that.
+pub struct Steps {
+    pub along: usize,
+    pub both: usize,
+    pub limit: u32,
+    pub more: u32,
+}
+
+// The four fields of the word lineStyle.
+pub struct Phase {
+    pub repeat: u32,
+    pub size: u32,
+    pub position: u32,
+    pub bit: u32,
+}
+
+// A pixel is given its source, and counted, or it is left.
+fn put_plain(mem: &mut [u8], s: Surface, x: u32, y: u32, source: Source, n: u32) -> u32
+    requires { ⌜ OnColour s (length (now mem)) x y × (n + 1 < 2 ^ 32) ⌝ }
+    ensures { λ r. ⌜ (state (now (mem .exit)) r ≡ dab s (px x y) (sourced source) (state (now (mem .entry)) n)) × (r ≤ n + 1) ⌝ }
+{
+    if source.left {
+        return n;
+    }
+    surface::put_pixel(mem, s, x, y, source.value);
+    n + 1
+}
+
+// Pixel (x, y) of a line where its stipple has this bit, after n that were written.
+fn put_point(mem: &mut [u8], ink: Ink, pattern: [u8; 256], x: u32, y: u32, bit: u32, n: u32) -> u32
+    requires { ⌜ Ready ink (length (now mem)) x y n ⌝ }
+    ensures { λ r. ⌜ (state (now (mem .exit)) r ≡ dab (ink .target) (px x y) (mixed ink (patternValue ink pattern x y) (bitSource ink bit) (readPx (now (mem .entry)) (ink .target) x y)) (state (now (mem .entry)) n)) × (r ≤ n + 1) ⌝ }
+{
+    let source = paint::bit_source(ink, bit);
+    if paint::is_direct(ink) {
+        return put_plain(mem, ink.target, x, y, source, n);
+    }
+    let value = paint::pattern_at(ink, pattern, x, y);
+    paint::put_source(mem, ink, value, x, y, source, n)
+}
+
+// One point drawn, after those that left `done`.
+fn paint_point(
+    mem: &mut [u8],
+    ink: Ink,
+    pattern: [u8; 256],
+    c: Clip,
+    p: Point,
+    pen: Pen,
+    done: LineDone,
+) -> LineDone
+    requires { ⌜ DrawablePoint (ink .target) (length (now mem)) c p (done .count) ⌝ }
+    ensures { λ r. ⌜ (state (now (mem .exit)) (r .count) ≡ paint (ink .target) (lineTouches ink pattern c pen (done .style) (p ∷ [])) (state (now (mem .entry)) (done .count))) × ((r .style ≡ after pen (done .style)) × (r .count ≤ done .count + 1)) ⌝ }
+{
+    let next = line::style_after(pen, done.style);
+    if !paint::covers(c, p.x, p.y) {
+        return LineDone {
+            style: next,
+            count: done.count,
+        };
+    }
+    let x = p.x - 16384;
+    let y = p.y - 16384;
+    let bit = line::stipple_bit(pen, done.style);
+    LineDone {
+        style: next,
+        count: put_point(mem, ink, pattern, x, y, bit, done.count),
+    }
+}
+
+// The line drawn, point by point.
+fn paint_each(
+    mem: &mut [u8],
+    ink: Ink,
+    pattern: [u8; 256],
+    c: Clip,
+    l: Line,
+    pen: Pen,
+    style: u32,
+) -> LineDone
+    requires { ⌜ Drawable (ink .target) (length (now mem)) c l ⌝ }
+    ensures { λ r. ⌜ (state (now (mem .exit)) (r .count) ≡ paint (ink .target) (lineTouches ink pattern c pen style (points l)) (state (now (mem .entry)) 0)) × (r .style ≡ styleAfter pen (pointCount l) style) ⌝ }
+{
+    let total = line::point_count(l);
+    let mut done = LineDone {
+        style: style,
+        count: 0,
+    };
+    let mut i = 0;
+    while i < total {
+        let p = line::line_point(l, i);
+        done = paint_point(mem, ink, pattern, c, p, pen, done);
+        i += 1;
+    }
+    done
+}
+
+// u, or what takes u off in 64 bits.
+fn shifted(up: bool, u: u32) -> usize
+    ensures { λ r. ⌜ r ≡ shift up u ⌝ }
+{
+    if up {
+        return surface::wide(u);
+    }
+    std::num::wrapping_sub_usize(0, surface::wide(u))
+}
+
+fn steps_of(s: Surface, l: Line) -> Steps
+    requires { ⌜ Placed l ⌝ }
+    ensures { λ r. ⌜ r ≡ stepsOf s l ⌝ }
+{
+    let across = shifted(l.x0 <= l.x1, s.bytes);
+    let down = shifted(l.y0 <= l.y1, s.stride);
+    let both = std::num::wrapping_add_usize(across, down);
+    let more = 2 * line::short_side(l);
+    let limit = 2 * line::long_side(l) - more;
+    if line::x_major(l) {
+        return Steps {
+            along: across,
+            both: both,
+            limit: limit,
+            more: more,
+        };
+    }
+    Steps {
+        along: down,
+        both: both,
+        limit: limit,
+        more: more,
+    }
+}
+
+// The next point.
+fn walk_on(t: Steps, w: Walk) -> Walk
+    requires { ⌜ t .limit + t .more < 2 ^ 32 ⌝ }
+    ensures { λ r. ⌜ r ≡ walkedOn t w ⌝ }
+{
+    if w.rest < t.limit {
+        return Walk {
+            at: std::num::wrapping_add_usize(w.at, t.along),
+            rest: w.rest + t.more,
+        };
+    }
+    Walk {
+        at: std::num::wrapping_add_usize(w.at, t.both),
+        rest: w.rest - t.limit,
+    }
+}
+
+fn is_whole(style: u32) -> bool
+    ensures { λ r. ⌜ r ≡ whole style ⌝ }
+{
+    let count = style % 0x100;
+    let size = style / 0x100 % 0x20;
+    let position = style / 0x10000 % 0x100;
+    let bit = style / 0x1000000 % 0x20;
+    count + size * 0x100 + position * 0x10000 + bit * 0x1000000 == style
+}
+
+fn phase_of(style: u32) -> Phase
+    requires { ⌜ whole style ≡ true ⌝ }
+    ensures { λ r. ⌜ Fields r × (wordOf r ≡ style) ⌝ }
+{
+    Phase {
+        repeat: style % 0x100,
+        size: style / 0x100 % 0x20,
+        position: style / 0x10000 % 0x100,
+        bit: style / 0x1000000 % 0x20,
+    }
+}
+
+fn style_of(p: Phase) -> u32
+    requires { ⌜ Fields p ⌝ }
+    ensures { λ r. ⌜ r ≡ wordOf p ⌝ }
+{
+    p.repeat + p.size * 0x100 + p.position * 0x10000 + p.bit * 0x1000000
+}
+
+// After a point.
+fn phase_after(pen: Pen, p: Phase) -> Phase
+    requires { ⌜ Fields p ⌝ }
+    ensures { λ r. ⌜ Fields r × (wordOf r ≡ after pen (wordOf p)) ⌝ }
+{
+    if !pen.stippled {
+        return p;
+    }
+    if p.position < p.repeat {
+        return Phase {
+            repeat: p.repeat,
+            size: p.size,
+            position: p.position + 1,
+            bit: p.bit,
+        };
+    }
+    if p.bit < p.size {
+        return Phase {
+            repeat: p.repeat,
+            size: p.size,
+            position: 0,
+            bit: p.bit + 1,
+        };
+    }
+    Phase {
+        repeat: p.repeat,
+        size: p.size,
+        position: 0,
+        bit: 0,
+    }
+}
+
+fn phase_bit(pen: Pen, p: Phase) -> u32
+    requires { ⌜ Fields p ⌝ }
+    ensures { λ r. ⌜ r ≡ stippleBit pen (wordOf p) ⌝ }
+{
+    if pen.stippled {
+        return (pen.stipple >> p.bit) % 2;
+    }
+    1
+}
+
+fn put_byte(mem: &mut [u8], at: usize, b: u32)
+    requires { ⌜ at < length (now mem) ⌝ }
+    ensures { λ _. ⌜ now (mem .exit) ≡ set (now (mem .entry)) at (b % 256) ⌝ }
+{
+    mem[at] = (b % 256) as u8;
+}
+
+// The n bytes from an address on become those of v.
+fn put_bytes(mem: &mut [u8], at: usize, n: u32, v: u32)
+    requires { ⌜ Spot at n (length (now mem)) 0 ⌝ }
+    ensures { λ _. ⌜ now (mem .exit) ≡ writeBytes (λ k. at + k) 0 n v (now (mem .entry)) ⌝ }
+{
+    put_byte(mem, at, v);
+    if n == 1 {
+        return;
+    }
+    let v1 = v / 256;
+    put_byte(mem, at + 1, v1);
+    if n == 2 {
+        return;
+    }
+    let v2 = v1 / 256;
+    put_byte(mem, at + 2, v2);
+    if n == 3 {
+        return;
+    }
+    put_byte(mem, at + 3, v2 / 256);
+}
+
+// A pixel of n bytes from an address on is given its source, and counted, or it is left.
+fn put_from(mem: &mut [u8], at: usize, n: u32, s: Source, count: u32) -> u32
+    requires { ⌜ Spot at n (length (now mem)) count ⌝ }
+    ensures { λ r. ⌜ (state (now (mem .exit)) r ≡ putFrom at n s (state (now (mem .entry)) count)) × (r ≤ count + 1) ⌝ }
+{
+    if s.left {
+        return count;
+    }
+    put_bytes(mem, at, n, s.value);
+    count + 1
+}
+
+// The line drawn by address, where each point gets its source.
+fn walk_line(mem: &mut [u8], ink: Ink, l: Line, pen: Pen, style: u32) -> LineDone
+    requires { ⌜ Walkable (ink .target) (length (now mem)) l style ⌝ }
+    ensures { λ r. ⌜ (state (now (mem .exit)) (r .count) ≡ paint (ink .target) (walkTouches ink pen style (points l)) (state (now (mem .entry)) 0)) × (r .style ≡ styleAfter pen (pointCount l) style) ⌝ }
+{
+    let s = ink.target;
+    let n = s.bytes;
+    let t = steps_of(s, l);
+    let mut w = Walk {
+        at: surface::byte_of(s, l.x0 - 16384, l.y0 - 16384, 0),
+        rest: line::long_side(l),
+    };
+    let mut p = phase_of(style);
+    let mut count = 0;
+    let mut i = 0;
+    while i < line::point_count(l) {
+        count = put_from(
+            mem,
+            w.at,
+            n,
+            paint::bit_source(ink, phase_bit(pen, p)),
+            count,
+        );
+        w = walk_on(t, w);
+        p = phase_after(pen, p);
+        i += 1;
+    }
+    LineDone {
+        style: style_of(p),
+        count: count,
+    }
+}
+
+// Whether a line can be drawn so.
+fn can_walk(ink: Ink, c: Clip, l: Line, style: u32) -> bool
+    requires { ⌜ Bits12 c ⌝ }
+    ensures { λ r. ⌜ r ≡ walks ink c l style ⌝ }
+{
+    paint::is_direct(ink)
+        & is_whole(style)
+        & paint::covers(c, l.x0, l.y0)
+        & paint::covers(c, l.x1, l.y1)
+}
+
+// The line drawn.
+pub fn paint_line(
+    mem: &mut [u8],
+    ink: Ink,
+    pattern: [u8; 256],
+    c: Clip,
+    l: Line,
+    pen: Pen,
+    style: u32,
+) -> LineDone
+    requires { ⌜ Drawable (ink .target) (length (now mem)) c l ⌝ }
+    ensures { λ r. ⌜ (state (now (mem .exit)) (r .count) ≡ paint (ink .target) (lineTouches ink pattern c pen style (points l)) (state (now (mem .entry)) 0)) × (r .style ≡ styleAfter pen (pointCount l) style) ⌝ }
+{
+    if can_walk(ink, c, l, style) {
+        return walk_line(mem, ink, l, pen, style);
+    }
+    paint_each(mem, ink, pattern, c, l, pen, style)
+}
