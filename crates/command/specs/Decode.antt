@@ -17,7 +17,7 @@ use Rattle.registers.specs.Position.{placed}
 use Rattle.line.specs.declared.Line.{Line}
 use Rattle.line.specs.declared.Pen.{Pen}
 use Rattle.host.specs.declared.Feed.{Feed}
-use Rattle.host.specs.declared.Plain.{Plain}
+use Rattle.plain.specs.declared.Plain.{Plain}
 use Rattle.command.specs.declared.Cut.{Cut}
 
 abbrev pub bit : ℕ → ℕ → Bool

@@ -1,10 +1,10 @@
 // What the registers say of a command.
 use host::Feed;
-use host::Plain;
 use line::Line;
 use line::Pen;
 use paint::Clip;
 use paint::Ink;
+use plain::Plain;
 use rect::Task;
 use registers::Regs;
 use surface::Surface;

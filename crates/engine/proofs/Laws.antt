@@ -16,11 +16,11 @@ use Rattle.rect.specs.Copy.{asBefore, CanPaint, Orderly}
 use Rattle.line.specs.declared.Line.{Line}
 use Rattle.line.specs.Draw.{Drawable}
 use Rattle.host.specs.declared.Feed.{Feed}
-use Rattle.host.specs.declared.Plain.{Plain}
+use Rattle.plain.specs.declared.Plain.{Plain}
 use Rattle.host.specs.Host.{wordsOf, byWord, Sizes}
 use Rattle.host.specs.Draw.{hostTouches, drawn, Opened, Waits}
-use Rattle.host.specs.Plain.{plainInk}
-use Rattle.host.proofs.PlainLaws.{plain-drawn, plain-waits}
+use Rattle.plain.specs.Plain.{plainInk}
+use Rattle.plain.proofs.PlainLaws.{plain-drawn, plain-waits}
 use Rattle.registers.specs.declared.Regs.{Regs}
 use Rattle.command.specs.declared.Cut.{Cut}
 use Rattle.command.specs.Decode.{target, inkOf, plainBlit, plainOf, clipOf, fillCut, copyCut, covered, fillTask, copyTask, lineOf, feedOf}

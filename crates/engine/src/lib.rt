@@ -228,7 +228,7 @@ impl Engine {
         let last = self.blit.last;
         if command::is_plain(regs) {
             let plain = command::decode_plain(regs);
-            return host::plain_word(mem, plain, clip, feed, taken, last, word);
+            return plain::plain_word(mem, plain, clip, feed, taken, last, word);
         }
         let ink = command::decode_ink(regs);
         let pattern = bank.pattern;

@@ -3,7 +3,7 @@
 use mathlib.Core.Path.{_≡_, refl, sym, ap, _∙_}
 use mathlib.Core.Bool.{Bool, true, false, cond}
 use mathlib.Core.List.{List, [], _∷_, _++_}
-use Prim.Native.Nat.{ℕ, suc, _+_, _-_, _*_, _/_, _%_, _<_, _≤_}
+use Prim.Native.Nat.{ℕ, suc, _+_, _-_, _/_, _%_, _<_, _≤_}
 use native.Mathlib.Omega.{arith}
 use borrow.Author.Tests.{lt-ltb, le-ltb}
 use lib.ListN.{length}
@@ -18,10 +18,8 @@ use Rattle.paint.specs.Clip.{origin, inClip, pixelAt}
 use Rattle.paint.proofs.Turns.{paint-append}
 use Rattle.paint.proofs.Frame.{count-most}
 use Rattle.host.specs.declared.Feed.{Feed}
-use Rattle.host.specs.Host.{lastByteOf, Pixel, pixel, valueOf, whole, run, byByte, byBytes, byWord}
+use Rattle.host.specs.Host.{Pixel, pixel, valueOf, whole, run, byByte, byBytes, byWord}
 use Rattle.host.specs.Draw.{hostSource, hostTouches, drawn}
-use Rattle.host.specs.Plain.{stretch}
-use Rattle.host.proofs.Stretch.{bytes-append, past-none}
 
 -- ---- one list after the other
 in-front : (b : Bool) (t : Touch) (ts us vs : List Touch) → vs ≡ ts ++ us → cond b (t ∷ vs) vs ≡ cond b (t ∷ ts) ts ++ us
@@ -43,7 +41,7 @@ module _ (ink : Ink) (pattern : List ℕ) (c : Clip) (feed : Feed) where
       ∙ paint-append (ink .target) (hostTouches ink pattern c feed ps) (hostTouches ink pattern c feed qs) st
 
   -- a turn draws the front of what is left
-  turn : (ps rest all : List Pixel) (st st′ : State) → all ≡ ps ++ rest → st′ ≡ drawn ink pattern c feed ps st
+  pub turn : (ps rest all : List Pixel) (st st′ : State) → all ≡ ps ++ rest → st′ ≡ drawn ink pattern c feed ps st
       → drawn ink pattern c feed rest st′ ≡ drawn ink pattern c feed all st
   turn ps rest all st st′ e q =
       ap (drawn ink pattern c feed rest) q ∙ sym (drawn-append ps rest st) ∙ ap (λ (l : List Pixel). drawn ink pattern c feed l st) (sym e)
@@ -85,20 +83,6 @@ module _ (ink : Ink) (pattern : List ℕ) (c : Clip) (feed : Feed) where
     unfolding byByte hostTouches paint
     byte-none st l = rw (le-ltb _ _ l)
 
-  -- ---- the pixels that are left of a row's part
-  module _ (last word j : ℕ) where
-    pub stretch-turn : (i e v : ℕ) (st st′ : State) → i < e → v ≡ valueOf feed last word (lastByteOf feed i j % 4) i
-        → st′ ≡ drawn ink pattern c feed (pixel i j v ∷ []) st
-        → drawn ink pattern c feed (stretch feed last word j (i + 1) (e - (i + 1))) st′ ≡ drawn ink pattern c feed (stretch feed last word j i (e - i)) st
-    unfolding stretch
-    stretch-turn i e v st st′ l a q =
-        let k : e - i ≡ suc (e - (i + 1)) = omega arith in
-        turn (pixel i j v ∷ []) (stretch feed last word j (i + 1) (e - (i + 1))) (stretch feed last word j i (e - i)) st st′ (rw (k, a)) q
-
-    pub stretch-done : (i e : ℕ) (st : State) → e ≤ i → drawn ink pattern c feed (stretch feed last word j i (e - i)) st ≡ st
-    unfolding stretch hostTouches paint
-    stretch-done i e st l = let k : e - i ≡ 0 = omega arith in rw k
-
   -- ---- the bytes that are left of a word's
   module _ (last word b : ℕ) where
     pub bytes-turn : (t : ℕ) (st st′ : State) → t < 4 → st′ ≡ drawn ink pattern c feed (byByte feed last word (b + t)) st
@@ -109,20 +93,6 @@ module _ (ink : Ink) (pattern : List ℕ) (c : Clip) (feed : Feed) where
         let k : 4 - t ≡ suc (4 - (t + 1)) = omega arith in
         let a : b + (t + 1) ≡ b + t + 1 = omega arith in
         turn (byByte feed last word (b + t)) (byBytes feed last word (b + (t + 1)) (4 - (t + 1))) (byBytes feed last word (b + t) (4 - t)) st st′ (rw (k, a)) q
-
-    -- m bytes at once
-    pub part-turn : (t m : ℕ) (st st′ : State) → t + m ≤ 4 → st′ ≡ drawn ink pattern c feed (byBytes feed last word (b + t) m) st
-        → drawn ink pattern c feed (byBytes feed last word (b + (t + m)) (4 - (t + m))) st′
-        ≡ drawn ink pattern c feed (byBytes feed last word (b + t) (4 - t)) st
-    part-turn t m st st′ l q =
-        let k : 4 - t ≡ m + (4 - (t + m)) = omega arith in
-        let a : b + (t + m) ≡ b + t + m = omega arith in
-        turn (byBytes feed last word (b + t) m) (byBytes feed last word (b + (t + m)) (4 - (t + m))) (byBytes feed last word (b + t) (4 - t)) st st′
-        (rw (k, a) (bytes-append feed last word (b + t) m (4 - (t + m)))) q
-
-    pub bytes-past : (t n : ℕ) (st : State) → 0 < feed .step → feed .height * feed .step ≤ b + t → drawn ink pattern c feed (byBytes feed last word (b + t) n) st ≡ st
-    unfolding hostTouches paint
-    bytes-past t n st s l = rw (past-none feed last word s (b + t) n l)
 
     pub bytes-done : (t : ℕ) (st : State) → 4 ≤ t → drawn ink pattern c feed (byBytes feed last word (b + t) (4 - t)) st ≡ st
     unfolding byBytes hostTouches paint

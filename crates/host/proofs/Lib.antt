@@ -1,9 +1,7 @@
 pub mod Places
 pub mod Finished
 pub mod Needed
-pub mod Stretch
 pub mod Drawing
-pub mod PlainLaws
 pub mod Touched
 pub mod Values
 pub mod Whole

@@ -28,7 +28,7 @@ use Rattle.line.specs.Line.{points, Within, Placed}
 use Rattle.line.specs.Draw.{coveredPoints, lineOff, Drawable}
 use Rattle.host.specs.Host.{Sizes, wordsOf}
 use Rattle.host.specs.Draw.{Opened}
-use Rattle.host.specs.Plain.{Plainly}
+use Rattle.plain.specs.Plain.{Plainly}
 use Rattle.host.proofs.Needed.{data-small}
 use Rattle.registers.specs.declared.Regs.{Regs}
 use Rattle.registers.specs.Position.{placed}

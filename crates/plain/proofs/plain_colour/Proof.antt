@@ -3,10 +3,10 @@
 use borrow.Author.Needs.{needs}
 use borrow.Author.Tests.{ne-eqb}
 use Rattle.paint.specs.Mix.{colourSource}
 use Rattle.host.specs.Draw.{hostSource}
-use Rattle.host.specs.Plain.{plainInk}
-use Rattle.host.proofs.plain_colour.Statement.{statement}
-use Rattle.host.proofs.plain_colour.Tie as tie
+use Rattle.plain.specs.Plain.{plainInk}
+use Rattle.plain.proofs.plain_colour.Statement.{statement}
+use Rattle.plain.proofs.plain_colour.Tie as tie
 
 convert-requires : tie.Need-convert-requires
 convert-requires c κs = search needs

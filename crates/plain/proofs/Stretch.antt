@@ -7,10 +7,10 @@ use native.Mathlib.Nat.{le-div-iff-mul-le, add-zero, zero-add, suc-add}
 use native.Mathlib.Omega.{arith}
 use borrow.Author.Tests.{lt-ltb, le-ltb}
 use lib.Arith.{digits-div, digits-mod}
 use Rattle.host.specs.declared.Feed.{Feed}
 use Rattle.host.specs.Host.{lastByteOf, Pixel, pixel, valueOf, whole, run, byByte, byBytes}
-use Rattle.host.specs.Plain.{stretch, Part, Within}
+use Rattle.plain.specs.Plain.{stretch, Part, Within}
 use Rattle.host.proofs.Places.{whole-width, whole-more, whole-rises, column-in, column-of}
 
 module _ (f : Feed) (last word : ℕ) where
   pub bytes-append : (o m n : ℕ) → byBytes f last word o (m + n) ≡ byBytes f last word o m ++ byBytes f last word (o + m) n

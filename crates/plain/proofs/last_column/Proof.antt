@@ -6,9 +6,9 @@ use native.Mathlib.Nat.{mul-le-mul-left}
 use mathlib.Core.Path.{sym}
 use Prim.Native.Nat.{_≤_}
 use Rattle.surface.proofs.OnLaws.{pos-of-ne}
 use Rattle.host.proofs.Places.{mono-column, colour-column}
-use Rattle.host.proofs.last_column.Statement.{statement}
-use Rattle.host.proofs.last_column.Tie as tie
+use Rattle.plain.proofs.last_column.Statement.{statement}
+use Rattle.plain.proofs.last_column.Tie as tie
 
 returns : tie.Need-returns
 returns c = sym (mono-column (c .before .args .feed) (c .before .args .i) (c .if1 .taken))

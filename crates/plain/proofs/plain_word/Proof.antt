@@ -9,13 +9,14 @@ use mathlib.Core.List.{[]}
 use Prim.Native.Nat.{ℕ, _+_, _-_, _*_, _<_, _≤_}
 use lib.ListN.{length}
 use Rattle.paint.specs.Paint.{state}
 use Rattle.host.specs.Host.{byBytes, byWord}
 use Rattle.host.specs.Draw.{drawn}
-use Rattle.host.specs.Plain.{plainInk}
+use Rattle.plain.specs.Plain.{plainInk}
 use Rattle.host.proofs.Places.{step-some}
-use Rattle.host.proofs.Drawing.{part-turn, bytes-past, bytes-done}
-use Rattle.host.proofs.plain_word.Statement.{statement}
-use Rattle.host.proofs.plain_word.Tie as tie
+use Rattle.host.proofs.Drawing.{bytes-done}
+use Rattle.plain.proofs.Parts.{part-turn, bytes-past}
+use Rattle.plain.proofs.plain_word.Statement.{statement}
+use Rattle.plain.proofs.plain_word.Tie as tie
 
 abbrev Inv-loop : tie.InvT-loop
 Inv-loop mem₀ p c feed taken last word step j₀ column₀ n₀ t₀ mem j column n t =

@@ -1,4 +1,4 @@
--- `host::mono_row` meets its contract: what is left of the pixels, drawn on what stands now, is all of them drawn on what stood.
+-- `host::colour_row` meets its contract: what is left of the pixels, drawn on what stands now, is all of them drawn on what stood.
 -- Assumes nothing.
 use native.Mathlib.Omega.{arith}
 use borrow.Author.Needs.{needs}
@@ -7,13 +7,13 @@ use mathlib.Core.List.{[]}
 use Prim.Native.Nat.{ℕ, _+_, _-_, _≤_}
 use lib.ListN.{length}
 use Rattle.paint.specs.Paint.{state}
 use Rattle.host.specs.Host.{valueOf}
 use Rattle.host.specs.Draw.{drawn}
-use Rattle.host.specs.Plain.{plainInk, stretch}
+use Rattle.plain.specs.Plain.{plainInk, stretch}
 use Rattle.host.proofs.Places.{column-held}
-use Rattle.host.proofs.Drawing.{stretch-turn, stretch-done}
-use Rattle.host.proofs.mono_row.Statement.{statement}
-use Rattle.host.proofs.mono_row.Tie as tie
+use Rattle.plain.proofs.Parts.{stretch-turn, stretch-done}
+use Rattle.plain.proofs.colour_row.Statement.{statement}
+use Rattle.plain.proofs.colour_row.Tie as tie
 
 abbrev Inv-loop : tie.InvT-loop
 Inv-loop mem₀ p c feed last word t j column start end n r₀ i₀ mem r i =
@@ -50,8 +50,8 @@ value-of-requires c κs =
     let b = c .before .before .before .before in
     (b .pre .0 .rows .sizes .bytes, omega (arith, c .last-column .ensures, b .pre .1 .0 .high i (omega arith) (c .before .loop-test .taken)))
 
-plain-bit-requires : tie.Need-plain-bit-requires Inv-loop μ-loop
-plain-bit-requires c κs = c .before .before .before .before .before .pre .1 .1
+plain-colour-requires : tie.Need-plain-colour-requires Inv-loop μ-loop
+plain-colour-requires c κs = c .before .before .before .before .before .pre .1 .1
 
 plain-pixel-requires : tie.Need-plain-pixel-requires Inv-loop μ-loop
 plain-pixel-requires c κs =
@@ -59,7 +59,7 @@ plain-pixel-requires c κs =
     let b = l .before .before in
     let w = b .pre .1 .0 in
     rw (l .loop .inv .1)
-    (b .pre .0, (omega (arith, c .before .before .before .before .loop-test .taken, w .past), (w .row, (omega (arith, w .room), c .before .plain-bit .ensures))))
+    (b .pre .0, (omega (arith, c .before .before .before .before .loop-test .taken, w .past), (w .row, (omega (arith, w .room), c .before .plain-colour .ensures))))
 
 add-i : tie.Need-add-i Inv-loop μ-loop
 add-i c = omega (arith, c .before .before .before .before .before .before .before .before .before .before .pre .0 .rows .sizes .width)
@@ -96,8 +96,8 @@ returns c =
       omega arith,
     )
 
-pub mono-row-spec : {M : Type 1} → statement M
-mono-row-spec =
+pub colour-row-spec : {M : Type 1} → statement M
+colour-row-spec =
     tie.close
     (tie.spec
     Inv-loop
@@ -107,7 +107,7 @@ mono-row-spec =
     add-value-of
     sub-value-of
     value-of-requires
-    plain-bit-requires
+    plain-colour-requires
     plain-pixel-requires
     add-i
     loop-less

@@ -6,11 +6,11 @@ use mathlib.Core.Path.{sym, _∙_}
 use mathlib.Core.List.{[]}
 use Prim.Native.Nat.{_+_}
 use Rattle.paint.proofs.ClipLaws.{Covered, in-clip}
-use Rattle.host.specs.Plain.{plainInk}
+use Rattle.plain.specs.Plain.{plainInk}
 use Rattle.host.proofs.Drawing.{pixel-past}
-use Rattle.host.proofs.PlainLaws.{plain-left, plain-put}
-use Rattle.host.proofs.plain_pixel.Statement.{statement}
-use Rattle.host.proofs.plain_pixel.Tie as tie
+use Rattle.plain.proofs.PlainLaws.{plain-left, plain-put}
+use Rattle.plain.proofs.plain_pixel.Statement.{statement}
+use Rattle.plain.proofs.plain_pixel.Tie as tie
 
 add-x : tie.Need-add-x
 add-x c = search needs

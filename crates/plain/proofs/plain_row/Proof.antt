@@ -4,12 +4,12 @@ use borrow.Author.Needs.{needs}
 use mathlib.Core.Path.{ap, _∙_}
 use mathlib.Core.List.{List, []}
 use Rattle.paint.specs.Paint.{state}
 use Rattle.host.specs.Host.{Pixel}
 use Rattle.host.specs.Draw.{drawn}
-use Rattle.host.specs.Plain.{plainInk}
-use Rattle.host.proofs.Stretch.{part-bytes, part-within}
-use Rattle.host.proofs.plain_row.Statement.{statement}
-use Rattle.host.proofs.plain_row.Tie as tie
+use Rattle.plain.specs.Plain.{plainInk}
+use Rattle.plain.proofs.Stretch.{part-bytes, part-within}
+use Rattle.plain.proofs.plain_row.Statement.{statement}
+use Rattle.plain.proofs.plain_row.Tie as tie
 
 whole-pixels-requires : tie.Need-whole-pixels-requires
 whole-pixels-requires c κs = search needs

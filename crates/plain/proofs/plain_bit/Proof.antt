@@ -2,10 +2,10 @@
 -- Assumes nothing.
 use borrow.Author.Tests.{eq-eqb, ne-eqb}
 use Rattle.paint.specs.Mix.{bitSource}
 use Rattle.host.specs.Draw.{hostSource}
-use Rattle.host.specs.Plain.{plainInk}
-use Rattle.host.proofs.plain_bit.Statement.{statement}
-use Rattle.host.proofs.plain_bit.Tie as tie
+use Rattle.plain.specs.Plain.{plainInk}
+use Rattle.plain.proofs.plain_bit.Statement.{statement}
+use Rattle.plain.proofs.plain_bit.Tie as tie
 
 returns : tie.Need-returns
 unfolding hostSource bitSource plainInk

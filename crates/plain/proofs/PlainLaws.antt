@@ -16,11 +16,11 @@ use Rattle.paint.specs.Paint.{State, state, dab, Touch, touch, paint}
 use Rattle.paint.specs.Mix.{source, bitSource, colourSource, mixed, direct}
 use Rattle.paint.specs.Clip.{origin, inClip, pixelAt}
 use Rattle.paint.proofs.MixLaws.{direct-low, direct-mixed}
 use Rattle.host.specs.declared.Feed.{Feed}
-use Rattle.host.specs.declared.Plain.{Plain}
+use Rattle.plain.specs.declared.Plain.{Plain}
 use Rattle.host.specs.Host.{Pixel, pixel}
 use Rattle.host.specs.Draw.{hostSource, hostTouches, drawn, Waits}
-use Rattle.host.specs.Plain.{plainInk, Plainly}
+use Rattle.plain.specs.Plain.{plainInk, Plainly}
 
 -- ---- the plain ink
 plain-direct : (p : Plain) → direct (plainInk p) ≡ true
