@@ -16,9 +16,9 @@ use Rattle.registers.specs.Kept.{oneOf}
 use Rattle.registers.proofs.Arms.{Each, each-map, of-each}
 use Rattle.engine.specs.declared.Engine.{Engine}
 use Rattle.engine.proofs.Cases.{by-test, picked}
-use Rattle.capi.specs.Layout.{stateSize, patternAt, mark, wordAt, byteOf, slot, byteIn, encoded, regsIn, patternIn, decoded, isState, Bytes}
+use Rattle.state.specs.Layout.{stateSize, patternAt, mark, wordAt, byteOf, slot, byteIn, encoded, regsIn, patternIn, decoded, isState, Bytes}
 use Rattle.capi.specs.Promises.{BytesBack, Fits, EngineBack, StaysState}
-use Rattle.capi.proofs.Places.{Word, same-bytes, encoded-length, encoded-byte}
+use Rattle.state.proofs.Places.{Word, same-bytes, encoded-length, encoded-byte}
 
 -- ---- the places of the words
 

@@ -24,9 +24,9 @@ use Rattle.engine.specs.declared.Blit.{Blit}
 use Rattle.engine.specs.declared.Engine.{Engine}
 use Rattle.engine.specs.Step.{Step, regs, withBlit, idle, storedIn, afterRect, afterLine, filled, copied, lined, begun, fed, carried, launched, commanded, toRegister, toPlace, written}
 use Rattle.engine.proofs.Cases.{by-test, picked, by-number}
-use Rattle.capi.specs.Layout.{slot, byteIn, encoded}
-use Rattle.capi.specs.Calls.{withSlots, commandSlots, Draws}
-use Rattle.capi.proofs.Places.{Word, encoded-length, encoded-byte, slots-laid}
+use Rattle.state.specs.Layout.{slot, byteIn, encoded, withSlots, commandSlots}
+use Rattle.capi.specs.Calls.{Draws}
+use Rattle.state.proofs.Places.{Word, encoded-length, encoded-byte, slots-laid}
 
 pub record Like (os : List ℕ) (e after : Engine) : Type 0 where
   pub pattern : e .bank .pattern ≡ after .bank .pattern

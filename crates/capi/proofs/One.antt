@@ -1,7 +1,7 @@
 -- Each contract says what the outcome equals, and so allows one.
 -- Assumes nothing.
 use mathlib.Core.Path.{_≡_, sym, _∙_}
-use Rattle.capi.specs.Layout.{stateSize}
+use Rattle.state.specs.Layout.{stateSize}
 use Rattle.capi.specs.Calls.{writtenTo, openedTo, readOf, partOf}
 use Rattle.capi.specs.Promises.{OneSize, OneOpening, OneCall, OneReading, OnePart}
 

@@ -20,9 +20,9 @@ use Rattle.registers.proofs.RegsLaws.{registers, get-zero}
 use Rattle.registers.proofs.OffsetLaws.{register-listed, pattern-word}
 use Rattle.engine.specs.Step.{freshEngine, readFrom}
 use Rattle.engine.proofs.Cases.{by-test}
-use Rattle.capi.specs.Layout.{stateSize, patternAt, wordAt, byteOf, slot, byteIn, encoded, regsIn, patternIn, decoded, isState}
-use Rattle.capi.specs.Calls.{packed, packedReading, readOf, opening, openedTo, withSlots, fixedSlots}
-use Rattle.capi.proofs.Places.{Word, slots-laid}
+use Rattle.state.specs.Layout.{stateSize, patternAt, wordAt, byteOf, slot, byteIn, encoded, regsIn, patternIn, decoded, isState, withSlots, fixedSlots}
+use Rattle.capi.specs.Calls.{packed, packedReading, readOf, opening, openedTo}
+use Rattle.state.proofs.Places.{Word, slots-laid}
 use Rattle.capi.proofs.Changes.{none-of}
 
 -- ---- read

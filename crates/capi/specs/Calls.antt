@@ -2,7 +2,7 @@
 -- Assumes nothing.
 use mathlib.Core.Path.{_≡_}
 use mathlib.Core.Bool.{cond}
-use mathlib.Core.List.{List, [], _∷_}
+use mathlib.Core.List.{List}
 use Prim.Native.Nat.{ℕ, _+_, _*_, _^_}
 use lib.Dec.{eqb, ltb}
 use lib.ListN.{length}
@@ -13,10 +13,9 @@ use Rattle.registers.specs.declared.Reading.{Reading}
 use Rattle.registers.specs.declared.Place.the-variants.{Register, Pattern}
 use Rattle.registers.specs.Offsets.{placeOf}
 use Rattle.registers.specs.Bank.{readNumber, readValue}
-use Rattle.engine.specs.declared.Engine.{Engine}
 use Rattle.engine.specs.declared.Answer.{Answer}
 use Rattle.engine.specs.Step.{Step, numberOf, countOf, freshEngine, written, readFrom}
-use Rattle.capi.specs.Layout.{stateSize, wordAt, withWord, slot, encoded, decoded, openedIn, isState}
+use Rattle.state.specs.Layout.{stateSize, wordAt, withWord, encoded, decoded, openedIn, isState}
 
 -- the number of a state that open did not make
 abbrev pub notState : ℕ
@@ -78,18 +77,6 @@ partOf m base format x y width =
     (part (viewAnswer (length m) base format x y width) 0 0)
 
 -- ---- what the code does on the way
-
--- words of an engine's state, put at their places
-abbrev pub withSlots : List ℕ → Engine → List ℕ → List ℕ
-withSlots s e [] = s
-withSlots s e (o ∷ os) = withSlots (withWord s o (slot e o)) e os
-
--- the words that open puts into a cleared state; those that a command can change
-abbrev pub fixedSlots : List ℕ
-fixedSlots = 0 ∷ 0x74 ∷ 0x78 ∷ []
-
-abbrev pub commandSlots : List ℕ
-commandSlots = 0x40 ∷ 0x5c ∷ 0x6c ∷ 0x70 ∷ 0x04 ∷ 0x44 ∷ 0x48 ∷ []
 
 -- a word that draws nothing, at its place in the state, for a memory of len bytes
 unfoldable pub plainly : List ℕ → ℕ → ℕ → ℕ → Opening

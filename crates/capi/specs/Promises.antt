@@ -9,7 +9,7 @@ use lib.ListN.{length, take, drop}
 use Rattle.registers.specs.Regs.{getReg}
 use Rattle.views.specs.View.{viewAnswer, viewed}
 use Rattle.engine.specs.declared.Engine.{Engine}
-use Rattle.capi.specs.Layout.{stateSize, encoded, decoded, isState, Bytes}
+use Rattle.state.specs.Layout.{stateSize, encoded, decoded, isState, Bytes}
 use Rattle.capi.specs.Calls.{Call, writtenTo, Opening, openedTo, readOf, Part, partOf}
 
 -- ---- Back. What was decoded is encoded as it was, and what was encoded is decoded as it was

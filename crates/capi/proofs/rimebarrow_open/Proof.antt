@@ -2,7 +2,7 @@
 -- Assumes nothing.
 use borrow.Author.Needs.{needs}
 use Rattle.engine.specs.Step.{freshEngine}
-use Rattle.capi.specs.Layout.{slot}
+use Rattle.state.specs.Layout.{slot}
 use Rattle.capi.proofs.ReadOpen.{not-opened, opened-fresh}
 use Rattle.capi.proofs.rimebarrow_open.Statement.{statement}
 use Rattle.capi.proofs.rimebarrow_open.Tie as tie

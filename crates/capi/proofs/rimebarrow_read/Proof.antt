@@ -9,7 +9,7 @@ use native.Mathlib.Omega.{arith}
 use lib.ListN.{length}
 use borrow.Author.Tests.{not-true, not-false}
 use Rattle.registers.proofs.OffsetLaws.{pattern-word}
-use Rattle.capi.specs.Layout.{stateSize, isState}
+use Rattle.state.specs.Layout.{stateSize, isState}
 use Rattle.capi.proofs.Back.{opened}
 use Rattle.capi.proofs.Writes.{register-word}
 use Rattle.capi.proofs.ReadOpen.{not-read, register-read, pattern-read, launch-read, nowhere-read}

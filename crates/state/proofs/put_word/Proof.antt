@@ -4,9 +4,9 @@ use borrow.Author.Needs.{needs}
 use mathlib.Core.Path.{refl}
 use native.Mathlib.Omega.{arith}
 use lib.ListN.{length-set}
-use Rattle.capi.specs.Layout.{withWord}
-use Rattle.capi.proofs.put_word.Statement.{statement}
-use Rattle.capi.proofs.put_word.Tie as tie
+use Rattle.state.specs.Layout.{withWord}
+use Rattle.state.proofs.put_word.Statement.{statement}
+use Rattle.state.proofs.put_word.Tie as tie
 
 cast-s : tie.Need-cast-s
 cast-s c = search needs

@@ -1,9 +1,9 @@
 -- `decode` meets its contract: part by part.
 -- Assumes nothing.
 use borrow.Author.Needs.{needs}
-use Rattle.capi.specs.Layout.{decoded}
-use Rattle.capi.proofs.decode.Statement.{statement}
-use Rattle.capi.proofs.decode.Tie as tie
+use Rattle.state.specs.Layout.{decoded}
+use Rattle.state.proofs.decode.Statement.{statement}
+use Rattle.state.proofs.decode.Tie as tie
 
 decode-regs-requires : tie.Need-decode-regs-requires
 decode-regs-requires c κs = search needs

@@ -5,9 +5,9 @@ use mathlib.Core.Path.{sym, ap}
 use mathlib.Core.Bool.{_&&_, false≢true}
 use lib.Dec.{eqb, ltb}
 use borrow.Author.Tests.{eq-eqb, ne-eqb}
-use Rattle.capi.specs.Layout.{wordAt, mark, isState}
-use Rattle.capi.proofs.is_state.Statement.{statement}
-use Rattle.capi.proofs.is_state.Tie as tie
+use Rattle.state.specs.Layout.{wordAt, mark, isState}
+use Rattle.state.proofs.is_state.Statement.{statement}
+use Rattle.state.proofs.is_state.Tie as tie
 
 returns : tie.Need-returns
 unfolding isState

@@ -10,7 +10,7 @@ use lib.Dec.{eqb}
 use lib.ListN.{length, getD, set, drop, replicate, length-take, length-drop, length-replicate, getD-replicate}
 use lib.Seq.{getD-set-same, getD-set-other, getD-take, getD-drop, ext-getD}
 use borrow.Author.Tests.{eqb-true, eqb-false}
-use Rattle.capi.specs.Layout.{patternAt, patternIn, stateSize}
+use Rattle.state.specs.Layout.{patternAt, patternIn, stateSize}
 
 -- f holds below i, and at i: it holds below i + 1
 next : (P : ℕ → Type 0) (i : ℕ) → ((k : ℕ) → k < i → P k) → P i → (k : ℕ) → k < i + 1 → P k

@@ -5,9 +5,9 @@ use mathlib.Core.Path.{_≡_, _∙_}
 use Prim.Native.Nat.{_+_, _-_, _≤_}
 use native.Mathlib.Omega.{arith}
 use lib.ListN.{length, getD, length-set}
-use Rattle.capi.proofs.Lists.{Copied, copied-none, copied-next, copied-all}
-use Rattle.capi.proofs.decode_pattern.Statement.{statement}
-use Rattle.capi.proofs.decode_pattern.Tie as tie
+use Rattle.state.proofs.Lists.{Copied, copied-none, copied-next, copied-all}
+use Rattle.state.proofs.decode_pattern.Statement.{statement}
+use Rattle.state.proofs.decode_pattern.Tie as tie
 
 abbrev Inv-loop : tie.InvT-loop
 Inv-loop s p₀ i₀ p i = Copied s p i × ((length p ≡ 256) × (i ≤ 256))

@@ -110,3 +110,17 @@ isState s = eqb (length s) stateSize && (eqb (wordAt s 0) mark && ltb (wordAt s 
 -- each of them is a byte
 pub record Bytes (s : List ℕ) : Type 0 where
   pub each : (i : ℕ) → getD s i 0 < 2 ^ 8
+
+-- ---- what the code does on the way
+
+-- words of an engine's state, put at their places
+abbrev pub withSlots : List ℕ → Engine → List ℕ → List ℕ
+withSlots s e [] = s
+withSlots s e (o ∷ os) = withSlots (withWord s o (slot e o)) e os
+
+-- the words that open puts into a cleared state; those that a command can change
+abbrev pub fixedSlots : List ℕ
+fixedSlots = 0 ∷ 0x74 ∷ 0x78 ∷ []
+
+abbrev pub commandSlots : List ℕ
+commandSlots = 0x40 ∷ 0x5c ∷ 0x6c ∷ 0x70 ∷ 0x04 ∷ 0x44 ∷ 0x48 ∷ []

@@ -13,8 +13,7 @@ use borrow.Author.Tests.{lt-ltb, eqb-true, eqb-false}
 use Rattle.registers.specs.Kept.{oneOf}
 use Rattle.registers.proofs.Arms.{Each}
 use Rattle.engine.specs.declared.Engine.{Engine}
-use Rattle.capi.specs.Layout.{stateSize, patternAt, withWord, byteOf, slot, byteIn, run, encoded}
-use Rattle.capi.specs.Calls.{withSlots}
+use Rattle.state.specs.Layout.{stateSize, patternAt, withWord, byteOf, slot, byteIn, run, encoded, withSlots}
 
 -- ---- four numbers put at four places in a row
 

@@ -5,9 +5,9 @@ use mathlib.Core.Path.{_≡_, refl}
 use mathlib.Core.Bool.{Bool, true, false, cond}
 use mir.Val.{boolByte}
 use Rattle.registers.specs.Regs.{getReg}
-use Rattle.capi.specs.Layout.{slot}
-use Rattle.capi.proofs.save.Statement.{statement}
-use Rattle.capi.proofs.save.Tie as tie
+use Rattle.state.specs.Layout.{slot}
+use Rattle.state.proofs.save.Statement.{statement}
+use Rattle.state.proofs.save.Tie as tie
 
 as-number : (t : Bool) → boolByte t ≡ cond t 1 0
 as-number true = refl

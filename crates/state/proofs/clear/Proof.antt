@@ -5,10 +5,10 @@ use mathlib.Core.Path.{_≡_, _∙_}
 use Prim.Native.Nat.{_-_, _≤_}
 use native.Mathlib.Omega.{arith}
 use lib.ListN.{length, length-set}
-use Rattle.capi.specs.Layout.{stateSize}
-use Rattle.capi.proofs.Lists.{Cleared, cleared-none, cleared-next, cleared-all}
-use Rattle.capi.proofs.clear.Statement.{statement}
-use Rattle.capi.proofs.clear.Tie as tie
+use Rattle.state.specs.Layout.{stateSize}
+use Rattle.state.proofs.Lists.{Cleared, cleared-none, cleared-next, cleared-all}
+use Rattle.state.proofs.clear.Statement.{statement}
+use Rattle.state.proofs.clear.Tie as tie
 
 abbrev Inv-loop : tie.InvT-loop
 Inv-loop s₀ i₀ s i = Cleared s i × ((length s ≡ stateSize) × (i ≤ stateSize))

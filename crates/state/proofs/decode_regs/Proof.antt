@@ -2,9 +2,9 @@
 -- Assumes nothing.
 use borrow.Author.Needs.{needs}
 use native.Mathlib.Omega.{arith}
-use Rattle.capi.specs.Layout.{regsIn}
-use Rattle.capi.proofs.decode_regs.Statement.{statement}
-use Rattle.capi.proofs.decode_regs.Tie as tie
+use Rattle.state.specs.Layout.{regsIn}
+use Rattle.state.proofs.decode_regs.Statement.{statement}
+use Rattle.state.proofs.decode_regs.Tie as tie
 
 word-at-requires : tie.Need-word-at-requires
 word-at-requires c κs = search needs
