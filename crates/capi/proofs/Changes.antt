@@ -18,7 +18,8 @@ use Rattle.registers.specs.Bank.{stored}
 use Rattle.registers.proofs.Arms.{Each}
 use Rattle.registers.proofs.RegsLaws.{registers, get-put, get-nowhere}
 use Rattle.host.specs.Host.{wordsOf}
-use Rattle.command.specs.Decode.{bit, number, feedOf}
+use Rattle.command.specs.Decode.{feedOf}
+use Rattle.cuts.specs.Cut.{bit, number}
 use Rattle.table.specs.Table.{fillVerdict, copyVerdict, hostVerdict, lineVerdict}
 use Rattle.engine.specs.declared.Blit.{Blit}
 use Rattle.engine.specs.declared.Engine.{Engine}

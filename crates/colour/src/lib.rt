@@ -1,9 +1,7 @@
-// The arithmetic of one pixel's value: widening, conversion, raster operation, colour key. A format is its bytes per pixel, 0 is mono.
+// Widening, and the conversion of a pixel's value from one format to another. A format is its bytes per pixel, 0 is mono.
 ghost use mathlib.Core.Path.{_≡_};
 ghost use Prim.Native.Nat.{_<_, _%_};
 ghost use Rattle.colour.specs.Convert.{repeated, widened, narrowed, converted, deep, allowed};
-ghost use Rattle.colour.specs.Rop.{ropBits, patternFree, sourceFree};
-ghost use Rattle.colour.specs.Key.{chan, within, keyMatch};
 
 // Five bits to eight.
 const WIDEN5: [u8; 32] = [
@@ -179,64 +177,4 @@ pub fn may_convert(from: u32, to: u32) -> bool
         return to == 1;
     }
     is_deep(from) & is_deep(to)
-}
-
-// The raster operation at all 32 bits. For the bits of d, then s, then p, it chooses between the bits of the code.
-pub fn raster(code: u32, p: u32, s: u32, d: u32) -> u32
-    ensures { λ r. ⌜ r ≡ ropBits 32 code p s d ⌝ }
-{
-    let m0 = (code >> 0) % 2 * 0xffff_ffff;
-    let m1 = (code >> 1) % 2 * 0xffff_ffff;
-    let m2 = (code >> 2) % 2 * 0xffff_ffff;
-    let m3 = (code >> 3) % 2 * 0xffff_ffff;
-    let m4 = (code >> 4) % 2 * 0xffff_ffff;
-    let m5 = (code >> 5) % 2 * 0xffff_ffff;
-    let m6 = (code >> 6) % 2 * 0xffff_ffff;
-    let m7 = (code >> 7) % 2 * 0xffff_ffff;
-    let a = m0 ^ (d & (m1 ^ m0));
-    let b = m2 ^ (d & (m3 ^ m2));
-    let e = m4 ^ (d & (m5 ^ m4));
-    let f = m6 ^ (d & (m7 ^ m6));
-    let low = a ^ (s & (b ^ a));
-    let high = e ^ (s & (f ^ e));
-    low ^ (p & (high ^ low))
-}
-
-// Whether the code gives the same whatever the pattern is.
-pub fn is_pattern_free(code: u32) -> bool
-    ensures { λ r. ⌜ r ≡ patternFree code ⌝ }
-{
-    code / 16 % 16 == code % 16
-}
-
-// Whether the code gives the same whatever the source is.
-pub fn is_source_free(code: u32) -> bool
-    ensures { λ r. ⌜ r ≡ sourceFree code ⌝ }
-{
-    (code / 4 % 4 == code % 4) & (code / 64 % 4 == code / 16 % 4)
-}
-
-// The channel of v that starts at bit `start` and has so many values is between those of lo and hi.
-fn inside(start: u32, values: u32, lo: u32, hi: u32, v: u32) -> bool
-    requires { ⌜ (start < 32) × (0 < values) ⌝ }
-    ensures { λ r. ⌜ r ≡ within (chan start values) lo hi v ⌝ }
-{
-    let x = (v >> start) % values;
-    if x < (lo >> start) % values {
-        return false;
-    }
-    x <= (hi >> start) % values
-}
-
-// Whether every channel of v is between those of lo and hi.
-pub fn key_match(bytes: u32, lo: u32, hi: u32, v: u32) -> bool
-    ensures { λ r. ⌜ r ≡ keyMatch bytes lo hi v ⌝ }
-{
-    if bytes == 1 {
-        return inside(0, 256, lo, hi, v);
-    }
-    if bytes == 2 {
-        return inside(0, 32, lo, hi, v) & (inside(5, 64, lo, hi, v) & inside(11, 32, lo, hi, v));
-    }
-    inside(0, 256, lo, hi, v) & (inside(8, 256, lo, hi, v) & inside(16, 256, lo, hi, v))
 }

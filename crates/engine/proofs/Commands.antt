@@ -34,7 +34,8 @@ use Rattle.registers.specs.declared.Place.the-variants.{Register, Pattern, Laun
 use Rattle.registers.specs.Regs.{putReg}
 use Rattle.registers.specs.Bank.{stored, patterned}
 use Rattle.registers.specs.Offsets.{placeOf}
-use Rattle.command.specs.Decode.{bit, number, target, origins, inkOf, clipOf, cutAt, fillCut, copyCut, covered, needed, fillTask, copyTask, lineOf, penOf, feedOf}
+use Rattle.command.specs.Decode.{target, origins, inkOf, fillTask, copyTask, lineOf, penOf, feedOf}
+use Rattle.cuts.specs.Cut.{bit, number, clipOf, cutAt, fillCut, copyCut, covered, needed}
 use Rattle.table.specs.Table.{targetFine, bothFine, allOnAt, pixels, sameSurface, hostFault, fillVerdict, copyVerdict, hostVerdict, lineVerdict}
 use Rattle.table.proofs.Verdicts.{fill-can, copy-can, line-can, host-can}
 use Rattle.engine.specs.declared.Engine.{Engine}

@@ -19,7 +19,8 @@ use Rattle.registers.specs.Regs.{putReg}
 use Rattle.registers.specs.Bank.{stored}
 use Rattle.registers.specs.Offsets.{placeOf}
 use Rattle.host.specs.Host.{wordsOf}
-use Rattle.command.specs.Decode.{bit, number, target, covered, copyCut, fillCut, copyTask, fillTask, feedOf}
+use Rattle.command.specs.Decode.{target, copyTask, fillTask, feedOf}
+use Rattle.cuts.specs.Cut.{bit, number, covered, copyCut, fillCut}
 use Rattle.engine.specs.declared.Engine.{Engine}
 use Rattle.engine.specs.Step.{Step, regs, storedIn, copyTouches, fillTouches, drawTouches, wordTouches, written}
 use Rattle.engine.specs.Orders.{launching, orderAt, order, carriedTouches, launchedTouches, touchesAt, touchesOf, coveredBy}

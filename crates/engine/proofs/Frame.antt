@@ -21,7 +21,8 @@ use Rattle.paint.proofs.Frame.{Bytes, frame, paint-length, paint-bytes}
 use Rattle.line.specs.Line.{points}
 use Rattle.line.proofs.DrawLaws.{covered-in-clip}
 use Rattle.registers.specs.declared.Regs.{Regs}
-use Rattle.command.specs.Decode.{number, target, clipOf, cutAt, fillCut, copyCut, covered, lineOf}
+use Rattle.command.specs.Decode.{target, lineOf}
+use Rattle.cuts.specs.Cut.{number, clipOf, cutAt, fillCut, copyCut, covered}
 use Rattle.engine.specs.declared.Engine.{Engine}
 use Rattle.engine.specs.Step.{Step, numberOf, written}
 use Rattle.engine.specs.Orders.{order, coveredBy, touchesOf}

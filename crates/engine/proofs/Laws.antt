@@ -22,8 +22,9 @@ use Rattle.host.specs.Draw.{hostTouches, drawn, Opened, Waits}
 use Rattle.plain.specs.Plain.{plainInk}
 use Rattle.plain.proofs.PlainLaws.{plain-drawn, plain-waits}
 use Rattle.registers.specs.declared.Regs.{Regs}
-use Rattle.command.specs.declared.Cut.{Cut}
-use Rattle.command.specs.Decode.{target, inkOf, plainBlit, plainOf, clipOf, fillCut, copyCut, covered, fillTask, copyTask, lineOf, feedOf}
+use Rattle.cuts.specs.declared.Cut.{Cut}
+use Rattle.command.specs.Decode.{target, inkOf, plainBlit, plainOf, fillTask, copyTask, lineOf, feedOf}
+use Rattle.cuts.specs.Cut.{clipOf, fillCut, copyCut, covered}
 use Rattle.table.specs.Table.{fillVerdict, copyVerdict, lineVerdict, hostVerdict}
 use Rattle.table.proofs.Verdicts.{fill-can, copy-can, copy-orderly, line-can, host-can, feed-sizes, words-few, plain-ink}
 use Rattle.engine.specs.declared.Engine.{Engine}

@@ -7,7 +7,7 @@ use native.Mathlib.Omega.{arith}
 use Rattle.registers.specs.declared.Regs.{Regs}
 use Rattle.registers.specs.Regs.{putReg}
 use Rattle.registers.specs.Bank.{stored}
-use Rattle.command.specs.Decode.{number}
+use Rattle.cuts.specs.Cut.{number}
 use Rattle.engine.specs.declared.Engine.{Engine}
 use Rattle.engine.specs.Step.{regs, storedIn}
 use Rattle.engine.specs.Orders.{launching}

@@ -16,7 +16,8 @@ use Rattle.registers.specs.Offsets.{placeOf}
 use Rattle.line.specs.Line.{pointCount}
 use Rattle.line.specs.Stipple.{styleAfter}
 use Rattle.host.specs.Host.{wordsOf}
-use Rattle.command.specs.Decode.{bit, number, lineOf, penOf, feedOf}
+use Rattle.command.specs.Decode.{lineOf, penOf, feedOf}
+use Rattle.cuts.specs.Cut.{bit, number}
 use Rattle.table.specs.Table.{fillVerdict, copyVerdict, hostVerdict, lineVerdict}
 use Rattle.engine.specs.declared.Blit.{Blit}
 use Rattle.engine.specs.declared.Engine.{Engine}

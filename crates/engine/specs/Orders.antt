@@ -14,7 +14,8 @@ use Rattle.registers.specs.declared.Regs.{Regs}
 use Rattle.registers.specs.declared.Place.{Place}
 use Rattle.registers.specs.declared.Place.the-variants.{Register, Pattern, Launch, Nowhere}
 use Rattle.registers.specs.Offsets.{placeOf}
-use Rattle.command.specs.Decode.{bit, number, clipOf, fillCut, copyCut, covered, lineOf, feedOf}
+use Rattle.command.specs.Decode.{lineOf, feedOf}
+use Rattle.cuts.specs.Cut.{bit, number, clipOf, fillCut, copyCut, covered}
 use Rattle.engine.specs.declared.Engine.{Engine}
 use Rattle.engine.specs.Step.{regs, storedIn, byNumber, fillTouches, copyTouches, drawTouches, wordTouches}
 

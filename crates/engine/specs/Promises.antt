@@ -20,7 +20,8 @@ use Rattle.registers.specs.declared.Place.{Place}
 use Rattle.registers.specs.declared.Place.the-variants.{Register, Pattern, Launch, Nowhere}
 use Rattle.registers.specs.Offsets.{placeOf}
 use Rattle.host.specs.Host.{wordsOf}
-use Rattle.command.specs.Decode.{number, target, origins, clipOf, copyCut, covered, needed, feedOf}
+use Rattle.command.specs.Decode.{target, origins, feedOf}
+use Rattle.cuts.specs.Cut.{number, clipOf, copyCut, covered, needed}
 use Rattle.table.specs.Table.{targetFine, bothFine, allOnAt, pixels, sameSurface, hostFault, hostVerdict}
 use Rattle.engine.specs.declared.Engine.{Engine}
 use Rattle.engine.specs.Step.{Step, written, numberOf, countOf, regs, noBlit, freshEngine, readFrom, byNumber}

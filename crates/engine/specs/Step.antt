@@ -20,12 +20,13 @@ use Rattle.registers.specs.declared.Place.{Place}
 use Rattle.registers.specs.declared.Place.the-variants.{Register, Pattern, Launch, Nowhere}
 use Rattle.registers.specs.Bank.{freshBank, stored, patterned, readAt}
 use Rattle.registers.specs.Offsets.{placeOf}
-use Rattle.registers.specs.Position.{steppedXY}
+use Rattle.positions.specs.Position.{steppedXY}
 use Rattle.engine.specs.declared.Blit.{Blit}
 use Rattle.engine.specs.declared.Engine.{Engine}
 use Rattle.engine.specs.declared.Answer.{Answer}
 use Rattle.engine.specs.declared.Answer.the-variants.{Taken, Memory, Offset, Waiting, NotBuilt, Format, Host, Off, Meet}
-use Rattle.command.specs.Decode.{bit, number, target, inkOf, clipOf, fillCut, copyCut, covered, fillTask, copyTask, lineOf, penOf, feedOf}
+use Rattle.command.specs.Decode.{target, inkOf, fillTask, copyTask, lineOf, penOf, feedOf}
+use Rattle.cuts.specs.Cut.{bit, number, clipOf, fillCut, copyCut, covered}
 use Rattle.table.specs.Table.{fillVerdict, copyVerdict, hostVerdict, lineVerdict}
 
 -- ---- answers: document 01's number and count of each

@@ -101,7 +101,7 @@ impl Engine {
         let bank = self.bank;
         let regs = bank.regs;
         let c = regs.command;
-        let xy = registers::step_xy(
+        let xy = positions::step_xy(
             regs.dstXY,
             regs.dstSize,
             c / 0x400 % 2 == 1,
@@ -132,7 +132,7 @@ impl Engine {
                 answer: refuse(verdict),
             };
         }
-        let cut = command::fill_cut(regs);
+        let cut = cuts::fill_cut(regs);
         let task = command::fill_task(regs);
         let pattern = bank.pattern;
         let count = rect::paint_rect(mem, task, pattern, cut.w, cut.h);
@@ -154,7 +154,7 @@ impl Engine {
                 answer: refuse(verdict),
             };
         }
-        let c = command::copy_cut(regs);
+        let c = cuts::copy_cut(regs);
         let task = command::copy_task(regs);
         let pattern = bank.pattern;
         let count = rect::paint_rect(mem, task, pattern, c.w, c.h);
@@ -177,7 +177,7 @@ impl Engine {
             };
         }
         let ink = command::decode_ink(regs);
-        let clip = command::decode_clip(regs);
+        let clip = cuts::decode_clip(regs);
         let l = command::decode_line(regs);
         let pen = command::decode_pen(regs);
         let pattern = bank.pattern;
@@ -223,7 +223,7 @@ impl Engine {
         let bank = self.bank;
         let regs = bank.regs;
         let feed = command::decode_feed(regs);
-        let clip = command::decode_clip(regs);
+        let clip = cuts::decode_clip(regs);
         let taken = self.blit.taken;
         let last = self.blit.last;
         if command::is_plain(regs) {

@@ -8,9 +8,9 @@ use Prim.Native.Nat.{ℕ, _+_, _%_, _^_, _<_}
 use native.Mathlib.Nat.{mod-eq-of-lt}
 use lib.Dec.{eqb}
 use borrow.Author.Tests.{eqb-true}
-use Rattle.colour.specs.Rop.{ropBits}
-use Rattle.colour.specs.Key.{keyMatch}
-use Rattle.colour.proofs.RopLaws.{copies}
+use Rattle.raster.specs.Rop.{ropBits}
+use Rattle.keys.specs.Key.{keyMatch}
+use Rattle.raster.proofs.RopLaws.{copies}
 use Rattle.surface.specs.Place.{readPx, writePx}
 use Rattle.surface.specs.Pixels.{px}
 use Rattle.surface.proofs.OnLaws.{and-left, and-right}

@@ -6,8 +6,8 @@ use mathlib.Core.Option.{Option, none, some}
 use Prim.Native.Nat.{ℕ, _+_, _^_, _<_}
 use lib.Dec.{eqb}
 use Rattle.colour.specs.Convert.{converted}
-use Rattle.colour.specs.Rop.{ropBits}
-use Rattle.colour.specs.Key.{keyMatch}
+use Rattle.raster.specs.Rop.{ropBits}
+use Rattle.keys.specs.Key.{keyMatch}
 use Rattle.surface.specs.Place.{readPx, OnColour}
 use Rattle.surface.specs.Pixels.{Px}
 use Rattle.paint.specs.declared.Ink.{Ink}

@@ -164,7 +164,7 @@ pub fn colour_source(ink: Ink, bytes: u32, v: u32) -> Source
     if ink.srcKey {
         return Source {
             value: value,
-            key: colour::key_match(bytes, ink.srcMin, ink.srcMax, v),
+            key: keys::key_match(bytes, ink.srcMin, ink.srcMax, v),
             left: false,
         };
     }
@@ -212,7 +212,7 @@ fn matches_target(ink: Ink, old: u32) -> bool
     ensures { λ r. ⌜ r ≡ targetMatch ink old ⌝ }
 {
     if ink.dstKey {
-        return colour::key_match(ink.target.bytes, ink.dstMin, ink.dstMax, old);
+        return keys::key_match(ink.target.bytes, ink.dstMin, ink.dstMax, old);
     }
     false
 }
@@ -235,7 +235,7 @@ pub fn put_source(mem: &mut [u8], ink: Ink, pattern: u32, x: u32, y: u32, s: Sou
     let target = ink.target;
     let old = surface::get_pixel(mem, target, x, y);
     let code = choose(ink, s.key, matches_target(ink, old));
-    let v = colour::raster(code, pattern, s.value, old);
+    let v = raster::raster(code, pattern, s.value, old);
     surface::put_pixel(mem, target, x, y, v);
     n + 1
 }

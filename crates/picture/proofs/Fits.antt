@@ -20,10 +20,10 @@ use Rattle.surface.proofs.Rects.{rect-length}
 use Rattle.spans.proofs.Corner.{rect-corner}
 use Rattle.registers.specs.declared.Regs.{Regs}
 use Rattle.engine.specs.Step.{regs}
-use Rattle.picture.specs.Text.{Page, page, each, put, said, digit, digits, decimal, numeral}
-use Rattle.picture.specs.Picture.{shade, line, lines, header, noPicture, left, top, right, bottom, target, pixels, shows, picture}
+use Rattle.ppm.specs.Text.{Page, page, each, put, said, digit, digits, decimal, numeral}
+use Rattle.ppm.specs.Picture.{shade, line, lines, header, noPicture, left, top, right, bottom, target, pixels, shows, picture}
 use Rattle.picture.specs.Player.{Sheet, refusal, shortWrite, printed}
-use Rattle.picture.proofs.PictureLaws.{shown, rect-shown}
+use Rattle.ppm.proofs.PictureLaws.{shown, rect-shown}
 
 -- ---- numbers
 digit-short : (n power : ℕ) → length (digit n power) ≤ 1

@@ -1,5 +1,3 @@
-pub mod TextLaws
-pub mod PictureLaws
 pub mod PlayerLaws
 pub mod Fits
 pub mod Promises

@@ -11,10 +11,10 @@ use lib.ListN.{length}
 use borrow.Author.Tests.{ltb-true}
 use Rattle.engine.specs.Step.{written}
 use Rattle.surface.proofs.OnLaws.{and-left}
-use Rattle.picture.specs.Text.{page, each, said, digit, digits, decimal}
+use Rattle.ppm.specs.Text.{page, each, said, digit, digits, decimal}
 use Rattle.picture.specs.Player.{freshPlayer, shifted, wrote, arrived, taken, fed, printed, start, sheetOf}
 use Rattle.picture.specs.Promises.{OneOpen, OneTake, OneFeed, OneText, AnyPieces, WholeText, WholeSheet, valueFrom, ReadBack, word, between, PairPlayed}
-use Rattle.picture.proofs.TextLaws.{each-append}
+use Rattle.ppm.proofs.TextLaws.{each-append}
 use Rattle.picture.proofs.PlayerLaws.{fed-long, start-long}
 use Rattle.picture.proofs.Fits.{printed-short, said-whole}
 

@@ -1,4 +1,2 @@
-pub mod Text
-pub mod Picture
 pub mod Player
 pub mod Promises

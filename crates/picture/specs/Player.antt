@@ -7,8 +7,8 @@ use lib.Dec.{eqb, ltb}
 use lib.ListN.{replicate}
 use Rattle.engine.specs.Step.{Step, written, numberOf, freshEngine, regs}
 use Rattle.picture.specs.declared.Player.{Player}
-use Rattle.picture.specs.Text.{each, numeral}
-use Rattle.picture.specs.Picture.{picture}
+use Rattle.ppm.specs.Text.{each, numeral}
+use Rattle.ppm.specs.Picture.{picture}
 
 -- the player with the memory that it is lent
 pub record Sheet : Type 0 where

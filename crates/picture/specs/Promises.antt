@@ -7,7 +7,7 @@ use lib.ListN.{length, take}
 use Rattle.engine.specs.declared.Engine.{Engine}
 use Rattle.engine.specs.Step.{written}
 use Rattle.picture.specs.declared.Player.{Player}
-use Rattle.picture.specs.Text.{Page, page, said, decimal}
+use Rattle.ppm.specs.Text.{Page, page, said, decimal}
 use Rattle.picture.specs.Player.{Sheet, sheet, freshPlayer, taken, fed, wrote, printed, start, sheetOf}
 
 -- ---- the contracts allow one outcome

@@ -1,17 +1,11 @@
-// A stream of register writes played byte by byte, and clip0's rectangle of the target surface as the text of a plain PPM.
+// A stream of register writes played byte by byte, and what is printed of it.
 use engine::Answer;
 use engine::Engine;
-use registers::Regs;
-use surface::Surface;
 ghost use mathlib.Core.Path.{_≡_};
-ghost use mathlib.Core.Bool.{false};
 ghost use Prim.Native.Nat.{_+_, _/_, _%_, _^_, _<_, _≤_};
 ghost use lib.ListN.{length};
-ghost use Rattle.surface.specs.Place.{readPx, OnColour};
-ghost use Rattle.surface.specs.Pixels.{across, rect};
 ghost use Rattle.engine.specs.Step.{numberOf, written};
-ghost use Rattle.picture.specs.Text.{page, put as Text·put, said, digit, numeral};
-ghost use Rattle.picture.specs.Picture.{shade as Picture·shade, line, lines, header, noPicture, shows, picture, RowOn, RectOn};
+ghost use Rattle.ppm.specs.Text.{page, said};
 ghost use Rattle.picture.specs.Player.{sheet, freshPlayer, shifted, counted, wrote, arrived, taken, fed, refusal, printed};
 
 // The engine, the last eight bytes that came and how many of them are of an unfinished pair, the number of pairs taken, and the number of
@@ -23,188 +17,6 @@ pub struct Player {
     pub played: u64,
     pub refused: u32,
 }
-
-// ---- text
-
-// One byte more, where there is room.
-fn put(out: &mut [u8], at: usize, b: u8) -> usize
-    ensures { λ r. ⌜ page (now (out .exit)) r ≡ Text·put b (page (now (out .entry)) at) ⌝ }
-{
-    if at < out.len() {
-        out[at] = b;
-        return at + 1;
-    }
-    at
-}
-
-fn say(out: &mut [u8], at: usize, text: &[u8]) -> usize
-    ensures { λ r. ⌜ page (now (out .exit)) r ≡ said (now (text .entry)) (page (now (out .entry)) at) ⌝ }
-{
-    let mut to = at;
-    let mut i = 0;
-    while i < text.len() {
-        to = put(out, to, text[i]);
-        i += 1;
-    }
-    to
-}
-
-fn say_digit(out: &mut [u8], at: usize, n: u64, power: u64) -> usize
-    requires { ⌜ 0 < power ⌝ }
-    ensures { λ r. ⌜ page (now (out .exit)) r ≡ said (digit n power) (page (now (out .entry)) at) ⌝ }
-{
-    if (n < power) & (1 < power) {
-        return at;
-    }
-    put(out, at, 48 + (n / power % 10) as u8)
-}
-
-// A number in decimal, and a byte after it.
-fn say_number(out: &mut [u8], at: usize, n: u64, after: u8) -> usize
-    ensures { λ r. ⌜ page (now (out .exit)) r ≡ said (numeral n after) (page (now (out .entry)) at) ⌝ }
-{
-    let mut to = at;
-    let mut power: u64 = 10_000_000_000_000_000_000;
-    let mut k: u32 = 20;
-    while 0 < k {
-        to = say_digit(out, to, n, power);
-        power = power / 10;
-        k -= 1;
-    }
-    put(out, to, after)
-}
-
-// ---- the picture
-
-fn shade(bytes: u32, v: u32) -> u32
-    ensures { λ r. ⌜ r ≡ Picture·shade bytes v ⌝ }
-{
-    if bytes == 1 {
-        return v % 0x100 * 0x10101;
-    }
-    colour::convert(bytes, 3, v)
-}
-
-fn channel(rgb: u32) -> u64
-    ensures { λ r. ⌜ r ≡ rgb % 2 ^ 8 ⌝ }
-{
-    (rgb % 0x100) as u64
-}
-
-fn say_line(out: &mut [u8], at: usize, rgb: u32) -> usize
-    ensures { λ r. ⌜ page (now (out .exit)) r ≡ said (line rgb) (page (now (out .entry)) at) ⌝ }
-{
-    let red = say_number(out, at, channel(rgb / 0x1_0000), b' ');
-    let green = say_number(out, red, channel(rgb / 0x100), b' ');
-    say_number(out, green, channel(rgb), b'\n')
-}
-
-fn say_pixel(out: &mut [u8], at: usize, mem: &[u8], s: Surface, x: u32, y: u32) -> usize
-    requires { ⌜ OnColour s (length (now mem)) x y ⌝ }
-    ensures { λ r. ⌜ page (now (out .exit)) r ≡ said (line (Picture·shade (s .bytes) (readPx (now (mem .entry)) s x y))) (page (now (out .entry)) at) ⌝ }
-{
-    let v = surface::get_pixel(mem, s, x, y);
-    let rgb = shade(s.bytes, v);
-    say_line(out, at, rgb)
-}
-
-fn say_row(out: &mut [u8], at: usize, mem: &[u8], s: Surface, x: u32, w: u32, y: u32) -> usize
-    requires { ⌜ RowOn s (length (now mem)) x w y × (x + w < 2 ^ 13) ⌝ }
-    ensures { λ r. ⌜ page (now (out .exit)) r ≡ said (lines s (now (mem .entry)) (across false x w y)) (page (now (out .entry)) at) ⌝ }
-{
-    let mut to = at;
-    let mut column = x;
-    let mut left = w;
-    while 0 < left {
-        to = say_pixel(out, to, mem, s, column, y);
-        column += 1;
-        left -= 1;
-    }
-    to
-}
-
-fn say_rows(
-    out: &mut [u8],
-    at: usize,
-    mem: &[u8],
-    s: Surface,
-    x: u32,
-    y: u32,
-    w: u32,
-    h: u32,
-) -> usize
-    requires { ⌜ RectOn s (length (now mem)) x y w h × ((x + w < 2 ^ 13) × (y + h < 2 ^ 13)) ⌝ }
-    ensures { λ r. ⌜ page (now (out .exit)) r ≡ said (lines s (now (mem .entry)) (rect false false x y w h)) (page (now (out .entry)) at) ⌝ }
-{
-    let mut to = at;
-    let mut row = y;
-    let mut left = h;
-    while 0 < left {
-        to = say_row(out, to, mem, s, x, w, row);
-        row += 1;
-        left -= 1;
-    }
-    to
-}
-
-fn wide(x: u32) -> u64
-    ensures { λ r. ⌜ r ≡ x ⌝ }
-{
-    x as u64
-}
-
-fn say_header(out: &mut [u8], at: usize, w: u32, h: u32) -> usize
-    ensures { λ r. ⌜ page (now (out .exit)) r ≡ said (header w h) (page (now (out .entry)) at) ⌝ }
-{
-    let width = say(out, at, b"P3\n");
-    let height = say_number(out, width, wide(w), b' ');
-    let most = say_number(out, height, wide(h), b'\n');
-    say(out, most, b"255\n")
-}
-
-fn say_nothing(out: &mut [u8], at: usize) -> usize
-    ensures { λ r. ⌜ page (now (out .exit)) r ≡ said noPicture (page (now (out .entry)) at) ⌝ }
-{
-    say(out, at, b"no picture\n")
-}
-
-// Whether clip0's rectangle is not empty and on the target surface.
-fn has_picture(len: usize, r: Regs) -> bool
-    ensures { λ b. ⌜ b ≡ shows r len ⌝ }
-{
-    if !formats::names_target(r.dstBaseAddr, r.dstFormat) {
-        return false;
-    }
-    let left = r.clip0Min % 0x1000;
-    let right = r.clip0Max % 0x1000;
-    if right <= left {
-        return false;
-    }
-    let top = r.clip0Min / 0x1_0000 % 0x1000;
-    let bottom = r.clip0Max / 0x1_0000 % 0x1000;
-    if bottom <= top {
-        return false;
-    }
-    let s = formats::target_of(r.dstBaseAddr, r.dstFormat);
-    spans::rect_on(len, s, left, top, right - left, bottom - top)
-}
-
-fn say_picture(out: &mut [u8], at: usize, mem: &[u8], r: Regs) -> usize
-    ensures { λ n. ⌜ page (now (out .exit)) n ≡ said (picture r (now (mem .entry))) (page (now (out .entry)) at) ⌝ }
-{
-    if !has_picture(mem.len(), r) {
-        return say_nothing(out, at);
-    }
-    let left = r.clip0Min % 0x1000;
-    let top = r.clip0Min / 0x1_0000 % 0x1000;
-    let w = r.clip0Max % 0x1000 - left;
-    let h = r.clip0Max / 0x1_0000 % 0x1000 - top;
-    let s = formats::target_of(r.dstBaseAddr, r.dstFormat);
-    let body = say_header(out, at, w, h);
-    say_rows(out, body, mem, s, left, top, w, h)
-}
-
-// ---- the stream
 
 fn number(a: Answer) -> u32
     ensures { λ r. ⌜ r ≡ numberOf a ⌝ }
@@ -234,10 +46,10 @@ fn count(number: u32, played: u64) -> u64
 fn say_refusal(out: &mut [u8], at: usize, number: u32, index: u64) -> usize
     ensures { λ r. ⌜ page (now (out .exit)) r ≡ said (refusal number index) (page (now (out .entry)) at) ⌝ }
 {
-    let first = say(out, at, b"refused ");
-    let second = say_number(out, first, wide(number), b' ');
-    let third = say(out, second, b"at ");
-    say_number(out, third, index, b'\n')
+    let first = ppm::say(out, at, b"refused ");
+    let second = ppm::say_number(out, first, ppm::wide(number), b' ');
+    let third = ppm::say(out, second, b"at ");
+    ppm::say_number(out, third, index, b'\n')
 }
 
 // The number of the last eight bytes, the new one highest.
@@ -333,11 +145,11 @@ impl Player {
             return say_refusal(out, 0, refused, self.played);
         }
         if 0 < self.held {
-            return say(out, 0, b"short write\n");
+            return ppm::say(out, 0, b"short write\n");
         }
         let engine = self.engine;
         let bank = engine.bank;
         let regs = bank.regs;
-        say_picture(out, 0, mem, regs)
+        ppm::say_picture(out, 0, mem, regs)
     }
 }

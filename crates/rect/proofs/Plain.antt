@@ -12,10 +12,10 @@ use borrow.Author.Tests.{ne-eqb, eqb-true}
 use lib.Dec.{eqb}
 use lib.ListN.{length, getD, set}
 use lib.Seq.{getD-set-same, lt-length-set}
-use Rattle.colour.proofs.RopLaws.{copies}
+use Rattle.raster.proofs.RopLaws.{copies}
 use Rattle.colour.proofs.ConvertLaws.{converted-same}
 use Rattle.colour.specs.Convert.{converted}
-use Rattle.colour.specs.Key.{keyMatch}
+use Rattle.keys.specs.Key.{keyMatch}
 use Rattle.surface.specs.declared.Surface.{Surface}
 use Rattle.surface.specs.Place.{byteOf, readBytes, writeBytes, readPx, writePx, monoBit, OnColour}
 use Rattle.surface.specs.Pixels.{Px, rect}

@@ -7,8 +7,8 @@ use mathlib.Core.Option.{Option, some}
 use Prim.Native.Nat.{ℕ, _-_}
 use borrow.Author.Tests.{eqb-true}
 use lib.Dec.{eqb}
-use Rattle.colour.specs.Rop.{ropBits}
-use Rattle.colour.proofs.RopLaws.{copies}
+use Rattle.raster.specs.Rop.{ropBits}
+use Rattle.raster.proofs.RopLaws.{copies}
 use Rattle.surface.specs.Place.{readPx}
 use Rattle.surface.specs.Pixels.{Px}
 use Rattle.surface.proofs.OnLaws.{and-left, and-right}

@@ -196,7 +196,7 @@ pub fn paint_rect(mem: &mut [u8], t: Task, pattern: [u8; 256], w: u32, h: u32) -
     ensures { λ r. ⌜ state (now (mem .exit)) r ≡ paint (t .ink .target) (asBefore t pattern (now (mem .entry)) (rect false false (t .x) (t .y) w h)) (state (now (mem .entry)) 0) ⌝ }
 {
     if is_solid(t) {
-        let v = colour::raster(0xcc, 0, t.ink.fore, 0);
+        let v = raster::raster(0xcc, 0, t.ink.fore, 0);
         return runs::solid_rows(mem, t.ink.target, v, t.x, t.y, w, h);
     }
     let back = goes_back(t);

@@ -1,7 +1,6 @@
 pub mod Arms
 pub mod OffsetLaws
 pub mod RegsLaws
-pub mod PositionLaws
 pub mod BackLaws
 pub mod KeptLaws
 pub mod Words

@@ -2,4 +2,3 @@ pub mod Regs
 pub mod Kept
 pub mod Offsets
 pub mod Bank
-pub mod Position

@@ -12,10 +12,10 @@ use Rattle.surface.proofs.Lists.{In}
 use Rattle.surface.proofs.Rects.{same-px, rect-in}
 use Rattle.spans.proofs.Spans.{IsByte, addresses-in}
 use Rattle.paint.specs.Clip.{origin, pixelAt}
-use Rattle.command.specs.declared.Cut.{Cut}
-use Rattle.command.specs.Decode.{needed}
+use Rattle.cuts.specs.declared.Cut.{Cut}
+use Rattle.cuts.specs.Cut.{needed}
 use Rattle.table.specs.Table.{allOnAt, pixels}
-use Rattle.command.proofs.CutLaws.{needed-rect}
+use Rattle.cuts.proofs.CutLaws.{needed-rect}
 use Rattle.table.proofs.Sources.{needed-first, needed-pixels}
 use Rattle.table.proofs.Verdicts.{source-on}
 use Rattle.restore.specs.Rectangles.{Rectangle, positions, Has, addressesIn}

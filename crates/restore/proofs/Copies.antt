@@ -27,10 +27,11 @@ use Rattle.paint.proofs.ClipLaws.{Covered, in-clip}
 use Rattle.paint.proofs.Frame.{Bytes}
 use Rattle.rect.proofs.Plain.{PlainCopy, plain-moves, plain-counts}
 use Rattle.registers.specs.declared.Regs.{Regs}
-use Rattle.command.specs.declared.Cut.{Cut}
-use Rattle.command.specs.Decode.{width, height, target, origins, inkOf, clipOf, firstOf, cutAt, copyCut, covered, needed, copyTask}
+use Rattle.cuts.specs.declared.Cut.{Cut}
+use Rattle.command.specs.Decode.{target, origins, inkOf, copyTask}
+use Rattle.cuts.specs.Cut.{width, height, clipOf, firstOf, cutAt, copyCut, covered, needed}
 use Rattle.table.specs.Table.{allOnAt, pixels, sameSurface, copyVerdict}
-use Rattle.command.proofs.CutLaws.{needed-rect}
+use Rattle.cuts.proofs.CutLaws.{needed-rect}
 use Rattle.table.proofs.Sources.{needed-none, no-clash}
 use Rattle.table.proofs.Rows.{copy-by}
 use Rattle.table.proofs.Verdicts.{copy-can}

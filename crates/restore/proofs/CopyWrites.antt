@@ -17,7 +17,8 @@ use Rattle.registers.specs.declared.Regs.{Regs}
 use Rattle.registers.specs.declared.Place.{Place}
 use Rattle.registers.specs.declared.Place.the-variants.{Register, Pattern, Launch, Nowhere}
 use Rattle.registers.specs.Offsets.{placeOf}
-use Rattle.command.specs.Decode.{bit, number, width, height, target, copyCut, covered, copyTask}
+use Rattle.command.specs.Decode.{target, copyTask}
+use Rattle.cuts.specs.Cut.{bit, number, width, height, copyCut, covered}
 use Rattle.table.specs.Table.{copyVerdict}
 use Rattle.engine.specs.declared.Engine.{Engine}
 use Rattle.engine.specs.declared.Answer.{Answer}

@@ -15,7 +15,7 @@ use Rattle.registers.specs.declared.Regs.{Regs}
 use Rattle.registers.specs.declared.Place.{Place}
 use Rattle.registers.specs.declared.Place.the-variants.{Register, Pattern, Launch, Nowhere}
 use Rattle.registers.specs.Offsets.{placeOf}
-use Rattle.command.specs.Decode.{number}
+use Rattle.cuts.specs.Cut.{number}
 use Rattle.engine.specs.declared.Engine.{Engine}
 use Rattle.engine.specs.Step.{Step, numberOf}
 use Rattle.engine.specs.Orders.{launching, orderAt, order}

@@ -8,7 +8,8 @@ use lib.ListN.{length}
 use Rattle.surface.proofs.OnLaws.{and-left}
 use Rattle.formats.proofs.FormatLaws.{target-colour}
 use Rattle.registers.specs.declared.Regs.{Regs}
-use Rattle.command.specs.Decode.{width, height, origins}
+use Rattle.command.specs.Decode.{origins}
+use Rattle.cuts.specs.Cut.{width, height}
 use Rattle.table.specs.Table.{targetFine}
 use Rattle.engine.specs.declared.Engine.{Engine}
 use Rattle.engine.specs.declared.Answer.{Answer}

@@ -6,7 +6,7 @@ use mathlib.Core.List.{List, [], _∷_}
 use Prim.Native.Nat.{ℕ, zero, suc, _<_}
 use native.Mathlib.Omega.{arith}
 use lib.ListN.{getD}
-use Rattle.colour.specs.Rop as Rop
+use Rattle.raster.specs.Rop as Rop
 use Rattle.colour.specs.Convert.{converted, allowed}
 use Rattle.surface.specs.Place as Place
 use Rattle.surface.specs.Pixels.{across, rect}
@@ -23,8 +23,9 @@ use Rattle.registers.specs.Bank.{freshBank, stored}
 use Rattle.registers.specs.Kept.{kept}
 use Rattle.registers.specs.Regs.{putReg}
 use Rattle.registers.specs.Offsets.{placeOf}
-use Rattle.registers.specs.Position.{steppedXY}
-use Rattle.command.specs.Decode.{inkOf, clipOf, cutAt, fillCut, copyCut, fillTask, copyTask}
+use Rattle.positions.specs.Position.{steppedXY}
+use Rattle.command.specs.Decode.{inkOf, fillTask, copyTask}
+use Rattle.cuts.specs.Cut.{clipOf, cutAt, fillCut, copyCut}
 use Rattle.table.specs.Table.{allOnAt, fillVerdict, copyVerdict}
 use Rattle.engine.specs.declared.Engine.{Engine}
 use Rattle.engine.specs.Step.{freshEngine, storedIn, afterRect, filled, copied, launched, toRegister, commanded, written}

@@ -9,8 +9,9 @@ use Rattle.surface.specs.declared.Surface.{Surface}
 use Rattle.surface.specs.Pixels.{Px, px, rect, Inside}
 use Rattle.spans.specs.Span.{addresses, spanOf, meet}
 use Rattle.registers.specs.declared.Regs.{Regs}
-use Rattle.registers.specs.Position.{placed}
-use Rattle.command.specs.Decode.{width, height, target, origins}
+use Rattle.positions.specs.Position.{placed}
+use Rattle.command.specs.Decode.{target, origins}
+use Rattle.cuts.specs.Cut.{width, height}
 use Rattle.table.specs.Table.{pixels}
 
 pub record Rectangle : Type 0 where

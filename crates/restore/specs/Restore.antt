@@ -9,7 +9,8 @@ use lib.ListN.{length, getD}
 use Rattle.formats.specs.Step.{packingOf}
 use Rattle.paint.specs.Clip.{inClip}
 use Rattle.registers.specs.declared.Regs.{Regs}
-use Rattle.command.specs.Decode.{bit, number, width, height, target, origins, clipOf}
+use Rattle.command.specs.Decode.{target, origins}
+use Rattle.cuts.specs.Cut.{bit, number, width, height, clipOf}
 use Rattle.table.specs.Table.{bothFine, allOnAt}
 use Rattle.engine.specs.declared.Engine.{Engine}
 use Rattle.engine.specs.declared.Answer.{Answer}

@@ -167,7 +167,7 @@ fn read_line(line: &[u8]) -> Line {
 
 // Whether the raster operation of this code gives, on all eight combinations, what the formula gives.
 fn agrees(code: u8, formula: u8) -> bool {
-    colour::raster(wide(code), wide(PATTERN), wide(SOURCE), wide(TARGET)) % 256 == wide(formula)
+    raster::raster(wide(code), wide(PATTERN), wide(SOURCE), wide(TARGET)) % 256 == wide(formula)
 }
 
 fn one_more(n: u64) -> u64 {

@@ -2,7 +2,7 @@
 -- Assumes nothing.
 use mathlib.Core.Path.{_≡_, refl}
 use mathlib.Core.List.{map}
-use Rattle.colour.specs.Rop.{ropBit, ropBits}
+use Rattle.raster.specs.Rop.{ropBit, ropBits}
 use Rattle.surface.specs.Place.{rowBytes, byteAt, monoBit, rowPixels, firstByte, byteCount, inMemory, onSurface}
 use Rattle.surface.specs.Pixels.{across}
 use Rattle.spans.specs.Span.{allOn}
@@ -11,7 +11,7 @@ use Rattle.formats.specs.Step.{rowLength, stepOf, dataBytes, dataWords}
 use Rattle.views.specs.View.{viewAnswer}
 use Rattle.line.specs.Line.{far, towards, xMajor, longer, shorter, aside, place, pointAt, pointsFrom, pointCount, points}
 use Rattle.line.specs.Stipple.{stepped, after, styleAfter}
-use Rattle.registers.specs.Position.{steppedXY}
+use Rattle.positions.specs.Position.{steppedXY}
 use Rattle.samples.specs.Sheet.{sheet}
 
 pub samples : map (λ line. line .given) sheet ≡ map (λ line. line .said) sheet

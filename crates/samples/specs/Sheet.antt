@@ -5,13 +5,13 @@ use mathlib.Core.Bool.{true, false, cond}
 use Prim.Native.Nat.{ℕ, zero, suc, _-_, _/_, _%_}
 use lib.Dec.{eqb}
 use Rattle.colour.specs.Convert.{repeated, narrowed}
-use Rattle.colour.specs.Rop.{ropBits}
+use Rattle.raster.specs.Rop.{ropBits}
 use Rattle.surface.specs.Place.{surface, monoBit}
 use Rattle.formats.specs.Step.{stepOf, dataWords}
 use Rattle.views.specs.View.{viewAnswer}
 use Rattle.line.specs.Line.{lineFrom, flat, points}
 use Rattle.line.specs.Stipple.{styleAfter}
-use Rattle.registers.specs.Position.{origin, placed, steppedXY}
+use Rattle.positions.specs.Position.{origin, placed, steppedXY}
 
 -- a line of the sheet: the numbers that the definitions give, and those that the sheet says
 pub record Line : Type 0 where

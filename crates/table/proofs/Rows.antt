@@ -7,7 +7,8 @@ use Rattle.spans.specs.Span.{allOn, spanOf, meet}
 use Rattle.line.specs.Line.{points}
 use Rattle.line.specs.Draw.{lineOff}
 use Rattle.registers.specs.declared.Regs.{Regs}
-use Rattle.command.specs.Decode.{target, origins, clipOf, fillCut, copyCut, covered, needed, lineOf}
+use Rattle.command.specs.Decode.{target, origins, lineOf}
+use Rattle.cuts.specs.Cut.{clipOf, fillCut, copyCut, covered, needed}
 use Rattle.table.specs.Table.{targetFine, bothFine, allOnAt, pixels, sameSurface, hostFault, fillVerdict, copyVerdict, hostVerdict, lineVerdict}
 
 module _ (r : Regs) (len : ℕ) where

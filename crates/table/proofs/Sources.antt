@@ -19,10 +19,10 @@ use Rattle.surface.proofs.Rects.{same-px, in-rect, rect-in}
 use Rattle.spans.proofs.Corner.{all-each, each-all}
 use Rattle.spans.proofs.Spans.{rect-empty}
 use Rattle.paint.specs.Clip.{origin, pixelAt}
-use Rattle.command.specs.declared.Cut.{Cut}
-use Rattle.command.specs.Decode.{covered, needed}
+use Rattle.cuts.specs.declared.Cut.{Cut}
+use Rattle.cuts.specs.Cut.{covered, needed}
 use Rattle.table.specs.Table.{onAt, allOnAt, pixels}
-use Rattle.command.proofs.CutLaws.{needed-rect, rect-map, none-left}
+use Rattle.cuts.proofs.CutLaws.{needed-rect, rect-map, none-left}
 
 pub needed-pixels : (c : Cut) → origin ≤ c .sx → origin ≤ c .sy → pixels (needed c) ≡ rect false false (c .sx - origin) (c .sy - origin) (c .w) (c .h)
 needed-pixels c left top =

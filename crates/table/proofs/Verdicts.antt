@@ -31,11 +31,12 @@ use Rattle.host.specs.Draw.{Opened}
 use Rattle.plain.specs.Plain.{Plainly}
 use Rattle.host.proofs.Needed.{data-small}
 use Rattle.registers.specs.declared.Regs.{Regs}
-use Rattle.registers.specs.Position.{placed}
-use Rattle.command.specs.declared.Cut.{Cut}
-use Rattle.command.specs.Decode.{bit, width, height, target, origins, inkOf, plainBlit, plainOf, clipOf, firstOf, cutAt, fillCut, copyCut, covered, needed, fillTask, copyTask, lineOf, feedOf, CutRange}
+use Rattle.positions.specs.Position.{placed}
+use Rattle.cuts.specs.declared.Cut.{Cut}
+use Rattle.command.specs.Decode.{target, origins, inkOf, plainBlit, plainOf, fillTask, copyTask, lineOf, feedOf}
+use Rattle.cuts.specs.Cut.{bit, width, height, clipOf, firstOf, cutAt, fillCut, copyCut, covered, needed, CutRange}
 use Rattle.table.specs.Table.{targetFine, bothFine, allOnAt, pixels, sameSurface, hostFault, fillVerdict, copyVerdict, hostVerdict, lineVerdict, InRows}
-use Rattle.command.proofs.CutLaws.{clip-bits, Bounded, cut-bounded}
+use Rattle.cuts.proofs.CutLaws.{clip-bits, Bounded, cut-bounded}
 use Rattle.table.proofs.Sources.{needed-first, needed-as-pixels, needed-pixels, no-clash}
 
 -- ---- a verdict of 0 has passed each test

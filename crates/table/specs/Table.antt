@@ -15,8 +15,9 @@ use Rattle.paint.specs.Clip.{origin, pixelAt}
 use Rattle.line.specs.Line.{points}
 use Rattle.line.specs.Draw.{lineOff}
 use Rattle.registers.specs.declared.Regs.{Regs}
-use Rattle.command.specs.declared.Cut.{Cut}
-use Rattle.command.specs.Decode.{width, target, origins, clipOf, fillCut, copyCut, covered, needed, lineOf}
+use Rattle.cuts.specs.declared.Cut.{Cut}
+use Rattle.command.specs.Decode.{target, origins, lineOf}
+use Rattle.cuts.specs.Cut.{width, clipOf, fillCut, copyCut, covered, needed}
 
 -- ---- row 5: a surface is tiled or has a format not listed, or the conversion is not allowed
 abbrev pub targetFine : Regs → Bool

@@ -1,12 +1,12 @@
 // Rows 5 to 8 of the table of answers, for a command as the registers have it.
-use command::Cut;
+use cuts::Cut;
 use registers::Regs;
 use surface::Surface;
 ghost use mathlib.Core.Path.{_≡_};
 ghost use Prim.Native.Nat.{_-_, _<_};
 ghost use Rattle.surface.specs.Place.{Small};
 ghost use Rattle.spans.specs.Span.{spanOf, meet};
-ghost use Rattle.command.specs.Decode.{covered, needed};
+ghost use Rattle.cuts.specs.Cut.{covered, needed};
 ghost use Rattle.table.specs.Table.{bothFine, allOnAt, pixels, sameSurface, hostFault, InRows, fillVerdict, copyVerdict, hostVerdict, lineVerdict};
 
 fn both_fine(r: Regs) -> bool
@@ -68,7 +68,7 @@ pub fn fill_verdict(len: usize, r: Regs) -> u32
         return 5;
     }
     let t = command::target_surface(r);
-    let c = command::fill_cut(r);
+    let c = cuts::fill_cut(r);
     if spans::rect_on(len, t, c.x, c.y, c.w, c.h) {
         return 0;
     }
@@ -83,7 +83,7 @@ pub fn copy_verdict(len: usize, r: Regs) -> u32
     }
     let t = command::target_surface(r);
     let s = command::source_surface(r);
-    let c = command::copy_cut(r);
+    let c = cuts::copy_cut(r);
     if !spans::rect_on(len, t, c.x, c.y, c.w, c.h) {
         return 7;
     }
@@ -120,7 +120,7 @@ pub fn host_verdict(len: usize, r: Regs) -> u32
         return 6;
     }
     let t = command::target_surface(r);
-    let c = command::fill_cut(r);
+    let c = cuts::fill_cut(r);
     if spans::rect_on(len, t, c.x, c.y, c.w, c.h) {
         return 0;
     }
@@ -134,7 +134,7 @@ pub fn line_verdict(len: usize, r: Regs) -> u32
         return 5;
     }
     let t = command::target_surface(r);
-    let c = command::decode_clip(r);
+    let c = cuts::decode_clip(r);
     let l = command::decode_line(r);
     if line::line_off(len, t, c, l) {
         return 7;

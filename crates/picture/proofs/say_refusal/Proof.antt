@@ -2,9 +2,9 @@
 -- Assumes nothing.
 use borrow.Author.Needs.{needs}
 use mathlib.Core.List.{[], _∷_}
-use Rattle.picture.specs.Text.{page, numeral}
+use Rattle.ppm.specs.Text.{page, numeral}
 use Rattle.picture.specs.Player.{refusal}
-use Rattle.picture.proofs.TextLaws.{four}
+use Rattle.ppm.proofs.TextLaws.{four}
 use Rattle.picture.proofs.say_refusal.Statement.{statement}
 use Rattle.picture.proofs.say_refusal.Tie as tie
 

@@ -5,8 +5,9 @@ use mathlib.Core.Path.{refl, sym, ap, ap₂, _∙_}
 use borrow.Author.Tests.{not-true, not-false}
 use Rattle.surface.specs.declared.Surface.{Surface}
 use Rattle.spans.specs.Span.{allOn, spanOf, meet}
-use Rattle.command.specs.declared.Cut.{Cut}
-use Rattle.command.specs.Decode.{origins, copyCut, covered, needed, width}
+use Rattle.cuts.specs.declared.Cut.{Cut}
+use Rattle.command.specs.Decode.{origins}
+use Rattle.cuts.specs.Cut.{copyCut, covered, needed, width}
 use Rattle.table.specs.Table.{allOnAt, pixels, sameSurface}
 use native.Mathlib.Omega.{arith}
 use Rattle.formats.proofs.FormatLaws.{target-small, source-small}

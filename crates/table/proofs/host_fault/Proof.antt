@@ -2,7 +2,7 @@
 -- Assumes nothing.
 use borrow.Author.Needs.{needs}
 use native.Mathlib.Omega.{arith}
-use Rattle.command.specs.Decode.{width}
+use Rattle.cuts.specs.Cut.{width}
 use Rattle.formats.proofs.FormatLaws.{source-small}
 use Rattle.table.proofs.host_fault.Statement.{statement}
 use Rattle.table.proofs.host_fault.Tie as tie

@@ -7,8 +7,8 @@ use Rattle.formats.proofs.FormatLaws.{target-small}
 use Rattle.table.proofs.Rows.{host-format, host-faulty, host-by}
 use Rattle.surface.specs.declared.Surface.{Surface}
 use Rattle.spans.specs.Span.{allOn}
-use Rattle.command.specs.declared.Cut.{Cut}
-use Rattle.command.specs.Decode.{covered}
+use Rattle.cuts.specs.declared.Cut.{Cut}
+use Rattle.cuts.specs.Cut.{covered}
 use Rattle.table.proofs.host_verdict.Statement.{statement}
 use Rattle.table.proofs.host_verdict.Tie as tie
 

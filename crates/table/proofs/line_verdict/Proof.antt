@@ -9,8 +9,9 @@ use Rattle.paint.specs.declared.Clip.{Clip}
 use Rattle.line.specs.declared.Line.{Line}
 use Rattle.line.specs.Line.{points}
 use Rattle.line.specs.Draw.{lineOff}
-use Rattle.command.specs.Decode.{clipOf, lineOf}
-use Rattle.command.proofs.CutLaws.{clip-bits}
+use Rattle.command.specs.Decode.{lineOf}
+use Rattle.cuts.specs.Cut.{clipOf}
+use Rattle.cuts.proofs.CutLaws.{clip-bits}
 use Rattle.table.proofs.Rows.{line-format, line-by}
 use Rattle.table.proofs.Verdicts.{line-placed}
 use Rattle.table.proofs.line_verdict.Statement.{statement}

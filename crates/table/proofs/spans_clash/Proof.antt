@@ -4,7 +4,7 @@ use borrow.Author.Needs.{needs}
 use native.Mathlib.Omega.{arith}
 use mathlib.Core.Path.{sym, ap, ap₂, _∙_}
 use Rattle.spans.specs.Span.{spanOf, meet}
-use Rattle.command.specs.Decode.{needed}
+use Rattle.cuts.specs.Cut.{needed}
 use Rattle.table.specs.Table.{pixels}
 use Rattle.table.proofs.Sources.{no-clash, needed-pixels}
 use Rattle.table.proofs.spans_clash.Statement.{statement}

@@ -3,7 +3,8 @@
 use borrow.Author.Needs.{needs}
 use mathlib.Core.Path.{ap, ap₂, _∙_}
 use lib.ListN.{length}
-use Rattle.command.specs.Decode.{target, inkOf, clipOf}
+use Rattle.command.specs.Decode.{target, inkOf}
+use Rattle.cuts.specs.Cut.{clipOf}
 use Rattle.paint.specs.declared.Ink.{Ink}
 use Rattle.paint.specs.declared.Clip.{Clip}
 use Rattle.paint.specs.Paint.{state, paint}

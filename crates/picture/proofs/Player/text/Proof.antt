@@ -4,9 +4,9 @@ use borrow.Author.Needs.{needs}
 use native.Mathlib.Omega.{arith}
 use borrow.Author.Tests.{eq-eqb, ne-eqb}
 use Rattle.engine.specs.Step.{regs}
-use Rattle.picture.specs.Picture.{picture}
+use Rattle.ppm.specs.Picture.{picture}
 use Rattle.picture.specs.Player.{refusal, shortWrite, printed}
-use Rattle.picture.proofs.TextLaws.{text-within}
+use Rattle.ppm.proofs.TextLaws.{text-within}
 use Rattle.picture.proofs.Player.text.Statement.{statement}
 use Rattle.picture.proofs.Player.text.Tie as tie
 

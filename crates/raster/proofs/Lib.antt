@@ -1,0 +1,2 @@
+pub mod RopTree
+pub mod RopLaws

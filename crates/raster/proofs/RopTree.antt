@@ -1,0 +1,104 @@
+-- The raster operation as the code does it, by seven choices between masks, is the raster operation bit by bit, at every width.
+-- Assumes nothing.
+use mathlib.Core.Path.{_≡_, refl, sym, ap, _∙_}
+use Prim.Native.Nat.{ℕ, zero, suc, _-_, _*_, _/_, _%_, _^_}
+use native.Mathlib.Nat.{div-add-mod', mul-zero, pow-suc}
+use native.Mathlib.Omega.{arith}
+use lib.Pow.{pow-pos}
+use lib.Bits.{bitAnd, bitXor, and-shr, and-mod, xor-shr, xor-mod, and-zero-r, xor-zero-r}
+use Rattle.raster.specs.Rop.{ropBit, ropBits}
+use Rattle.colour.proofs.Bits.{Bit, off, on, bit, eight, join}
+
+-- n bits, all equal to bit k of the code
+unfoldable pub mask : ℕ → ℕ → ℕ → ℕ
+mask n code k = code / 2 ^ k % 2 * (2 ^ n - 1)
+
+-- at each bit: a where sel has a 1, b where it has a 0
+unfoldable pub muxed : ℕ → ℕ → ℕ → ℕ
+muxed sel a b = bitXor b (bitAnd sel (bitXor a b))
+
+-- eight values by three bits of choice
+abbrev chosen : ℕ → ℕ → ℕ → (ℕ → ℕ) → ℕ
+chosen p s d m =
+    muxed p
+    (muxed s (muxed d (m 7) (m 6)) (muxed d (m 5) (m 4)))
+    (muxed s (muxed d (m 3) (m 2)) (muxed d (m 1) (m 0)))
+
+-- what the code computes, at n bits
+unfoldable pub tree : ℕ → ℕ → ℕ → ℕ → ℕ → ℕ
+tree n code p s d = chosen p s d (mask n code)
+
+-- a choice at the lowest bit, and above it
+muxed-odd : (s a b : ℕ) → muxed s a b % 2 ≡ muxed (s % 2) (a % 2) (b % 2)
+unfolding muxed
+muxed-odd s a b =
+    xor-mod b (bitAnd s (bitXor a b)) 1
+    ∙ ap (bitXor (b % 2)) (and-mod s (bitXor a b) 1 ∙ ap (bitAnd (s % 2)) (xor-mod a b 1))
+
+muxed-half : (s a b : ℕ) → muxed s a b / 2 ≡ muxed (s / 2) (a / 2) (b / 2)
+unfolding muxed
+muxed-half s a b =
+    xor-shr b (bitAnd s (bitXor a b)) 1
+    ∙ ap (bitXor (b / 2)) (and-shr s (bitXor a b) 1 ∙ ap (bitAnd (s / 2)) (xor-shr a b 1))
+
+muxed-zero : (s : ℕ) → muxed s 0 0 ≡ 0
+unfolding muxed
+muxed-zero s = and-zero-r s
+
+-- a mask at its lowest bit, and above it
+ones-odd : (n : ℕ) {c : ℕ} → Bit c → c * (2 ^ suc n - 1) % 2 ≡ c
+ones-odd n off = omega arith
+ones-odd n on = rw pow-suc (omega (arith, pow-pos n))
+
+ones-half : (n : ℕ) {c : ℕ} → Bit c → c * (2 ^ suc n - 1) / 2 ≡ c * (2 ^ n - 1)
+ones-half n off = omega arith
+ones-half n on = rw pow-suc (omega arith)
+
+mask-odd : (n code k : ℕ) → mask (suc n) code k % 2 ≡ code / 2 ^ k % 2
+unfolding mask
+mask-odd n code k = ones-odd n (bit (code / 2 ^ k))
+
+mask-half : (n code k : ℕ) → mask (suc n) code k / 2 ≡ mask n code k
+unfolding mask
+mask-half n code k = ones-half n (bit (code / 2 ^ k))
+
+mask-zero : (code k : ℕ) → mask 0 code k ≡ 0
+unfolding mask
+mask-zero code k = mul-zero (code / 2 ^ k % 2)
+
+-- a choice between bits
+choose-first : {a b : ℕ} → Bit a → Bit b → muxed 1 a b ≡ a
+unfolding muxed
+choose-first off off = refl
+choose-first off on = refl
+choose-first on off = refl
+choose-first on on = refl
+
+choose-on : (x y : ℕ) → muxed 1 (x % 2) (y % 2) ≡ x % 2
+choose-on x y = choose-first (bit x) (bit y)
+
+choose-off : (a b : ℕ) → muxed 0 a b ≡ b
+unfolding muxed
+choose-off a b = xor-zero-r b
+
+chosen-bit : (code : ℕ) {p s d : ℕ} → Bit p → Bit s → Bit d → chosen p s d (λ k. code / 2 ^ k % 2) ≡ ropBit code p s d
+unfolding ropBit
+chosen-bit code =
+    eight (λ p s d. chosen p s d (λ k. code / 2 ^ k % 2) ≡ ropBit code p s d)
+    (simp choose-off) (simp (choose-on, choose-off)) (simp (choose-on, choose-off)) (simp (choose-on, choose-off))
+    (simp (choose-on, choose-off)) (simp (choose-on, choose-off)) (simp (choose-on, choose-off)) (simp choose-on)
+
+tree-odd : (n code p s d : ℕ) → tree (suc n) code p s d % 2 ≡ ropBit code (p % 2) (s % 2) (d % 2)
+unfolding tree
+tree-odd n code p s d = simp (muxed-odd, mask-odd) (chosen-bit code (bit p) (bit s) (bit d))
+
+tree-half : (n code p s d : ℕ) → tree (suc n) code p s d / 2 ≡ tree n code (p / 2) (s / 2) (d / 2)
+unfolding tree
+tree-half n code p s d = simp (muxed-half, mask-half)
+
+pub tree-is : (n code p s d : ℕ) → tree n code p s d ≡ ropBits n code p s d
+unfolding tree ropBits
+tree-is zero code p s d = simp (mask-zero, muxed-zero)
+tree-is (suc n) code p s d =
+    sym (div-add-mod' (tree (suc n) code p s d) 2)
+    ∙ join (tree-half n code p s d ∙ tree-is n code (p / 2) (s / 2) (d / 2)) (tree-odd n code p s d)
