@@ -1,23 +1,22 @@
 -- Laws of drawing by address: one point and the others, and that a line inside the clip whose points get their source is drawn so.
 -- Assumes nothing.
-use mathlib.Core.Path.{_≡_, refl, sym, ap, ap₂, subst, _∙_}
+use mathlib.Core.Path.{_≡_, refl, sym, ap₂, subst, _∙_}
 use mathlib.Core.Bool.{true, _&&_}
 use mathlib.Core.List.{List, [], _∷_}
-use Prim.Native.Nat.{ℕ, zero, suc, _+_, _-_, _*_, _^_, _<_, _≤_}
-use native.Mathlib.Nat.{add-zero}
+use Prim.Native.Nat.{ℕ, zero, suc, _+_, _-_, _^_, _<_, _≤_}
 use native.Mathlib.Decide.{ℕ-discrete}
 use native.Mathlib.Omega.{arith}
 use Rattle.surface.specs.declared.Surface.{Surface}
-use Rattle.surface.specs.Place.{byteAt, byteOf, readPx, writeBytes, writePx, onSurface, OnColour}
+use Rattle.surface.specs.Place.{byteOf, readPx, onSurface}
 use Rattle.surface.specs.Pixels.{Px, px}
 use Rattle.spans.specs.Span.{allOn}
-use Rattle.surface.proofs.OnLaws.{and-left, and-right, colour-byte}
-use Rattle.surface.proofs.Rows.{byteAt-run}
+use Rattle.surface.proofs.OnLaws.{and-left, and-right}
+use Rattle.surface.proofs.Run.{write-run}
 use Rattle.surface.proofs.Lists.{by-cases}
 use Rattle.paint.specs.declared.Clip.{Clip}
 use Rattle.paint.specs.declared.Ink.{Ink}
 use Rattle.paint.specs.declared.Source.{Source}
-use Rattle.paint.specs.Paint.{State, state, dab, Touch, touch, paint}
+use Rattle.paint.specs.Paint.{State, dab, Touch, touch, paint}
 use Rattle.paint.specs.Pattern.{patternValue}
 use Rattle.paint.specs.Mix.{bitSource, placed, direct}
 use Rattle.paint.specs.Clip.{origin, inClip, pixelAt}
@@ -34,22 +33,11 @@ use Rattle.line.proofs.DrawLaws.{point-on, on-turn}
 use Rattle.strokes.proofs.PutLaws.{direct-source}
 
 -- ---- a pixel from its address on
-byte-run : (s : Surface) (x y k : ℕ) → byteOf s x y k ≡ byteOf s x y 0 + k
-unfolding byteOf
-byte-run s x y k = byteAt-run s (x * s .bytes) k y ∙ ap (λ (a : ℕ). byteAt s a y + k) (sym (add-zero (x * s .bytes)))
-
-pub bytes-inside : {s : Surface} {len x y : ℕ} → OnColour s len x y → (a : ℕ) → a ≡ byteOf s x y 0 → a + s .bytes ≤ len
-bytes-inside {s} {len} {x} {y} on a e =
-    let p = on .colour .some in
-    omega (arith, colour-byte on (s .bytes - 1) (omega arith) .inside, byte-run s x y (s .bytes - 1))
-
 pub put-dab : (s : Surface) (x y a : ℕ) (source : Source) (st : State) → a ≡ byteOf s x y 0
     → putFrom a (s .bytes) source st ≡ dab s (px x y) (sourced source) st
-unfolding putFrom sourced dab writePx
+unfolding putFrom sourced dab
 put-dab s x y a source st e =
-    let run : (k : ℕ) → a + k ≡ byteOf s x y k = λ k. ap (λ (b : ℕ). b + k) e ∙ sym (byte-run s x y k) in
-    either (source .left) (λ f. rw f)
-    (λ f. rw f (λ i. state (writeBytes (λ k. run k i) 0 (s .bytes) (source .value) (st .mem)) (st .count + 1)))
+    either (source .left) (λ f. rw f) (λ f. rw (f, write-run s x y a e (source .value) (st .mem)))
 
 -- ---- one point, and the others
 module _ (ink : Ink) (pen : Pen) (l : Line) (i e style : ℕ) (st : State) where

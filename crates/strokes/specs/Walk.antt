@@ -8,7 +8,7 @@ use mathlib.Core.Option.{Option, none, some}
 use Prim.Native.Nat.{ℕ, _+_, _-_, _*_, _%_, _^_, _<_, _≤_}
 use lib.Dec.{eqb, leb, ltb}
 use Rattle.surface.specs.declared.Surface.{Surface}
-use Rattle.surface.specs.Place.{byteOf, writeBytes, onSurface, Colour}
+use Rattle.surface.specs.Place.{byteOf, writeBytes, onSurface, Colour, Held}
 use Rattle.paint.specs.declared.Clip.{Clip}
 use Rattle.paint.specs.declared.Ink.{Ink}
 use Rattle.paint.specs.declared.Source.{Source}
@@ -95,9 +95,7 @@ walks ink c l style = ((direct ink && whole style) && inClip c (l .x0) (l .y0)) 
 
 -- n bytes from an address on, in a memory of len bytes, after k pixels that were written
 pub record Spot (at n len k : ℕ) : Type 0 where
-  pub some : 0 < n
-  pub few : n < 5
-  pub inside : at + n ≤ len
+  pub held : Held at n len
   pub room : k + 1 < 2 ^ 32
 
 -- the ends of a line are at the origin or after it

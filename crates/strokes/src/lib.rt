@@ -10,8 +10,8 @@ ghost use mathlib.Core.Path.{_≡_};
 ghost use mathlib.Core.Bool.{true};
 ghost use mathlib.Core.List.{[], _∷_};
 ghost use Prim.Native.Nat.{_+_, _-_, _%_, _^_, _<_, _≤_};
-ghost use lib.ListN.{length, set};
-ghost use Rattle.surface.specs.Place.{readPx, writeBytes, OnColour};
+ghost use lib.ListN.{length};
+ghost use Rattle.surface.specs.Place.{readPx, OnColour};
 ghost use Rattle.surface.specs.Pixels.{px};
 ghost use Rattle.paint.specs.Paint.{state, dab, paint};
 ghost use Rattle.paint.specs.Pattern.{patternValue};
@@ -254,35 +254,6 @@ fn phase_bit(pen: Pen, p: Phase) -> u32
     1
 }
 
-fn put_byte(mem: &mut [u8], at: usize, b: u32)
-    requires { ⌜ at < length (now mem) ⌝ }
-    ensures { λ _. ⌜ now (mem .exit) ≡ set (now (mem .entry)) at (b % 256) ⌝ }
-{
-    mem[at] = (b % 256) as u8;
-}
-
-// The n bytes from an address on become those of v.
-fn put_bytes(mem: &mut [u8], at: usize, n: u32, v: u32)
-    requires { ⌜ Spot at n (length (now mem)) 0 ⌝ }
-    ensures { λ _. ⌜ now (mem .exit) ≡ writeBytes (λ k. at + k) 0 n v (now (mem .entry)) ⌝ }
-{
-    put_byte(mem, at, v);
-    if n == 1 {
-        return;
-    }
-    let v1 = v / 256;
-    put_byte(mem, at + 1, v1);
-    if n == 2 {
-        return;
-    }
-    let v2 = v1 / 256;
-    put_byte(mem, at + 2, v2);
-    if n == 3 {
-        return;
-    }
-    put_byte(mem, at + 3, v2 / 256);
-}
-
 // A pixel of n bytes from an address on is given its source, and counted, or it is left.
 fn put_from(mem: &mut [u8], at: usize, n: u32, s: Source, count: u32) -> u32
     requires { ⌜ Spot at n (length (now mem)) count ⌝ }
@@ -291,7 +262,7 @@ fn put_from(mem: &mut [u8], at: usize, n: u32, s: Source, count: u32) -> u32
     if s.left {
         return count;
     }
-    put_bytes(mem, at, n, s.value);
+    surface::put_bytes(mem, at, n, s.value);
     count + 1
 }
 

@@ -144,10 +144,6 @@ colour-byte {s} {len} {x} {y} on k h =
       inside = subst (λ (n : ℕ). byteAt s (n + k) y < len) first (on-bytes s len x y (on .on) k (omega arith));
     }
 
--- the same in a memory of the same length
-pub byte-kept : {s : Surface} {len x y : ℕ} → OnColour s len x y → (len′ k : ℕ) → len′ ≡ len → k < s .bytes → HasByte s len′ x y k
-byte-kept {s} {len} {x} {y} on len′ k e h = rw e (colour-byte on k h)
-
 -- ---- mono pixels: their one byte
 pub mono-byte : {s : Surface} {len x y : ℕ} → OnMono s len x y → byteAt s (x / 8) y < len
 mono-byte {s} {len} {x} {y} on =

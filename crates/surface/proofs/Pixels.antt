@@ -1,32 +1,15 @@
--- A pixel's number and a pixel's write at a number of bytes that is known; what a write of one pixel leaves, and what is read after it.
+-- What a write of one pixel leaves, and what is read after it.
 -- Assumes nothing.
-use mathlib.Core.Path.{_≡_, sym, ap}
+use mathlib.Core.Path.{_≡_, sym}
 use mathlib.Core.List.{List}
-use Prim.Native.Nat.{ℕ, _+_, _*_, _/_, _%_, _^_, _<_}
+use Prim.Native.Nat.{ℕ, _+_, _*_, _%_, _^_, _<_}
 use native.Mathlib.Omega.{arith}
-use lib.ListN.{length, getD, set}
+use lib.ListN.{length, getD}
 use Rattle.surface.specs.declared.Surface.{Surface}
-use Rattle.surface.specs.Place.{rowBytes, byteOf, readBytes, writeBytes, readPx, writePx, rowPixels, OnColour}
+use Rattle.surface.specs.Place.{rowBytes, byteOf, readPx, writePx, rowPixels, OnColour}
 use Rattle.surface.proofs.Rows.{digits-same, byteAt-inj}
 use Rattle.surface.proofs.Bytes.{length-written, written-other, read-written, read-alike, read-fits}
 use Rattle.surface.proofs.OnLaws.{colour-first, colour-count, in-row, on-column, colour-byte}
-
--- ---- at a known number of bytes
-pub read-at : (m : List ℕ) (s : Surface) (x y n : ℕ) → s .bytes ≡ n → readPx m s x y ≡ readBytes m (byteOf s x y) 0 n
-unfolding readPx
-read-at m s x y n e = ap (λ (k : ℕ). readBytes m (byteOf s x y) 0 k) e
-
-pub write-at : (m : List ℕ) (s : Surface) (x y v n : ℕ) → s .bytes ≡ n → writePx m s x y v ≡ writeBytes (byteOf s x y) 0 n v m
-unfolding writePx
-write-at m s x y v n e = ap (λ (k : ℕ). writeBytes (byteOf s x y) 0 k v m) e
-
--- four stores, one after the other, write a pixel of four bytes
-pub write-four : (m : List ℕ) (s : Surface) (x y v : ℕ) {m₁ m₂ m₃ m₄ : List ℕ} → s .bytes ≡ 4
-    → m₁ ≡ set m (byteOf s x y 0) (v % 256) → m₂ ≡ set m₁ (byteOf s x y 1) (v / 256 % 256)
-    → m₃ ≡ set m₂ (byteOf s x y 2) (v / 256 / 256 % 256) → m₄ ≡ set m₃ (byteOf s x y 3) (v / 256 / 256 / 256 % 256)
-    → m₄ ≡ writePx m s x y v
-unfolding writeBytes
-write-four m s x y v e p q r t = cc (write-at m s x y v 4 e)
 
 -- ---- two different pixels of a surface share no byte
 in-row-byte : (s : Surface) (x k : ℕ) → 0 < s .bytes → x < rowPixels s → k < s .bytes → x * s .bytes + k < rowBytes s

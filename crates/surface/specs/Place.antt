@@ -4,7 +4,7 @@
 use mathlib.Core.Path.{_≡_}
 use mathlib.Core.Bool.{Bool, true, cond, _&&_}
 use mathlib.Core.List.{List}
-use Prim.Native.Nat.{ℕ, zero, suc, _+_, _*_, _/_, _%_, _-_, _^_, _<_}
+use Prim.Native.Nat.{ℕ, zero, suc, _+_, _*_, _/_, _%_, _-_, _^_, _<_, _≤_}
 use lib.Dec.{eqb, ltb}
 use lib.ListN.{getD, set}
 use Rattle.surface.specs.declared.Surface.{Surface}
@@ -94,6 +94,12 @@ pub record HasByte (s : Surface) (len x y k : ℕ) : Type 0 where
   pub colour : Colour s
   pub low : k < s .bytes
   pub inside : byteOf s x y k < len
+
+-- n bytes from an address on, in a memory of len bytes
+pub record Held (at n len : ℕ) : Type 0 where
+  pub some : 0 < n
+  pub few : n < 5
+  pub inside : at + n ≤ len
 
 -- a pixel that is on its colour surface, and one that is on its mono surface
 pub record OnColour (s : Surface) (len x y : ℕ) : Type 0 where

@@ -2,8 +2,8 @@
 ghost use mathlib.Core.Path.{_≡_};
 ghost use Prim.Native.Nat.{_+_, _-_, _%_, _<_};
 ghost use lib.ListN.{length, getD, set};
-ghost use Rattle.surface.specs.Place.{byteAt, byteOf, readPx, writePx, monoBit};
-ghost use Rattle.surface.specs.Place.{Colour, Near, HasByte, OnColour, OnMono};
+ghost use Rattle.surface.specs.Place.{byteAt, byteOf, readBytes, writeBytes, readPx, writePx, monoBit};
+ghost use Rattle.surface.specs.Place.{Colour, Near, Held, OnColour, OnMono};
 
 pub struct Surface {
     pub base: u32,
@@ -33,65 +33,77 @@ pub fn byte_of(s: Surface, x: u32, y: u32, k: u32) -> usize
     byte_at(s, wide(x) * wide(s.bytes) + wide(k), wide(y))
 }
 
-fn get_byte(mem: &[u8], s: Surface, x: u32, y: u32, k: u32) -> u32
-    requires { ⌜ HasByte s (length (now mem)) x y k ⌝ }
-    ensures { λ r. ⌜ (r ≡ getD (now (mem .entry)) (byteOf s x y k) 0) × (r < 256) ⌝ }
+fn get_byte(mem: &[u8], at: usize) -> u32
+    requires { ⌜ at < length (now mem) ⌝ }
+    ensures { λ r. ⌜ (r ≡ getD (now (mem .entry)) at 0) × (r < 256) ⌝ }
 {
-    let at = byte_of(s, x, y, k);
     mem[at] as u32
 }
 
-fn put_byte(mem: &mut [u8], s: Surface, x: u32, y: u32, k: u32, b: u32)
-    requires { ⌜ HasByte s (length (now mem)) x y k ⌝ }
-    ensures { λ _. ⌜ now (mem .exit) ≡ set (now (mem .entry)) (byteOf s x y k) (b % 256) ⌝ }
+fn put_byte(mem: &mut [u8], at: usize, b: u32)
+    requires { ⌜ at < length (now mem) ⌝ }
+    ensures { λ _. ⌜ now (mem .exit) ≡ set (now (mem .entry)) at (b % 256) ⌝ }
 {
-    let at = byte_of(s, x, y, k);
     mem[at] = (b % 256) as u8;
 }
 
-// The pixel's number, low byte first.
-pub fn get_pixel(mem: &[u8], s: Surface, x: u32, y: u32) -> u32
-    requires { ⌜ OnColour s (length (now mem)) x y ⌝ }
-    ensures { λ r. ⌜ r ≡ readPx (now (mem .entry)) s x y ⌝ }
+// The number in the n bytes from an address on, low byte first.
+pub fn get_bytes(mem: &[u8], at: usize, n: u32) -> u32
+    requires { ⌜ Held at n (length (now mem)) ⌝ }
+    ensures { λ r. ⌜ r ≡ readBytes (now (mem .entry)) (λ k. at + k) 0 n ⌝ }
 {
-    let n = s.bytes;
-    let b0 = get_byte(mem, s, x, y, 0);
+    let b0 = get_byte(mem, at);
     if n == 1 {
         return b0;
     }
-    let b1 = get_byte(mem, s, x, y, 1);
+    let b1 = get_byte(mem, at + 1);
     if n == 2 {
         return b0 + 256 * b1;
     }
-    let b2 = get_byte(mem, s, x, y, 2);
+    let b2 = get_byte(mem, at + 2);
     if n == 3 {
         return b0 + 256 * (b1 + 256 * b2);
     }
-    let b3 = get_byte(mem, s, x, y, 3);
+    let b3 = get_byte(mem, at + 3);
     b0 + 256 * (b1 + 256 * (b2 + 256 * b3))
 }
 
-// The pixel's bytes become those of v.
-pub fn put_pixel(mem: &mut [u8], s: Surface, x: u32, y: u32, v: u32)
-    requires { ⌜ OnColour s (length (now mem)) x y ⌝ }
-    ensures { λ _. ⌜ now (mem .exit) ≡ writePx (now (mem .entry)) s x y v ⌝ }
+// The n bytes from an address on become those of v.
+pub fn put_bytes(mem: &mut [u8], at: usize, n: u32, v: u32)
+    requires { ⌜ Held at n (length (now mem)) ⌝ }
+    ensures { λ _. ⌜ now (mem .exit) ≡ writeBytes (λ k. at + k) 0 n v (now (mem .entry)) ⌝ }
 {
-    let n = s.bytes;
-    put_byte(mem, s, x, y, 0, v);
+    put_byte(mem, at, v);
     if n == 1 {
         return;
     }
     let v1 = v / 256;
-    put_byte(mem, s, x, y, 1, v1);
+    put_byte(mem, at + 1, v1);
     if n == 2 {
         return;
     }
     let v2 = v1 / 256;
-    put_byte(mem, s, x, y, 2, v2);
+    put_byte(mem, at + 2, v2);
     if n == 3 {
         return;
     }
-    put_byte(mem, s, x, y, 3, v2 / 256);
+    put_byte(mem, at + 3, v2 / 256);
+}
+
+pub fn get_pixel(mem: &[u8], s: Surface, x: u32, y: u32) -> u32
+    requires { ⌜ OnColour s (length (now mem)) x y ⌝ }
+    ensures { λ r. ⌜ r ≡ readPx (now (mem .entry)) s x y ⌝ }
+{
+    let at = byte_of(s, x, y, 0);
+    get_bytes(mem, at, s.bytes)
+}
+
+pub fn put_pixel(mem: &mut [u8], s: Surface, x: u32, y: u32, v: u32)
+    requires { ⌜ OnColour s (length (now mem)) x y ⌝ }
+    ensures { λ _. ⌜ now (mem .exit) ≡ writePx (now (mem .entry)) s x y v ⌝ }
+{
+    let at = byte_of(s, x, y, 0);
+    put_bytes(mem, at, s.bytes, v);
 }
 
 // The bit of a mono pixel.

@@ -1,4 +1,4 @@
--- `command::copy_cut` meets its contract.
+-- `cuts::copy_cut` meets its contract.
 -- Assumes nothing.
 use borrow.Author.Needs.{needs}
 use native.Mathlib.Omega.{arith}

@@ -1,4 +1,4 @@
--- `command::cut_at` meets its contract.
+-- `cuts::cut_at` meets its contract.
 -- Assumes nothing.
 use borrow.Author.Needs.{needs}
 use Rattle.cuts.specs.Cut.{cutAt}

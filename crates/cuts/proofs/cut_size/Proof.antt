@@ -1,4 +1,4 @@
--- `command::cut_size` meets its contract.
+-- `cuts::cut_size` meets its contract.
 -- Assumes nothing.
 use borrow.Author.Needs.{needs}
 use native.Mathlib.Omega.{arith}

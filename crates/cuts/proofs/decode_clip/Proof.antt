@@ -1,4 +1,4 @@
--- `command::decode_clip` meets its contract: by bit 23.
+-- `cuts::decode_clip` meets its contract: by bit 23.
 -- Assumes nothing.
 use borrow.Author.Needs.{needs}
 use borrow.Author.Tests.{eq-eqb, ne-eqb}

@@ -1,4 +1,4 @@
--- `command::fill_cut` meets its contract.
+-- `cuts::fill_cut` meets its contract.
 -- Assumes nothing.
 use borrow.Author.Needs.{needs}
 use native.Mathlib.Omega.{arith}

@@ -1,4 +1,4 @@
--- `command::first_of` meets its contract: by the flag.
+-- `cuts::first_of` meets its contract: by the flag.
 -- Assumes nothing.
 use borrow.Author.Needs.{needs}
 use native.Mathlib.Omega.{arith}

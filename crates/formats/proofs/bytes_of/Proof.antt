@@ -1,4 +1,4 @@
--- `surface::bytes_of` meets its contract: by the arm taken.
+-- `formats::bytes_of` meets its contract: by the arm taken.
 -- Assumes nothing.
 use borrow.Author.Tests.{ne-eqb}
 use Rattle.formats.proofs.bytes_of.Statement.{statement}

@@ -1,4 +1,4 @@
--- `surface::names_source` meets its contract.
+-- `formats::names_source` meets its contract.
 -- Assumes nothing.
 use borrow.Author.Needs.{needs}
 use Rattle.formats.proofs.names_source.Statement.{statement}

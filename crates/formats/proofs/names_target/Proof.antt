@@ -1,4 +1,4 @@
--- `surface::names_target` meets its contract.
+-- `formats::names_target` meets its contract.
 -- Assumes nothing.
 use borrow.Author.Needs.{needs}
 use Rattle.formats.proofs.names_target.Statement.{statement}

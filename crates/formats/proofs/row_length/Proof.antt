@@ -1,4 +1,4 @@
--- `surface::row_length` meets its contract: by the test for mono.
+-- `formats::row_length` meets its contract: by the test for mono.
 -- Assumes nothing.
 use borrow.Author.Needs.{needs}
 use native.Mathlib.Omega.{arith}

@@ -1,4 +1,4 @@
--- `surface::source_of` meets its contract.
+-- `formats::source_of` meets its contract.
 -- Assumes nothing.
 use borrow.Author.Needs.{needs}
 use Rattle.formats.specs.Format.{sourceOf}

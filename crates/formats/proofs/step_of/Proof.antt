@@ -1,4 +1,4 @@
--- `surface::step_of` meets its contract: by the arm taken.
+-- `formats::step_of` meets its contract: by the arm taken.
 -- Assumes nothing.
 use borrow.Author.Needs.{needs}
 use native.Mathlib.Omega.{arith}

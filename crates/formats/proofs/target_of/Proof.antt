@@ -1,4 +1,4 @@
--- `surface::target_of` meets its contract.
+-- `formats::target_of` meets its contract.
 -- Assumes nothing.
 use borrow.Author.Needs.{needs}
 use Rattle.formats.specs.Format.{targetOf}

@@ -1,4 +1,4 @@
--- `colour::inside` meets its contract: each return goes by the test that led there.
+-- `keys::inside` meets its contract: each return goes by the test that led there.
 -- Assumes nothing.
 use borrow.Author.Needs.{needs}
 use borrow.Author.Tests.{le-leb, lt-leb}

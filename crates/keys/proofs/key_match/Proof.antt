@@ -1,4 +1,4 @@
--- `colour::key_match` meets its contract: each return goes by the tests that led there and by what `inside` ensures.
+-- `keys::key_match` meets its contract: each return goes by the tests that led there and by what `inside` ensures.
 -- Assumes nothing.
 use borrow.Author.Needs.{needs}
 use borrow.Author.Tests.{eq-eqb, ne-eqb}

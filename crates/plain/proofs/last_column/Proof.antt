@@ -1,4 +1,4 @@
--- `host::last_column` meets its contract: by the test for mono.
+-- `plain::last_column` meets its contract: by the test for mono.
 -- Assumes nothing.
 use borrow.Author.Needs.{needs}
 use native.Mathlib.Omega.{arith}

@@ -1,4 +1,4 @@
--- `host::plain_bit` meets its contract: by the test of the bit.
+-- `plain::plain_bit` meets its contract: by the test of the bit.
 -- Assumes nothing.
 use borrow.Author.Tests.{eq-eqb, ne-eqb}
 use Rattle.paint.specs.Mix.{bitSource}

@@ -1,4 +1,4 @@
--- `host::plain_colour` meets its contract.
+-- `plain::plain_colour` meets its contract.
 -- Assumes nothing.
 use borrow.Author.Needs.{needs}
 use borrow.Author.Tests.{ne-eqb}

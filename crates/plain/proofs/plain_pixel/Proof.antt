@@ -1,4 +1,4 @@
--- `host::plain_pixel` meets its contract: the pixel is left, or its source is put there, or it is outside the clip.
+-- `plain::plain_pixel` meets its contract: the pixel is left, or its source is put there, or it is outside the clip.
 -- Assumes nothing.
 use borrow.Author.Needs.{needs}
 use native.Mathlib.Omega.{arith}

@@ -1,4 +1,4 @@
--- `host::plain_row` meets its contract: the part's bytes finish a stretch of the row.
+-- `plain::plain_row` meets its contract: the part's bytes finish a stretch of the row.
 -- Assumes nothing.
 use borrow.Author.Needs.{needs}
 use mathlib.Core.Path.{ap, _∙_}

@@ -1,4 +1,4 @@
--- `host::plain_word` meets its contract: what is left of the word's four bytes, drawn on what stands now, is the word drawn on what stood; where a byte is left, it is
+-- `plain::plain_word` meets its contract: what is left of the word's four bytes, drawn on what stands now, is the word drawn on what stood; where a byte is left, it is
 -- byte `column` of row j.
 -- Assumes nothing.
 use native.Mathlib.Omega.{arith}

@@ -1,4 +1,4 @@
--- `picture::has_picture` meets its contract: by the tests.
+-- `ppm::has_picture` meets its contract: by the tests.
 -- Assumes nothing.
 use borrow.Author.Needs.{needs}
 use mathlib.Core.Path.{ap, _∙_}

@@ -1,4 +1,4 @@
--- `picture::put` meets its contract: by the test for room.
+-- `ppm::put` meets its contract: by the test for room.
 -- Assumes nothing.
 use borrow.Author.Needs.{needs}
 use borrow.Author.Tests.{lt-ltb, le-ltb}

@@ -1,4 +1,4 @@
--- `picture::say` meets its contract: what is left of the text, said on the page now, is the text said on the page at the start.
+-- `ppm::say` meets its contract: what is left of the text, said on the page now, is the text said on the page at the start.
 -- Assumes nothing.
 use borrow.Author.Needs.{needs}
 use mathlib.Core.Path.{_≡_, refl, _∙_}

@@ -1,4 +1,4 @@
--- `picture::say_digit` meets its contract: by the test for a place above the number's first digit.
+-- `ppm::say_digit` meets its contract: by the test for a place above the number's first digit.
 -- Assumes nothing.
 use borrow.Author.Needs.{needs}
 use Rattle.ppm.specs.Text.{each, digit}

@@ -1,4 +1,4 @@
--- `picture::say_header` meets its contract: the three lines, one after the other.
+-- `ppm::say_header` meets its contract: the three lines, one after the other.
 -- Assumes nothing.
 use borrow.Author.Needs.{needs}
 use mathlib.Core.List.{[], _∷_}

@@ -1,4 +1,4 @@
--- `picture::say_line` meets its contract: the three numbers, one after the other.
+-- `ppm::say_line` meets its contract: the three numbers, one after the other.
 -- Assumes nothing.
 use borrow.Author.Needs.{needs}
 use Prim.Native.Nat.{_/_, _%_, _^_}

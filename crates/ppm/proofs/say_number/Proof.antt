@@ -1,4 +1,4 @@
--- `picture::say_number` meets its contract: the places that are left, said on the page now, are the number said on the page at the start.
+-- `ppm::say_number` meets its contract: the places that are left, said on the page now, are the number said on the page at the start.
 -- Assumes nothing.
 use borrow.Author.Needs.{needs}
 use mathlib.Core.Path.{_≡_, refl, sym, ap, _∙_}

@@ -1,4 +1,4 @@
--- `picture::say_picture` meets its contract: where the test holds, the rectangle is on the surface and its numbers are in range.
+-- `ppm::say_picture` meets its contract: where the test holds, the rectangle is on the surface and its numbers are in range.
 -- Assumes nothing.
 use borrow.Author.Needs.{needs}
 use native.Mathlib.Omega.{arith}

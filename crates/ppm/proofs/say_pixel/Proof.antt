@@ -1,4 +1,4 @@
--- `picture::say_pixel` meets its contract: the line of what is read there.
+-- `ppm::say_pixel` meets its contract: the line of what is read there.
 -- Assumes nothing.
 use borrow.Author.Needs.{needs}
 use Rattle.ppm.proofs.say_pixel.Statement.{statement}

@@ -1,4 +1,4 @@
--- `picture::say_row` meets its contract: the lines of the pixels that are left, said on the page now, are the row's lines said on the page at the start.
+-- `ppm::say_row` meets its contract: the lines of the pixels that are left, said on the page now, are the row's lines said on the page at the start.
 -- Assumes nothing.
 use borrow.Author.Needs.{needs}
 use native.Mathlib.Omega.{arith}

@@ -1,4 +1,4 @@
--- `picture::say_rows` meets its contract: the lines of the rows that are left, said on the page now, are all lines said on the page at the start.
+-- `ppm::say_rows` meets its contract: the lines of the rows that are left, said on the page now, are all lines said on the page at the start.
 -- Assumes nothing.
 use borrow.Author.Needs.{needs}
 use native.Mathlib.Omega.{arith}

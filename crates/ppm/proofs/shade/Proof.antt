@@ -1,4 +1,4 @@
--- `picture::shade` meets its contract: by the test for 8 bits a pixel.
+-- `ppm::shade` meets its contract: by the test for 8 bits a pixel.
 -- Assumes nothing.
 use borrow.Author.Needs.{needs}
 use borrow.Author.Tests.{eq-eqb, ne-eqb}

@@ -1,4 +1,4 @@
--- `colour::raster` meets its contract: its seven choices are the tree whose law over the width is `tree-is`.
+-- `raster::raster` meets its contract: its seven choices are the tree whose law over the width is `tree-is`.
 -- Assumes nothing.
 use borrow.Author.Needs.{needs}
 use Rattle.raster.proofs.RopTree.{muxed, mask, tree, tree-is}

@@ -1,4 +1,4 @@
--- `paint::fill_source` meets its contract.
+-- `rect::fill_source` meets its contract.
 -- Assumes nothing.
 use mathlib.Core.Path.{refl}
 use Rattle.paint.specs.Mix.{fillSource}

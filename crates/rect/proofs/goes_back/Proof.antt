@@ -1,4 +1,4 @@
--- `paint::goes_back` meets its contract: by the tests.
+-- `rect::goes_back` meets its contract: by the tests.
 -- Assumes nothing.
 use borrow.Author.Tests.{lt-ltb, le-ltb, eq-eqb, ne-eqb, not-true, not-false}
 use Rattle.rect.specs.Copy.{backward}

@@ -1,4 +1,4 @@
--- `paint::move_row` meets its contract: a run, up or down.
+-- `rect::move_row` meets its contract: a run, up or down.
 -- Assumes nothing.
 use borrow.Author.Needs.{needs}
 use Rattle.rect.proofs.move_row.Statement.{statement}

@@ -1,4 +1,4 @@
--- `paint::move_rows` meets its contract: the rows moved so far have the source's bytes as they were at the start.
+-- `rect::move_rows` meets its contract: the rows moved so far have the source's bytes as they were at the start.
 -- Assumes nothing.
 use native.Mathlib.Omega.{arith}
 use mathlib.Core.Path.{_≡_, refl, subst}

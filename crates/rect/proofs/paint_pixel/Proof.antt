@@ -1,4 +1,4 @@
--- `paint::paint_pixel` meets its contract: the source is read before the store.
+-- `rect::paint_pixel` meets its contract: the source is read before the store.
 -- Assumes nothing.
 use borrow.Author.Needs.{needs}
 use Rattle.rect.proofs.paint_pixel.Statement.{statement}

@@ -1,4 +1,4 @@
--- `paint::paint_rect` meets its contract: a solid fill gives each pixel one value, a plain copy moves its source's bytes; otherwise the corner chosen is one from which each pixel has its source as it was.
+-- `rect::paint_rect` meets its contract: a solid fill gives each pixel one value, a plain copy moves its source's bytes; otherwise the corner chosen is one from which each pixel has its source as it was.
 -- Assumes nothing.
 use borrow.Author.Needs.{needs}
 use mathlib.Core.Path.{sym, ap, ap₂, _∙_}

@@ -1,4 +1,4 @@
--- `paint::paint_row` meets its contract: the pattern's row gives each pixel what the pattern does.
+-- `rect::paint_row` meets its contract: the pattern's row gives each pixel what the pattern does.
 -- Assumes nothing.
 use mathlib.Core.Path.{sym, ap, _∙_}
 use Prim.Native.Nat.{ℕ}

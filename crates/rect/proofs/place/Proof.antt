@@ -1,4 +1,4 @@
--- `paint::place` meets its contract: by the direction.
+-- `rect::place` meets its contract: by the direction.
 -- Assumes nothing.
 use borrow.Author.Needs.{needs}
 use Rattle.rect.proofs.place.Statement.{statement}

@@ -1,4 +1,4 @@
--- `paint::solid_rows` meets its contract: the rows so far have the value's bytes.
+-- `runs::solid_rows` meets its contract: the rows so far have the value's bytes.
 -- Assumes nothing.
 use native.Mathlib.Omega.{arith}
 use native.Mathlib.Nat.{add-mul}

@@ -1,4 +1,4 @@
--- `surface::first_byte` meets its contract: by the test for mono.
+-- `spans::first_byte` meets its contract: by the test for mono.
 -- Assumes nothing.
 use borrow.Author.Needs.{needs}
 use native.Mathlib.Omega.{arith}

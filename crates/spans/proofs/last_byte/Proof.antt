@@ -1,4 +1,4 @@
--- `surface::last_byte` meets its contract: by the test for mono.
+-- `spans::last_byte` meets its contract: by the test for mono.
 -- Assumes nothing.
 use borrow.Author.Needs.{needs}
 use native.Mathlib.Omega.{arith}

@@ -1,4 +1,4 @@
--- `surface::on_surface` meets its contract: the last byte decides.
+-- `spans::on_surface` meets its contract: the last byte decides.
 -- Assumes nothing.
 use borrow.Author.Needs.{needs}
 use native.Mathlib.Omega.{arith}

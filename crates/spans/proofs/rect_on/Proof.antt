@@ -1,4 +1,4 @@
--- `surface::rect_on` meets its contract: an empty rectangle has no pixel, and of any other the last corner decides.
+-- `spans::rect_on` meets its contract: an empty rectangle has no pixel, and of any other the last corner decides.
 -- Assumes nothing.
 use borrow.Author.Needs.{needs}
 use native.Mathlib.Omega.{arith}

@@ -1,4 +1,4 @@
--- `surface::rect_span` meets its contract: an empty rectangle has an empty span, any other that of its two corners.
+-- `spans::rect_span` meets its contract: an empty rectangle has an empty span, any other that of its two corners.
 -- Assumes nothing.
 use borrow.Author.Needs.{needs}
 use native.Mathlib.Omega.{arith}

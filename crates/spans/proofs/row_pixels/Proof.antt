@@ -1,4 +1,4 @@
--- `surface::row_pixels` meets its contract: by the test for mono.
+-- `spans::row_pixels` meets its contract: by the test for mono.
 -- Assumes nothing.
 use borrow.Author.Needs.{needs}
 use borrow.Author.Tests.{eq-eqb, ne-eqb}

@@ -1,4 +1,4 @@
--- `line::can_walk` meets its contract.
+-- `strokes::can_walk` meets its contract.
 -- Assumes nothing.
 use borrow.Author.Needs.{needs}
 use mathlib.Core.Path.{ap₂}

@@ -1,4 +1,4 @@
--- `line::paint_line` meets its contract: walking and going point by point come to the same.
+-- `strokes::paint_line` meets its contract: walking and going point by point come to the same.
 -- Assumes nothing.
 use borrow.Author.Needs.{needs}
 use native.Mathlib.Omega.{arith}

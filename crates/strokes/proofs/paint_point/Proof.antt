@@ -1,4 +1,4 @@
--- `line::paint_point` meets its contract: a point outside the clip is passed, one inside it is put there.
+-- `strokes::paint_point` meets its contract: a point outside the clip is passed, one inside it is put there.
 -- Assumes nothing.
 use borrow.Author.Needs.{needs}
 use native.Mathlib.Omega.{arith}

@@ -1,4 +1,4 @@
--- `line::phase_after` meets its contract: by the tests.
+-- `strokes::phase_after` meets its contract: by the tests.
 -- Assumes nothing.
 use borrow.Author.Needs.{needs}
 use native.Mathlib.Omega.{arith}

@@ -1,4 +1,4 @@
--- `line::phase_bit` meets its contract.
+-- `strokes::phase_bit` meets its contract.
 -- Assumes nothing.
 use borrow.Author.Needs.{needs}
 use Rattle.line.specs.Stipple.{stippleBit}

@@ -1,4 +1,4 @@
--- `line::phase_of` meets its contract.
+-- `strokes::phase_of` meets its contract.
 -- Assumes nothing.
 use native.Mathlib.Omega.{arith}
 use borrow.Author.Tests.{eqb-true}

@@ -1,4 +1,4 @@
--- `line::put_from` meets its contract: the bytes are left, or put.
+-- `strokes::put_from` meets its contract: the bytes are left, or put.
 -- Assumes nothing.
 use borrow.Author.Needs.{needs}
 use native.Mathlib.Omega.{arith}

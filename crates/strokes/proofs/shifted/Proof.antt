@@ -1,4 +1,4 @@
--- `line::shifted` meets its contract.
+-- `strokes::shifted` meets its contract.
 -- Assumes nothing.
 use borrow.Author.Needs.{needs}
 use native.Mathlib.Omega.{arith}

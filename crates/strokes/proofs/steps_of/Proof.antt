@@ -1,4 +1,4 @@
--- `line::steps_of` meets its contract: by the major axis.
+-- `strokes::steps_of` meets its contract: by the major axis.
 -- Assumes nothing.
 use borrow.Author.Needs.{needs}
 use native.Mathlib.Omega.{arith}

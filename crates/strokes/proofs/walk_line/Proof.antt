@@ -1,4 +1,4 @@
--- `line::walk_line` meets its contract: what the points that are left do from now on is what all of them do from the start, and the walk is at the next of them.
+-- `strokes::walk_line` meets its contract: what the points that are left do from now on is what all of them do from the start, and the walk is at the next of them.
 -- Assumes nothing.
 use borrow.Author.Needs.{needs}
 use native.Mathlib.Omega.{arith}
@@ -10,6 +10,7 @@ use Rattle.paint.specs.declared.Source.{Source}
 use Rattle.paint.specs.Paint.{state, dab, paint}
 use Rattle.paint.specs.Mix.{bitSource}
 use Rattle.paint.specs.Clip.{origin, pixelAt}
+use Rattle.surface.proofs.Run.{pixel-held}
 use Rattle.line.specs.declared.Point.{Point}
 use Rattle.line.specs.Line.{pointAt, pointCount, pointsFrom, points}
 use Rattle.line.specs.Stipple.{styleAfter}
@@ -18,7 +19,7 @@ use Rattle.line.proofs.Sides.{count-le, longer-lt}
 use Rattle.line.proofs.PointLaws.{from-start}
 use Rattle.line.proofs.StippleLaws.{style-start, style-turn, style-done}
 use Rattle.strokes.proofs.WalkLaws.{steps-small, walk-start, walk-next}
-use Rattle.strokes.proofs.WalkDraw.{bytes-inside, put-dab, walk-left, walk-none}
+use Rattle.strokes.proofs.WalkDraw.{put-dab, walk-left, walk-none}
 use Rattle.strokes.proofs.walk_line.Statement.{statement}
 use Rattle.strokes.proofs.walk_line.Tie as tie
 
@@ -82,9 +83,7 @@ put-from-requires c κs =
     let k = c .before .before .before .before .before .loop in
     let h : k .i < pointCount (a .l) = omega (arith, c .before .before .before .before .point-count .ensures) in
     record {
-      some = p .surface .some;
-      few = p .surface .small .bytes;
-      inside = rw (k .inv .4) (bytes-inside (record { colour = p .surface; on = p .on (k .i) h }) _ (k .inv .2 h .at));
+      held = rw (k .inv .4) (pixel-held (record { colour = p .surface; on = p .on (k .i) h }) _ (k .inv .2 h .at));
       room = omega (arith, longer-lt (p .ahead .line), count-le (a .l));
     }
 

@@ -1,4 +1,4 @@
--- `line::walk_on` meets its contract: by the remainder.
+-- `strokes::walk_on` meets its contract: by the remainder.
 -- Assumes nothing.
 use borrow.Author.Needs.{needs}
 use borrow.Author.Tests.{lt-ltb, le-ltb}

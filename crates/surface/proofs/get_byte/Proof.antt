@@ -5,17 +5,14 @@ use native.Mathlib.Omega.{arith}
 use Rattle.surface.proofs.get_byte.Statement.{statement}
 use Rattle.surface.proofs.get_byte.Tie as tie
 
-byte-of-requires : tie.Need-byte-of-requires
-byte-of-requires c κs = search needs
-
 shared-slice-read-result : tie.Need-shared-slice-read-result
 shared-slice-read-result c = search needs
 
 cast-result : tie.Need-cast-result
-cast-result c = omega (arith, c .shared-slice-known2 .given (c .before .byte-of .result))
+cast-result c = omega (arith, c .shared-slice-known .given (c .before .args .at))
 
 returns : tie.Need-returns
-returns c = (cc, omega (arith, c .shared-slice-known2 .given (c .before .byte-of .result)))
+returns c = (cc, omega (arith, c .shared-slice-known .given (c .before .args .at)))
 
 pub get-byte-spec : {M : Type 1} → statement M
-get-byte-spec = tie.close (tie.spec byte-of-requires shared-slice-read-result cast-result returns)
+get-byte-spec = tie.close (tie.spec shared-slice-read-result cast-result returns)

@@ -1,4 +1,4 @@
--- `command::both_fine` meets its contract.
+-- `table::both_fine` meets its contract.
 -- Assumes nothing.
 use borrow.Author.Needs.{needs}
 use Rattle.table.proofs.both_fine.Statement.{statement}

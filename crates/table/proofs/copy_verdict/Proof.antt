@@ -1,4 +1,4 @@
--- `command::copy_verdict` meets its contract: by the tests.
+-- `table::copy_verdict` meets its contract: by the tests.
 -- Assumes nothing.
 use borrow.Author.Needs.{needs}
 use mathlib.Core.Path.{refl, sym, ap, ap₂, _∙_}

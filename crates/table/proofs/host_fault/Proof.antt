@@ -1,4 +1,4 @@
--- `command::host_fault` meets its contract.
+-- `table::host_fault` meets its contract.
 -- Assumes nothing.
 use borrow.Author.Needs.{needs}
 use native.Mathlib.Omega.{arith}

@@ -1,4 +1,4 @@
--- `command::host_verdict` meets its contract: by the tests.
+-- `table::host_verdict` meets its contract: by the tests.
 -- Assumes nothing.
 use borrow.Author.Needs.{needs}
 use mathlib.Core.Path.{sym, ap₂, _∙_}

@@ -1,4 +1,4 @@
--- `command::line_verdict` meets its contract: by the tests.
+-- `table::line_verdict` meets its contract: by the tests.
 -- Assumes nothing.
 use borrow.Author.Needs.{needs}
 use mathlib.Core.Path.{sym, ap, ap₂, _∙_}

@@ -1,4 +1,4 @@
--- `command::needed_on` meets its contract: nothing left needs nothing, a negative first position is off, and the rest are pixels.
+-- `table::needed_on` meets its contract: nothing left needs nothing, a negative first position is off, and the rest are pixels.
 -- Assumes nothing.
 use borrow.Author.Needs.{needs}
 use native.Mathlib.Omega.{arith}

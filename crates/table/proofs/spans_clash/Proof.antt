@@ -1,4 +1,4 @@
--- `command::spans_clash` meets its contract: nothing left meets nothing, and the source pixels are a rectangle.
+-- `table::spans_clash` meets its contract: nothing left meets nothing, and the source pixels are a rectangle.
 -- Assumes nothing.
 use borrow.Author.Needs.{needs}
 use native.Mathlib.Omega.{arith}

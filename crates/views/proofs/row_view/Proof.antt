@@ -1,4 +1,4 @@
--- `surface::row_view` meets its contract: a refused view is empty, and a given one lies in memory.
+-- `views::row_view` meets its contract: a refused view is empty, and a given one lies in memory.
 -- Assumes nothing.
 use borrow.Author.Needs.{needs}
 use native.Mathlib.Omega.{arith}

@@ -1,4 +1,4 @@
--- `surface::view_answer` meets its contract: each return goes by the tests that led there.
+-- `views::view_answer` meets its contract: each return goes by the tests that led there.
 -- Assumes nothing.
 use borrow.Author.Needs.{needs}
 use mathlib.Core.Path.{sym, ap, _∙_}

@@ -1,10 +1,10 @@
--- `line::put_bytes` meets its contract: at each number of bytes, the bytes stored are those.
+-- `surface::put_bytes` meets its contract: at each number of bytes, the bytes stored are those.
 -- Assumes nothing.
 use borrow.Author.Needs.{needs}
 use native.Mathlib.Omega.{arith}
-use Rattle.strokes.proofs.PutLaws.{put-one, put-two, put-three, put-four}
-use Rattle.strokes.proofs.put_bytes.Statement.{statement}
-use Rattle.strokes.proofs.put_bytes.Tie as tie
+use Rattle.surface.proofs.Run.{put-one, put-two, put-three, put-four}
+use Rattle.surface.proofs.put_bytes.Statement.{statement}
+use Rattle.surface.proofs.put_bytes.Tie as tie
 
 put-byte-requires : tie.Need-put-byte-requires
 put-byte-requires c κs = search needs
