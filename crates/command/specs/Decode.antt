@@ -15,7 +15,7 @@ use Rattle.positions.specs.Position.{placed}
 use Rattle.line.specs.declared.Line.{Line}
 use Rattle.line.specs.declared.Pen.{Pen}
 use Rattle.host.specs.declared.Feed.{Feed}
-use Rattle.plain.specs.declared.Plain.{Plain}
+use Rattle.bits.specs.declared.Plain.{Plain}
 
 -- ---- surfaces
 abbrev pub target : Regs → Surface

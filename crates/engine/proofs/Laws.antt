@@ -16,7 +16,7 @@ use Rattle.rect.specs.Copy.{asBefore, CanPaint, Orderly}
 use Rattle.line.specs.declared.Line.{Line}
 use Rattle.line.specs.Draw.{Drawable}
 use Rattle.host.specs.declared.Feed.{Feed}
-use Rattle.plain.specs.declared.Plain.{Plain}
+use Rattle.bits.specs.declared.Plain.{Plain}
 use Rattle.host.specs.Host.{wordsOf, byWord, Sizes}
 use Rattle.host.specs.Draw.{hostTouches, drawn, Opened, Waits}
 use Rattle.plain.specs.Plain.{plainInk}

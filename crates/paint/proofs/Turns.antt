@@ -3,12 +3,14 @@
 use mathlib.Core.Path.{_≡_, refl, sym, ap, _∙_}
 use mathlib.Core.Bool.{Bool, true, false}
 use mathlib.Core.List.{List, [], _∷_, _++_, map, List·Memᴰ, List·Memᴰ·head, List·Memᴰ·tail}
-use mathlib.Core.Option.{Option}
-use Prim.Native.Nat.{ℕ, suc, _+_, _-_, _<_, _≤_}
+use mathlib.Core.Option.{Option, none, some}
+use Prim.Native.Nat.{ℕ, zero, suc, _+_, _-_, _<_, _≤_}
 use native.Mathlib.Omega.{arith}
 use Rattle.surface.specs.declared.Surface.{Surface}
+use Rattle.surface.specs.Place.{byteOf}
 use Rattle.surface.specs.Pixels.{Px, px, across, rect}
-use Rattle.paint.specs.Paint.{State, Touch, touch, dab, paint, nth}
+use Rattle.surface.proofs.Run.{write-run}
+use Rattle.paint.specs.Paint.{State, state, Touch, touch, dab, dabAt, paint, nth}
 
 -- ---- what remains after i turns
 abbrev first : Bool → ℕ → ℕ → ℕ
@@ -94,3 +96,40 @@ paint-same s f g [] h st = refl
 paint-same s f g (p ∷ ps) h st =
     ap (λ (o : Option ℕ). paint s (map (λ p. touch p (f p)) ps) (dab s p o st)) (h p (List·Memᴰ·head refl) (st .mem))
     ∙ paint-same s f g ps (λ q i. h q (List·Memᴰ·tail i)) (dab s p (g p (st .mem)) st)
+
+-- the same, while something holds of the memory that no store ends
+pub paint-while : (s : Surface) (f g : Px → List ℕ → Option ℕ) (Holds : List ℕ → Type 0) (ps : List Px)
+    → ((p : Px) → List·Memᴰ p ps → (now : List ℕ) → Holds now → f p now ≡ g p now)
+    → ((p : Px) → List·Memᴰ p ps → (o : Option ℕ) (st : State) → Holds (st .mem) → Holds (dab s p o st .mem)) → (st : State) → Holds (st .mem)
+    → paint s (map (λ p. touch p (f p)) ps) st ≡ paint s (map (λ p. touch p (g p)) ps) st
+unfolding paint
+paint-while s f g Holds [] h k st holds = refl
+paint-while s f g Holds (p ∷ ps) h k st holds =
+    ap (λ (o : Option ℕ). paint s (map (λ p. touch p (f p)) ps) (dab s p o st)) (h p (List·Memᴰ·head refl) (st .mem) holds)
+    ∙ paint-while s f g Holds ps (λ q i. h q (List·Memᴰ·tail i)) (λ q i. k q (List·Memᴰ·tail i)) (dab s p (g p (st .mem)) st)
+    (k p (List·Memᴰ·head refl) (g p (st .mem)) st holds)
+
+-- ---- a store by address
+pub dab-at : (s : Surface) (p : Px) (a : ℕ) (o : Option ℕ) (st : State) → a ≡ byteOf s (p .x) (p .y) 0 → dabAt a (s .bytes) o st ≡ dab s p o st
+unfolding dabAt dab
+dab-at s p a none st e = refl
+dab-at s p a (some v) st e = ap (λ (m : List ℕ). state m (st .count + 1)) (write-run s (p .x) (p .y) a e v (st .mem))
+
+-- ---- several pixels of a row at once
+across-append : (x m n y : ℕ) → across false x (m + n) y ≡ across false x m y ++ across false (x + m) n y
+unfolding across
+across-append x zero n y = let p : x + 0 ≡ x = omega arith in let q : 0 + n ≡ n = omega arith in rw (p, q)
+across-append x (suc m) n y =
+    let p : x + suc m ≡ x + 1 + m = omega arith in
+    let q : suc m + n ≡ suc (m + n) = omega arith in
+    rw (p, q) (ap (λ (ps : List Px). px x y ∷ ps) (across-append (x + 1) m n y))
+
+pub part-again : (s : Surface) (f : Px → Touch) (x w i m y : ℕ) (st st′ : State) → i + m ≤ w → st′ ≡ paint s (map f (across false (x + i) m y)) st
+    → paint s (map f (row-left false x w (i + m) y)) st′ ≡ paint s (map f (row-left false x w i y)) st
+unfolding row-left
+part-again s f x w i m y st st′ h e =
+    let p : w - i ≡ m + (w - (i + m)) = omega arith in
+    let q : x + (i + m) ≡ x + i + m = omega arith in
+    rw (p, q, e)
+    (sym (ap (λ (ts : List Touch). paint s ts st) (ap (map f) (across-append (x + i) m (w - (i + m)) y) ∙ map-append f (across false (x + i) m y) (across false (x + i + m) (w - (i + m)) y))
+    ∙ paint-append s (map f (across false (x + i) m y)) (map f (across false (x + i + m) (w - (i + m)) y)) st))

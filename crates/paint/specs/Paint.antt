@@ -5,7 +5,7 @@ use mathlib.Core.List.{List, [], _∷_}
 use mathlib.Core.Option.{Option, none, some}
 use Prim.Native.Nat.{ℕ, _+_, _-_}
 use Rattle.surface.specs.declared.Surface.{Surface}
-use Rattle.surface.specs.Place.{writePx}
+use Rattle.surface.specs.Place.{writeBytes, writePx}
 use Rattle.surface.specs.Pixels.{Px}
 
 pub record State : Type 0 where
@@ -19,6 +19,11 @@ state m n = record { mem = m; count = n }
 unfoldable pub dab : Surface → Px → Option ℕ → State → State
 dab s p none st = st
 dab s p (some v) st = state (writePx (st .mem) s (p .x) (p .y) v) (st .count + 1)
+
+-- the same of n bytes from an address on
+unfoldable pub dabAt : ℕ → ℕ → Option ℕ → State → State
+dabAt at n none st = st
+dabAt at n (some v) st = state (writeBytes (λ k. at + k) 0 n v (st .mem)) (st .count + 1)
 
 -- a pixel, and what it is given in the memory as it is then
 pub record Touch : Type 0 where

@@ -17,7 +17,7 @@ use Rattle.paint.specs.Mix.{source, bitSource, colourSource, mixed, direct}
 use Rattle.paint.specs.Clip.{origin, inClip, pixelAt}
 use Rattle.paint.proofs.MixLaws.{direct-low, direct-mixed}
 use Rattle.host.specs.declared.Feed.{Feed}
-use Rattle.plain.specs.declared.Plain.{Plain}
+use Rattle.bits.specs.declared.Plain.{Plain}
 use Rattle.host.specs.Host.{Pixel, pixel}
 use Rattle.host.specs.Draw.{hostSource, hostTouches, drawn, Waits}
 use Rattle.plain.specs.Plain.{plainInk, Plainly}

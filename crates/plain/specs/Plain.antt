@@ -8,7 +8,7 @@ use Prim.Native.Nat.{ℕ, zero, suc, _+_, _-_, _*_, _%_, _^_, _<_, _≤_}
 use Rattle.paint.specs.declared.Ink.{Ink}
 use Rattle.paint.specs.Mix.{direct}
 use Rattle.host.specs.declared.Feed.{Feed}
-use Rattle.plain.specs.declared.Plain.{Plain}
+use Rattle.bits.specs.declared.Plain.{Plain}
 use Rattle.host.specs.Host.{lastColumn, lastByteOf, Pixel, pixel, valueOf}
 
 -- the ink with raster operation CC and no keys

@@ -1,4 +1,5 @@
 // A plain host blit, drawn a part of a row at a time.
+use bits::Plain;
 use host::Feed;
 use paint::Clip;
 use paint::Source;
@@ -13,14 +14,6 @@ ghost use Rattle.paint.specs.Mix.{source};
 ghost use Rattle.host.specs.Host.{lastColumn, pixel, byBytes, byWord};
 ghost use Rattle.host.specs.Draw.{hostSource, drawn, Opened, Waits};
 ghost use Rattle.plain.specs.Plain.{plainInk, stretch, Part, Within};
-
-// What a plain blit needs of an ink: the target, the colours of a mono source, and whether its 0 bits are left unwritten.
-pub struct Plain {
-    pub target: Surface,
-    pub fore: u32,
-    pub back: u32,
-    pub clear: bool,
-}
 
 fn plain_bit(p: Plain, feed: Feed, v: u32) -> Source
     requires { ⌜ feed .bytes ≡ 0 ⌝ }

@@ -1,5 +1,6 @@
 pub mod Solid
 pub mod TaskLaws
 pub mod Order
+pub mod Mono
 pub mod Plain
 pub mod Moves

@@ -15,7 +15,7 @@ use Rattle.surface.specs.Place.{byteOf, readPx, monoBit, rowPixels}
 use Rattle.surface.specs.Pixels.{Px, rect, Inside}
 use Rattle.spans.specs.Span.{spanOf, meet}
 use Rattle.surface.proofs.OnLaws.{on-column, pos-of-ne}
-use Rattle.surface.proofs.Lists.{Pairs, pairs-map}
+use Rattle.surface.proofs.Lists.{Pairs, pairs-map, pairs-all}
 use Rattle.surface.proofs.Pixels.{same-byte}
 use Rattle.surface.proofs.Rects.{in-rect, rect-in, rect-pairs, rect-distinct, Past, Ahead}
 use Rattle.spans.proofs.Spans.{IsByte, span-holds}
@@ -126,7 +126,7 @@ module _ (t : Task) (w h len : ℕ) (can : CanPaint t w h len) (orderly : t .cop
       onward-apart (backward t) t p q (iq .left) (iq .top) (onward t copies) ahead
       (one-owner (t .ink .target) (can .colour .some) (sourcePlace t q) p a (k .0) (target-column p ip) (k .1) b)
 
-  between : meet (spanOf (t .ink .target) (rect false false (t .x) (t .y) w h)) (spanOf (t .from) (rect false false (t .sx) (t .sy) w h)) ≡ false
+  pub between : meet (spanOf (t .ink .target) (rect false false (t .x) (t .y) w h)) (spanOf (t .from) (rect false false (t .sx) (t .sy) w h)) ≡ false
       → (p q : Px) → Inside (t .x) (t .y) w h p → Inside (t .x) (t .y) w h q → (a : ℕ) → IsByte (t .from) (sourcePlace t q) a → IsByte (t .ink .target) p a → ⊥
   between apart p q ip iq a r b =
       let S = spanOf (t .ink .target) (rect false false (t .x) (t .y) w h) in
@@ -160,15 +160,26 @@ module _ (t : Task) (w h len : ℕ) (can : CanPaint t w h len) (orderly : t .cop
       not-read (r .0) p q (in-rect (backward t) (backward t) (t .x) (t .y) w h p i) (in-rect (backward t) (backward t) (t .x) (t .y) w h q j) ahead a (r .1) b)
       (rect-pairs (backward t) (backward t) (t .x) (t .y) w h)
 
-  pub in-order : (pattern m : List ℕ) (n : ℕ)
-      → paint (t .ink .target) (inTurn t pattern (rect (backward t) (backward t) (t .x) (t .y) w h)) (state m n)
-      ≡ paint (t .ink .target) (asBefore t pattern m (rect false false (t .x) (t .y) w h)) (state m n)
-  in-order pattern m n =
+  -- in an order in which no step reads what an earlier one wrote
+  ordered : (b : Bool) → Pairs (Unread (t .ink .target) (Reads t)) (all b) → (pattern m : List ℕ) (n : ℕ)
+      → paint (t .ink .target) (inTurn t pattern (all b)) (state m n) ≡ paint (t .ink .target) (asBefore t pattern m (all false)) (state m n)
+  ordered b pairs pattern m n =
       let loc = giving-local t pattern (can .colour .some) in
-      let b = backward t in
-      in-place (t .ink .target) (can .colour .some) (giving t pattern) (Reads t) loc (all b) m n unread
+      in-place (t .ink .target) (can .colour .some) (giving t pattern) (Reads t) loc (all b) m n pairs
       ∙ any-order (t .ink .target) (can .colour .some) (giving t pattern) (Reads t) loc m (all b) (all false) n
       (rect-distinct b b (t .x) (t .y) w h) (rect-distinct false false (t .x) (t .y) w h)
       (λ p i. rect-in false false (t .x) (t .y) w h p (in-rect b b (t .x) (t .y) w h p i))
       (λ p i. rect-in b b (t .x) (t .y) w h p (in-rect false false (t .x) (t .y) w h p i))
       (λ p i. target-column p (in-rect b b (t .x) (t .y) w h p i))
+
+  pub in-order : (pattern m : List ℕ) (n : ℕ)
+      → paint (t .ink .target) (inTurn t pattern (all (backward t))) (state m n) ≡ paint (t .ink .target) (asBefore t pattern m (all false)) (state m n)
+  in-order = ordered (backward t) unread
+
+  -- between surfaces whose spans do not meet any order will do
+  pub in-any-order : meet (spanOf (t .ink .target) (rect false false (t .x) (t .y) w h)) (spanOf (t .from) (rect false false (t .sx) (t .sy) w h)) ≡ false
+      → (b : Bool) (pattern m : List ℕ) (n : ℕ)
+      → paint (t .ink .target) (inTurn t pattern (all b)) (state m n) ≡ paint (t .ink .target) (asBefore t pattern m (all false)) (state m n)
+  in-any-order apart b =
+      ordered b
+      (pairs-all (all b) (λ p q i j a r c. between apart p q (in-rect b b (t .x) (t .y) w h p i) (in-rect b b (t .x) (t .y) w h q j) a (r .1) c))

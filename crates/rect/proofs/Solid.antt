@@ -37,3 +37,8 @@ solid-gives t pattern m now p e =
     never true true bit e = absurd (true≢false e)
     never true false bit e = refl
     never false mono bit e = refl
+
+-- no fill looks at a source
+pub fill-gives : (t : Task) (pattern m m′ now : List ℕ) (p : Px) → t .copies ≡ false → giving t pattern m now p ≡ giving t pattern m′ now p
+unfolding giving sourceBy
+fill-gives t pattern m m′ now p e = rw e refl

@@ -12,9 +12,10 @@ use Rattle.surface.specs.Place.{byteOf, readPx, Colour}
 use Rattle.surface.specs.Pixels.{Px}
 use Rattle.rect.specs.declared.Task.{Task}
 use Rattle.paint.specs.Paint.{Touch, touch}
-use Rattle.paint.specs.Mix.{mixed}
+use Rattle.paint.specs.Mix.{mixed, direct}
 use Rattle.paint.specs.Pattern.{patternColumn}
 use Rattle.runs.specs.Runs.{Run, Up, Down}
+use Rattle.bits.specs.declared.Mono.{Mono}
 use Rattle.rect.specs.Copy.{sourcePlace, sourceBy, backward, CanPaint, Orderly}
 
 -- what pixel p is given where the pattern's row has these eight values, and these bits if it is mono
@@ -33,6 +34,21 @@ solid t = ((not (t .copies) && eqb (t .ink .rop0) 0xcc) && not (t .ink .dstKey))
 -- a copy that moves the bytes of its source: raster operation CC, no keys, one format
 abbrev pub plainly : Task → Bool
 plainly t = (((t .copies && eqb (t .ink .rop0) 0xcc) && not (t .ink .srcKey)) && not (t .ink .dstKey)) && eqb (t .from .bytes) (t .ink .target .bytes)
+
+-- a mono copy whose pixels get the colours of their bits: raster operation CC, no target key
+abbrev pub bitwise : Task → Bool
+bitwise t = (t .copies && eqb (t .from .bytes) 0) && direct (t .ink)
+
+-- and what it needs
+unfoldable pub monoOf : Task → Mono
+monoOf t = record {
+  plain = record { target = t .ink .target; fore = t .ink .fore; back = t .ink .back; clear = t .ink .clear };
+  from = t .from;
+  sx = t .sx;
+  sy = t .sy;
+  x = t .x;
+  y = t .y;
+}
 
 -- the byte of the source pixel
 abbrev pub sourceByte : Task → List ℕ → Px → ℕ → ℕ

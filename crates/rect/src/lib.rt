@@ -1,4 +1,6 @@
 // Rectangles of pixels, filled or copied: as runs of bytes where they can be, and else pixel by pixel.
+use bits::Mono;
+use bits::Plain;
 use paint::Ink;
 use paint::Source;
 use surface::Surface;
@@ -11,7 +13,7 @@ ghost use Rattle.surface.specs.Pixels.{px, across, rect};
 ghost use Rattle.paint.specs.Paint.{state, dab, paint, nth};
 ghost use Rattle.paint.specs.Mix.{source, fillSource, mixed, Ready};
 ghost use Rattle.rect.specs.Copy.{sourceBy, asBefore, inTurn, backward, HasSource, RowReady, CanPaint, Orderly};
-ghost use Rattle.rect.specs.Fast.{inRow, solid, plainly, sourceByte, toRow, fromRow, RowMoves, Moves};
+ghost use Rattle.rect.specs.Fast.{inRow, solid, plainly, bitwise, monoOf, sourceByte, toRow, fromRow, RowMoves, Moves};
 ghost use Rattle.runs.specs.Runs.{Shifted, Given};
 
 // A rectangle's work: the ink; where it is copied from, if it is; and the first pixel of the source and of the target.
@@ -190,14 +192,53 @@ fn goes_back(t: Task) -> bool
     false
 }
 
-// A rectangle filled or copied, each pixel from the source as it was before; the count of pixels written.
-pub fn paint_rect(mem: &mut [u8], t: Task, pattern: [u8; 256], w: u32, h: u32) -> u32
-    requires { ⌜ CanPaint t w h (length (now mem)) × (t .copies ≡ true → Orderly t w h) ⌝ }
+// Whether a mono copy gives each pixel the colour of its bit.
+fn is_bitwise(t: Task) -> bool
+    ensures { λ r. ⌜ r ≡ bitwise t ⌝ }
+{
+    t.copies & (t.from.bytes == 0) & paint::is_direct(t.ink)
+}
+
+fn mono_of(t: Task) -> Mono
+    ensures { λ r. ⌜ (r ≡ monoOf t) × ((t .ink .fore < 2 ^ 32) × (t .ink .back < 2 ^ 32)) ⌝ }
+{
+    let ink = t.ink;
+    let target = ink.target;
+    let from = t.from;
+    Mono {
+        plain: Plain {
+            target: target,
+            fore: ink.fore,
+            back: ink.back,
+            clear: ink.clear,
+        },
+        from: from,
+        sx: t.sx,
+        sy: t.sy,
+        x: t.x,
+        y: t.y,
+    }
+}
+
+// A rectangle filled.
+fn fill_rect(mem: &mut [u8], t: Task, pattern: [u8; 256], w: u32, h: u32) -> u32
+    requires { ⌜ CanPaint t w h (length (now mem)) × (t .copies ≡ false) ⌝ }
     ensures { λ r. ⌜ state (now (mem .exit)) r ≡ paint (t .ink .target) (asBefore t pattern (now (mem .entry)) (rect false false (t .x) (t .y) w h)) (state (now (mem .entry)) 0) ⌝ }
 {
     if is_solid(t) {
         let v = raster::raster(0xcc, 0, t.ink.fore, 0);
         return runs::solid_rows(mem, t.ink.target, v, t.x, t.y, w, h);
+    }
+    paint_rows(mem, t, pattern, w, h, false)
+}
+
+// A rectangle copied, each pixel from the source as it was before.
+fn copy_rect(mem: &mut [u8], t: Task, pattern: [u8; 256], w: u32, h: u32) -> u32
+    requires { ⌜ CanPaint t w h (length (now mem)) × ((t .copies ≡ true) × Orderly t w h) ⌝ }
+    ensures { λ r. ⌜ state (now (mem .exit)) r ≡ paint (t .ink .target) (asBefore t pattern (now (mem .entry)) (rect false false (t .x) (t .y) w h)) (state (now (mem .entry)) 0) ⌝ }
+{
+    if is_bitwise(t) {
+        return bits::mono_rows(mem, mono_of(t), w, h);
     }
     let back = goes_back(t);
     if is_plain(t) {
@@ -205,4 +246,15 @@ pub fn paint_rect(mem: &mut [u8], t: Task, pattern: [u8; 256], w: u32, h: u32) -
         return w * h;
     }
     paint_rows(mem, t, pattern, w, h, back)
+}
+
+// A rectangle filled or copied; the count of pixels written.
+pub fn paint_rect(mem: &mut [u8], t: Task, pattern: [u8; 256], w: u32, h: u32) -> u32
+    requires { ⌜ CanPaint t w h (length (now mem)) × (t .copies ≡ true → Orderly t w h) ⌝ }
+    ensures { λ r. ⌜ state (now (mem .exit)) r ≡ paint (t .ink .target) (asBefore t pattern (now (mem .entry)) (rect false false (t .x) (t .y) w h)) (state (now (mem .entry)) 0) ⌝ }
+{
+    if t.copies {
+        return copy_rect(mem, t, pattern, w, h);
+    }
+    fill_rect(mem, t, pattern, w, h)
 }

@@ -10,19 +10,19 @@ use Rattle.surface.specs.Place.{writeBytes, writePx}
 use Rattle.surface.specs.Pixels.{px}
 use Rattle.paint.specs.declared.Ink.{Ink}
 use Rattle.paint.specs.declared.Source.{Source}
-use Rattle.paint.specs.Paint.{state, dab}
+use Rattle.paint.specs.Paint.{state, dab, dabAt}
 use Rattle.paint.specs.Mix.{bitSource, mixed, direct}
 use Rattle.paint.proofs.MixLaws.{direct-mixed}
-use Rattle.strokes.specs.Walk.{sourced, putFrom}
+use Rattle.strokes.specs.Walk.{sourced}
 use Rattle.line.proofs.Sides.{either}
 
 module _ (at n count : ℕ) (s : Source) (m : List ℕ) where
-  pub from-left : s .left ≡ true → state m count ≡ putFrom at n s (state m count)
-  unfolding putFrom
+  pub from-left : s .left ≡ true → state m count ≡ dabAt at n (sourced s) (state m count)
+  unfolding dabAt sourced
   from-left e = rw e
 
-  pub from-put : (m′ : List ℕ) → s .left ≡ false → m′ ≡ writeBytes (λ k. at + k) 0 n (s .value) m → state m′ (count + 1) ≡ putFrom at n s (state m count)
-  unfolding putFrom
+  pub from-put : (m′ : List ℕ) → s .left ≡ false → m′ ≡ writeBytes (λ k. at + k) 0 n (s .value) m → state m′ (count + 1) ≡ dabAt at n (sourced s) (state m count)
+  unfolding dabAt sourced
   from-put m′ e p = rw (e, p)
 
 module _ (s : Surface) (x y count : ℕ) (source : Source) (m : List ℕ) where

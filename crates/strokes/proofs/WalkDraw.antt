@@ -7,15 +7,13 @@ use Prim.Native.Nat.{ℕ, zero, suc, _+_, _-_, _^_, _<_, _≤_}
 use native.Mathlib.Decide.{ℕ-discrete}
 use native.Mathlib.Omega.{arith}
 use Rattle.surface.specs.declared.Surface.{Surface}
-use Rattle.surface.specs.Place.{byteOf, readPx, onSurface}
-use Rattle.surface.specs.Pixels.{Px, px}
+use Rattle.surface.specs.Place.{readPx, onSurface}
+use Rattle.surface.specs.Pixels.{Px}
 use Rattle.spans.specs.Span.{allOn}
 use Rattle.surface.proofs.OnLaws.{and-left, and-right}
-use Rattle.surface.proofs.Run.{write-run}
 use Rattle.surface.proofs.Lists.{by-cases}
 use Rattle.paint.specs.declared.Clip.{Clip}
 use Rattle.paint.specs.declared.Ink.{Ink}
-use Rattle.paint.specs.declared.Source.{Source}
 use Rattle.paint.specs.Paint.{State, dab, Touch, touch, paint}
 use Rattle.paint.specs.Pattern.{patternValue}
 use Rattle.paint.specs.Mix.{bitSource, placed, direct}
@@ -26,18 +24,11 @@ use Rattle.line.specs.declared.Pen.{Pen}
 use Rattle.line.specs.Line.{longer, pointAt, pointsFrom, pointCount, points}
 use Rattle.line.specs.Stipple.{stippleBit, after}
 use Rattle.line.specs.Draw.{coveredPoints, lineTouches, Drawable}
-use Rattle.strokes.specs.Walk.{sourced, walkTouches, putFrom, whole, walks, Walkable}
-use Rattle.line.proofs.Sides.{either, count-le}
+use Rattle.strokes.specs.Walk.{sourced, walkTouches, whole, walks, Walkable}
+use Rattle.line.proofs.Sides.{count-le}
 use Rattle.line.proofs.PointLaws.{point-box, from-cons, from-none}
 use Rattle.line.proofs.DrawLaws.{point-on, on-turn}
 use Rattle.strokes.proofs.PutLaws.{direct-source}
-
--- ---- a pixel from its address on
-pub put-dab : (s : Surface) (x y a : ℕ) (source : Source) (st : State) → a ≡ byteOf s x y 0
-    → putFrom a (s .bytes) source st ≡ dab s (px x y) (sourced source) st
-unfolding putFrom sourced dab
-put-dab s x y a source st e =
-    either (source .left) (λ f. rw f) (λ f. rw (f, write-run s x y a e (source .value) (st .mem)))
 
 -- ---- one point, and the others
 module _ (ink : Ink) (pen : Pen) (l : Line) (i e style : ℕ) (st : State) where

@@ -68,10 +68,6 @@ walkTouches ink pen style [] = []
 walkTouches ink pen style (p ∷ ps) =
     touch (pixelAt (p .x) (p .y)) (λ m. sourced (bitSource ink (stippleBit pen style))) ∷ walkTouches ink pen (after pen style) ps
 
--- the source in the n bytes from an address on, and counted; or they are left
-unfoldable pub putFrom : ℕ → ℕ → Source → State → State
-putFrom at n s st = cond (s .left) st (state (writeBytes (λ k. at + k) 0 n (s .value) (st .mem)) (st .count + 1))
-
 -- ---- the stipple's four numbers
 
 abbrev pub wordOf : Phase → ℕ

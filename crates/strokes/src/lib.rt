@@ -13,14 +13,14 @@ ghost use Prim.Native.Nat.{_+_, _-_, _%_, _^_, _<_, _≤_};
 ghost use lib.ListN.{length};
 ghost use Rattle.surface.specs.Place.{readPx, OnColour};
 ghost use Rattle.surface.specs.Pixels.{px};
-ghost use Rattle.paint.specs.Paint.{state, dab, paint};
+ghost use Rattle.paint.specs.Paint.{state, dab, paint, dabAt};
 ghost use Rattle.paint.specs.Pattern.{patternValue};
 ghost use Rattle.paint.specs.Mix.{bitSource, mixed, Ready};
 ghost use Rattle.paint.specs.Clip.{Bits12};
 ghost use Rattle.line.specs.Line.{pointCount, points, Placed};
 ghost use Rattle.line.specs.Stipple.{stippleBit, after, styleAfter};
 ghost use Rattle.line.specs.Draw.{lineTouches, Drawable, DrawablePoint};
-ghost use Rattle.strokes.specs.Walk.{shift, stepsOf, walkedOn, sourced, walkTouches, putFrom, wordOf, whole, Fields, walks, Spot, Walkable};
+ghost use Rattle.strokes.specs.Walk.{shift, stepsOf, walkedOn, sourced, walkTouches, wordOf, whole, Fields, walks, Spot, Walkable};
 
 // What a line leaves: the word lineStyle, and how many pixels it wrote.
 pub struct LineDone {
@@ -257,7 +257,7 @@ fn phase_bit(pen: Pen, p: Phase) -> u32
 // A pixel of n bytes from an address on is given its source, and counted, or it is left.
 fn put_from(mem: &mut [u8], at: usize, n: u32, s: Source, count: u32) -> u32
     requires { ⌜ Spot at n (length (now mem)) count ⌝ }
-    ensures { λ r. ⌜ (state (now (mem .exit)) r ≡ putFrom at n s (state (now (mem .entry)) count)) × (r ≤ count + 1) ⌝ }
+    ensures { λ r. ⌜ (state (now (mem .exit)) r ≡ dabAt at n (sourced s) (state (now (mem .entry)) count)) × (r ≤ count + 1) ⌝ }
 {
     if s.left {
         return count;

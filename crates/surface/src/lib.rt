@@ -1,6 +1,6 @@
 // A surface, and the bytes and bits of its pixels in memory.
 ghost use mathlib.Core.Path.{_≡_};
-ghost use Prim.Native.Nat.{_+_, _-_, _%_, _<_};
+ghost use Prim.Native.Nat.{_+_, _-_, _/_, _%_, _<_};
 ghost use lib.ListN.{length, getD, set};
 ghost use Rattle.surface.specs.Place.{byteAt, byteOf, readBytes, writeBytes, readPx, writePx, monoBit};
 ghost use Rattle.surface.specs.Place.{Colour, Near, Held, OnColour, OnMono};
@@ -106,12 +106,19 @@ pub fn put_pixel(mem: &mut [u8], s: Surface, x: u32, y: u32, v: u32)
     put_bytes(mem, at, s.bytes, v);
 }
 
+// The byte that a mono pixel lies in.
+pub fn mono_byte(mem: &[u8], s: Surface, x: u32, y: u32) -> u32
+    requires { ⌜ OnMono s (length (now mem)) x y ⌝ }
+    ensures { λ r. ⌜ (r ≡ getD (now (mem .entry)) (byteAt s (x / 8) y) 0) × (r < 256) ⌝ }
+{
+    let at = byte_at(s, wide(x / 8), wide(y));
+    mem[at] as u32
+}
+
 // The bit of a mono pixel.
 pub fn get_bit(mem: &[u8], s: Surface, x: u32, y: u32) -> u32
     requires { ⌜ OnMono s (length (now mem)) x y ⌝ }
     ensures { λ r. ⌜ r ≡ monoBit (now (mem .entry)) s x y ⌝ }
 {
-    let at = byte_at(s, wide(x / 8), wide(y));
-    let byte = mem[at] as u32;
-    (byte >> (7 - x % 8)) % 2
+    (mono_byte(mem, s, x, y) >> (7 - x % 8)) % 2
 }

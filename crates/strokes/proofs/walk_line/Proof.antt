@@ -18,8 +18,9 @@ use Rattle.strokes.specs.Walk.{sourced, walkTouches, wordOf, AtPoint, Fi
 use Rattle.line.proofs.Sides.{count-le, longer-lt}
 use Rattle.line.proofs.PointLaws.{from-start}
 use Rattle.line.proofs.StippleLaws.{style-start, style-turn, style-done}
+use Rattle.paint.proofs.Turns.{dab-at}
 use Rattle.strokes.proofs.WalkLaws.{steps-small, walk-start, walk-next}
-use Rattle.strokes.proofs.WalkDraw.{put-dab, walk-left, walk-none}
+use Rattle.strokes.proofs.WalkDraw.{walk-left, walk-none}
 use Rattle.strokes.proofs.walk_line.Statement.{statement}
 use Rattle.strokes.proofs.walk_line.Tie as tie
 
@@ -108,7 +109,7 @@ loop-again c =
     let h : k .i < pointCount (a .l) = omega (arith, c .before .before .before .before .before .before .before .before .before .point-count .ensures) in
     let at = k .inv .2 h in
     let q = pointAt (a .l) (k .i) in
-    let put = c .before .before .before .before .put-from .ensures .0 ∙ put-dab s (q .x - origin) (q .y - origin) _ _ (state (k .mem) (k .count)) (at .at)
+    let put = c .before .before .before .before .put-from .ensures .0 ∙ dab-at s (pixelAt (q .x) (q .y)) _ (sourced _) (state (k .mem) (k .count)) (at .at)
     ∙ ap (λ (source : Source). dab s (pixelAt (q .x) (q .y)) (sourced source) (state (k .mem) (k .count))) (c .before .before .before .before .before .bit-source .ensures ∙ ap (bitSource (a .ink)) (c .before .before .before .before .before .before .phase-bit .ensures)) in (
       walk-left (a .ink) (a .pen) (a .l) (k .i) (pointCount (a .l)) (wordOf (k .p)) (state (k .mem) (k .count)) h (c .phase-after .ensures .1) put ∙ k .inv .0,
       style-turn (a .pen) (k .i) (pointCount (a .l)) (wordOf (k .p)) _ h (c .phase-after .ensures .1) ∙ k .inv .1,

@@ -1,0 +1,120 @@
+-- Laws of pixels from bits: one pixel, a turn of each loop, and a byte read once for all its pixels.
+-- Assumes nothing.
+use mathlib.Core.Path.{_≡_, sym, ap, ap₂, _∙_}
+use mathlib.Core.Bool.{true, false}
+use mathlib.Core.List.{List}
+use Prim.Native.Nat.{ℕ, _+_, _-_, _*_, _/_, _%_, _^_, _<_, _≤_}
+use native.Mathlib.Nat.{add-mul}
+use native.Mathlib.Omega.{arith}
+use lib.ListN.{getD}
+use borrow.Author.Tests.{eq-eqb, ne-eqb}
+use Rattle.surface.specs.declared.Surface.{Surface}
+use Rattle.surface.specs.Place.{byteAt, byteOf, monoBit, writeBytes, Held}
+use Rattle.surface.specs.Pixels.{Px, px, across}
+use Rattle.surface.proofs.Rows.{byteAt-run}
+use Rattle.surface.proofs.Run.{pixel-held}
+use Rattle.surface.proofs.Rects.{same-px, in-across}
+use Rattle.surface.proofs.Lists.{In}
+use Rattle.spans.proofs.Spans.{IsByte}
+use Rattle.paint.specs.Paint.{State, state, dab, dabAt, paint}
+use Rattle.paint.proofs.Owners.{of-byte, dab-leaves}
+use Rattle.paint.proofs.Turns.{paint-while, dab-at}
+use Rattle.runs.specs.Runs.{RowOn}
+use Rattle.bits.specs.declared.Plain.{Plain}
+use Rattle.bits.specs.declared.Mono.{Mono}
+use Rattle.bits.specs.Bits.{coloured, bitOf, byteTouches, monoGiving, monoly, RowMono, CanMono}
+
+-- ---- one pixel
+module _ (at n bit count : ℕ) (p : Plain) (m : List ℕ) where
+  pub bit-fore : {m′ : List ℕ} → bit ≡ 1 → m′ ≡ writeBytes (λ k. at + k) 0 n (p .fore) m → state m′ (count + 1) ≡ dabAt at n (coloured p bit) (state m count)
+  unfolding coloured dabAt
+  bit-fore e w = rw (eq-eqb bit 1 e, w)
+
+  pub bit-left : (bit ≡ 1 → ⊥) → p .clear ≡ true → state m count ≡ dabAt at n (coloured p bit) (state m count)
+  unfolding coloured dabAt
+  bit-left e c = rw (ne-eqb bit 1 e, c)
+
+  pub bit-back : {m′ : List ℕ} → (bit ≡ 1 → ⊥) → p .clear ≡ false → m′ ≡ writeBytes (λ k. at + k) 0 n (p .back) m → state m′ (count + 1) ≡ dabAt at n (coloured p bit) (state m count)
+  unfolding coloured dabAt
+  bit-back e c w = rw (ne-eqb bit 1 e, c, w)
+
+-- ---- where a pixel of the row begins
+pub pixel-place : (s : Surface) (x y i : ℕ) → byteOf s x y 0 + i * s .bytes ≡ byteOf s (x + i) y 0
+unfolding byteOf
+pixel-place s x y i =
+    let p : x * s .bytes + 0 + i * s .bytes ≡ (x + i) * s .bytes + 0 = rw (add-mul x i (s .bytes)) (omega arith) in
+    sym (byteAt-run s (x * s .bytes + 0) (i * s .bytes) y) ∙ ap (λ (c : ℕ). byteAt s c y) p
+
+pub run-held : (s : Surface) (len x y m count i n at : ℕ) → RowOn s len x m y count → i < m → n ≡ s .bytes → at ≡ byteOf s x y 0 → Held (at + i * n) n len
+run-held s len x y m count i n at row h e a =
+    rw (e, a) (pixel-held (row .on (x + i) (omega arith) (omega arith)) (byteOf s x y 0 + i * s .bytes) (pixel-place s x y i))
+
+pub bit-turn : (p : Plain) (byte k x y i n at : ℕ) (st st′ : State) → n ≡ p .target .bytes → at ≡ byteOf (p .target) x y 0
+    → st′ ≡ dabAt (at + i * n) n (coloured p (bitOf byte (k + i))) st → st′ ≡ dab (p .target) (px (x + i) y) (coloured p (bitOf byte (k + (x + i - x)))) st
+bit-turn p byte k x y i n at st st′ e a d =
+    let z : x + i - x ≡ i = omega arith in
+    d ∙ ap₂ (λ (b c : ℕ). dabAt (c + i * b) b (coloured p (bitOf byte (k + i))) st) e a
+    ∙ dab-at (p .target) (px (x + i) y) (byteOf (p .target) x y 0 + i * p .target .bytes) (coloured p (bitOf byte (k + i))) st (pixel-place (p .target) x y i)
+    ∙ ap (λ (c : ℕ). dab (p .target) (px (x + i) y) (coloured p (bitOf byte (k + c))) st) (sym z)
+
+-- ---- a byte read once
+module _ (t : Mono) (w j len n : ℕ) (row : RowMono t w j len n) where
+  abbrev target : Surface
+  target = t .plain .target
+
+  abbrev place : ℕ → ℕ
+  place i = byteAt (t .from) ((t .sx + i) / 8) (t .sy + j)
+
+  same-bit : (i l byte : ℕ) (now : List ℕ) → i ≤ l → (t .sx + i) % 8 + (l - i) < 8 → getD now (place i) 0 ≡ byte
+      → coloured (t .plain) (bitOf byte ((t .sx + i) % 8 + (l - i))) ≡ monoGiving t now (px (t .x + l) (t .y + j))
+  unfolding monoGiving monoBit
+  same-bit i l byte now h small e =
+      let c : t .sx + (t .x + l - t .x) ≡ t .sx + l = omega arith in
+      let r : t .sy + (t .y + j - t .y) ≡ t .sy + j = omega arith in
+      let a : (t .sx + l) / 8 ≡ (t .sx + i) / 8 = omega arith in
+      let b : (t .sx + l) % 8 ≡ (t .sx + i) % 8 + (l - i) = omega arith in
+      rw (c, r, a, b, e)
+
+  -- a pixel of the part from column i on, by its number in the row
+  at-number : (i m : ℕ) (q : Px) → In q (across false (t .x + i) m (t .y + j)) → (i ≤ q .x - t .x) × (q .x - t .x < i + m) × (px (t .x + (q .x - t .x)) (t .y + j) ≡ q)
+  at-number i m q k =
+      let c = in-across false (t .x + i) m (t .y + j) q k in
+      (omega arith, omega arith, same-px (px (t .x + (q .x - t .x)) (t .y + j)) q (omega arith) (sym (c .2)))
+
+  away : (i m : ℕ) (q : Px) → i < w → i + m ≤ w → In q (across false (t .x + i) m (t .y + j)) → IsByte target q (place i) → ⊥
+  away i m q li lm k b =
+      let l = q .x - t .x in
+      let c = at-number i m q k in
+      let f = of-byte target (row .colour .some) q (place i) b in
+      row .apart i l (b .k) li (omega arith) (f .0) (f .1 ∙ ap (λ (p : Px). byteOf target (p .x) (p .y) (b .k)) (sym (c .2)))
+
+  pub byte-once : (i m byte : ℕ) (st : State) → i < w → i + m ≤ w → (t .sx + i) % 8 + m ≤ 8 → getD (st .mem) (place i) 0 ≡ byte
+      → paint target (byteTouches (t .plain) byte ((t .sx + i) % 8) (t .x + i) (across false (t .x + i) m (t .y + j))) st
+      ≡ paint target (monoly t (across false (t .x + i) m (t .y + j))) st
+  byte-once i m byte st li lm small e =
+      paint-while target (λ q now. coloured (t .plain) (bitOf byte ((t .sx + i) % 8 + (q .x - (t .x + i))))) (λ q now. monoGiving t now q)
+      (λ now. getD now (place i) 0 ≡ byte) (across false (t .x + i) m (t .y + j))
+      (λ q k now g.
+      let c = at-number i m q k in
+      let d : q .x - (t .x + i) ≡ q .x - t .x - i = omega arith in
+      ap (λ (d : ℕ). coloured (t .plain) (bitOf byte ((t .sx + i) % 8 + d))) d
+      ∙ same-bit i (q .x - t .x) byte now (c .0) (omega (arith, c .1)) g ∙ ap (monoGiving t now) (c .2))
+      (λ q k o s g. dab-leaves target (row .colour .some) q o s (place i) (away i m q li lm k) ∙ g) st e
+
+-- ---- a rectangle that can be copied has its rows ready
+pub mono-line : {t : Mono} {w h len : ℕ} → CanMono t w h len → (j n : ℕ) → j < h → n + w < 2 ^ 32 → RowMono t w j len n
+mono-line {t} {w} {h} {len} can j n l room = record {
+  colour = can .colour;
+  target = record {
+    wide = can .wide;
+    room = room;
+    on = λ i a b. record { colour = can .colour; on = let e : t .x + (i - t .x) ≡ i = omega arith in rw e at (can .target (i - t .x) j (omega arith) l) };
+  };
+  small = can .small;
+  mono = can .mono;
+  wide = can .sourceWide;
+  high = omega (arith, can .sourceHigh);
+  down = omega (arith, can .high);
+  source = λ i a. can .source i j a l;
+  apart = λ i m k a b. can .apart i m j k a b l;
+}

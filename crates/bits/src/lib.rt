@@ -1,0 +1,138 @@
+// Mono sources: the bits of a byte as pixels, and a mono rectangle copied a byte at a time.
+use surface::Surface;
+ghost use mathlib.Core.Path.{_≡_};
+ghost use mathlib.Core.Bool.{false};
+ghost use Prim.Native.Nat.{_+_, _-_, _<_, _≤_, min};
+ghost use lib.ListN.{length};
+ghost use Rattle.surface.specs.Place.{Colour, Held};
+ghost use Rattle.surface.specs.Pixels.{across, rect};
+ghost use Rattle.paint.specs.Paint.{state, dabAt, paint};
+ghost use Rattle.runs.specs.Runs.{RowOn};
+ghost use Rattle.bits.specs.Bits.{coloured, byteTouches, monoly, RowMono, CanMono};
+
+// What each bit needs: the target, the colours of the two bits, and whether a 0 bit leaves its pixel unwritten.
+pub struct Plain {
+    pub target: Surface,
+    pub fore: u32,
+    pub back: u32,
+    pub clear: bool,
+}
+
+// A mono rectangle to be copied: its source, and the first pixel of the source and of the target.
+pub struct Mono {
+    pub plain: Plain,
+    pub from: Surface,
+    pub sx: u32,
+    pub sy: u32,
+    pub x: u32,
+    pub y: u32,
+}
+
+// A pixel of n bytes from an address on is given the colour of its bit, and counted, or it is left.
+fn put_bit(mem: &mut [u8], at: usize, n: u32, p: Plain, bit: u32, count: u32) -> u32
+    requires { ⌜ Held at n (length (now mem)) × (count + 1 < 0x100000000) ⌝ }
+    ensures { λ r. ⌜ (state (now (mem .exit)) r ≡ dabAt at n (coloured p bit) (state (now (mem .entry)) count)) × (r ≤ count + 1) ⌝ }
+{
+    if bit == 1 {
+        surface::put_bytes(mem, at, n, p.fore);
+        return count + 1;
+    }
+    if p.clear {
+        return count;
+    }
+    surface::put_bytes(mem, at, n, p.back);
+    count + 1
+}
+
+// The m pixels of row y from x on are given the bits of a byte from bit k on, the highest first; n is the target's bytes per pixel.
+fn put_run(
+    mem: &mut [u8],
+    p: Plain,
+    n: u32,
+    byte: u32,
+    k: u32,
+    x: u32,
+    y: u32,
+    m: u32,
+    count: u32,
+) -> u32
+    requires { ⌜ (Colour (p .target) × RowOn (p .target) (length (now mem)) x m y count) × ((k + m ≤ 8) × (n ≡ p .target .bytes)) ⌝ }
+    ensures { λ r. ⌜ (state (now (mem .exit)) r ≡ paint (p .target) (byteTouches p byte k x (across false x m y)) (state (now (mem .entry)) count)) × (r ≤ count + m) ⌝ }
+{
+    let at = surface::byte_of(p.target, x, y, 0);
+    let mut r = count;
+    let mut i = 0;
+    while i < m {
+        let bit = (byte >> (7 - (k + i))) % 2;
+        r = put_bit(mem, at + surface::wide(i * n), n, p, bit, r);
+        i += 1;
+    }
+    r
+}
+
+// The same, with a loop for each number of bytes.
+pub fn put_bits(
+    mem: &mut [u8],
+    p: Plain,
+    byte: u32,
+    k: u32,
+    x: u32,
+    y: u32,
+    m: u32,
+    count: u32,
+) -> u32
+    requires { ⌜ (Colour (p .target) × RowOn (p .target) (length (now mem)) x m y count) × (k + m ≤ 8) ⌝ }
+    ensures { λ r. ⌜ (state (now (mem .exit)) r ≡ paint (p .target) (byteTouches p byte k x (across false x m y)) (state (now (mem .entry)) count)) × (r ≤ count + m) ⌝ }
+{
+    let n = p.target.bytes;
+    if n == 1 {
+        return put_run(mem, p, 1, byte, k, x, y, m, count);
+    }
+    if n == 2 {
+        return put_run(mem, p, 2, byte, k, x, y, m, count);
+    }
+    if n == 4 {
+        return put_run(mem, p, 4, byte, k, x, y, m, count);
+    }
+    put_run(mem, p, n, byte, k, x, y, m, count)
+}
+
+fn least(a: u32, b: u32) -> u32
+    ensures { λ r. ⌜ r ≡ min a b ⌝ }
+{
+    if a < b { a } else { b }
+}
+
+// Row j of a mono rectangle, a byte of its source at a time.
+fn mono_row(mem: &mut [u8], t: Mono, w: u32, j: u32, count: u32) -> u32
+    requires { ⌜ RowMono t w j (length (now mem)) count ⌝ }
+    ensures { λ r. ⌜ (state (now (mem .exit)) r ≡ paint (t .plain .target) (monoly t (across false (t .x) w (t .y + j))) (state (now (mem .entry)) count)) × (r ≤ count + w) ⌝ }
+{
+    let p = t.plain;
+    let y = t.y + j;
+    let mut r = count;
+    let mut i = 0;
+    while i < w {
+        let column = t.sx + i;
+        let k = column % 8;
+        let m = least(8 - k, w - i);
+        let byte = surface::mono_byte(mem, t.from, column, t.sy + j);
+        r = put_bits(mem, p, byte, k, t.x + i, y, m, r);
+        i += m;
+    }
+    r
+}
+
+// A mono rectangle, row by row.
+pub fn mono_rows(mem: &mut [u8], t: Mono, w: u32, h: u32) -> u32
+    requires { ⌜ CanMono t w h (length (now mem)) ⌝ }
+    ensures { λ r. ⌜ state (now (mem .exit)) r ≡ paint (t .plain .target) (monoly t (rect false false (t .x) (t .y) w h)) (state (now (mem .entry)) 0) ⌝ }
+{
+    let mut n = 0;
+    let mut j = 0;
+    while j < h {
+        n = mono_row(mem, t, w, j, n);
+        j += 1;
+    }
+    n
+}

@@ -1,0 +1,118 @@
+-- A mono copy whose pixels get the colours of their bits: what a pixel is given, and that the rectangle can be copied a byte at a time.
+-- Assumes nothing.
+use mathlib.Core.Path.{_≡_, refl, sym, ap, _∙_}
+use mathlib.Core.Logic.{⊎-elim}
+use mathlib.Core.Bool.{Bool, true, false, cond, _&&_}
+use mathlib.Core.List.{List}
+use mathlib.Core.Option.{Option, none, some}
+use Prim.Native.Nat.{ℕ, _+_, _-_, _/_, _^_, _<_}
+use native.Mathlib.Nat.{add-zero}
+use native.Mathlib.Decide.{ℕ-discrete}
+use native.Mathlib.Omega.{arith}
+use lib.Dec.{eqb}
+use borrow.Author.Tests.{eq-eqb, eqb-true}
+use Rattle.surface.specs.declared.Surface.{Surface}
+use Rattle.surface.specs.Place.{byteAt, byteOf, readPx, monoBit}
+use Rattle.surface.specs.Pixels.{Px, px, rect, Inside}
+use Rattle.surface.proofs.OnLaws.{and-left, and-right, mono-first, some-byte}
+use Rattle.surface.proofs.Lists.{by-cases}
+use Rattle.spans.specs.Span.{spanOf, meet}
+use Rattle.spans.proofs.Spans.{IsByte}
+use Rattle.paint.specs.declared.Source.{Source}
+use Rattle.paint.specs.Mix.{source, bitSource, fillSource, colourSource, mixed, direct}
+use Rattle.paint.specs.Pattern.{patternColumn, patternRow, patternBit, patternValue}
+use Rattle.paint.proofs.MixLaws.{direct-mixed}
+use Rattle.paint.proofs.Owners.{byte-of}
+use Rattle.bits.specs.Bits.{coloured, monoGiving, CanMono}
+use Rattle.rect.specs.declared.Task.{Task}
+use Rattle.rect.specs.Copy.{sourcePlace, sourceBy, giving, CanPaint, Orderly}
+use Rattle.rect.specs.Fast.{bitwise, monoOf}
+use Rattle.rect.proofs.TaskLaws.{can-pixel}
+use Rattle.rect.proofs.Order.{between}
+
+-- a bit's colour, or nothing
+given : (bit fore back : ℕ) (clear : Bool) → bit < 2
+    → cond (clear && eqb bit 0) none (some (cond (eqb bit 1) fore back)) ≡ cond (eqb bit 1) (some fore) (cond clear none (some back))
+given bit fore back clear h =
+    by-cases (ℕ-discrete bit 1) (λ e. rw e (one clear)) (λ e. let z : bit ≡ 0 = omega arith in rw z (none-of clear))
+  where
+    one : (c : Bool) → _≡_ {A = Option ℕ} (cond (c && false) none (some fore)) (some fore)
+    one true = refl
+    one false = refl
+
+    none-of : (c : Bool) → _≡_ {A = Option ℕ} (cond (c && true) none (some back)) (cond c none (some back))
+    none-of true = refl
+    none-of false = refl
+
+bit-small : (m : List ℕ) (s : Surface) (x y : ℕ) → monoBit m s x y < 2
+unfolding monoBit
+bit-small m s x y = omega arith
+
+module _ (t : Task) (e : bitwise t ≡ true) where
+  pub copied : t .copies ≡ true
+  copied = and-left (t .copies) (eqb (t .from .bytes) 0) (and-left (t .copies && eqb (t .from .bytes) 0) (direct (t .ink)) e)
+
+  pub is-mono : t .from .bytes ≡ 0
+  is-mono = eqb-true (t .from .bytes) 0 (and-right (t .copies) (eqb (t .from .bytes) 0) (and-left (t .copies && eqb (t .from .bytes) 0) (direct (t .ink)) e))
+
+  mono-source : (bit : ℕ) (now : List ℕ) (p : Px) → sourceBy t bit now p ≡ bitSource (t .ink) (monoBit now (t .from) (sourcePlace t p .x) (sourcePlace t p .y))
+  unfolding sourceBy
+  mono-source bit now p =
+      let mono = bitSource (t .ink) (monoBit now (t .from) (sourcePlace t p .x) (sourcePlace t p .y)) in
+      let deep = colourSource (t .ink) (t .from .bytes) (readPx now (t .from) (sourcePlace t p .x) (sourcePlace t p .y)) in
+      ap (λ (c : Bool). cond c (cond (eqb (t .from .bytes) 0) mono deep) (fillSource (t .ink) bit)) copied
+      ∙ ap (λ (z : Bool). cond z mono deep) (eq-eqb (t .from .bytes) 0 is-mono)
+
+  pub mono-gives : t .ink .fore < 2 ^ 32 → t .ink .back < 2 ^ 32 → (pattern now : List ℕ) (p : Px) → giving t pattern now now p ≡ monoGiving (monoOf t) now p
+  unfolding giving sourcePlace bitSource monoGiving monoOf coloured
+  mono-gives fore back pattern now p =
+      let bit = monoBit now (t .from) (t .sx + (p .x - t .x)) (t .sy + (p .y - t .y)) in
+      let pv = patternValue (t .ink) pattern (p .x) (p .y) in
+      let old = readPx now (t .ink .target) (p .x) (p .y) in
+      ap (λ (s : Source). mixed (t .ink) pv s old) (mono-source (patternBit pattern (patternColumn (t .ink) (p .x)) (patternRow (t .ink) (p .y))) now p)
+      ∙ direct-mixed (t .ink) pv (cond (eqb bit 1) (t .ink .fore) (t .ink .back)) old (t .ink .clear && eqb bit 0)
+      (and-right (t .copies && eqb (t .from .bytes) 0) (direct (t .ink)) e) (small (eqb bit 1) fore back)
+      ∙ given bit (t .ink .fore) (t .ink .back) (t .ink .clear) (bit-small now (t .from) (t .sx + (p .x - t .x)) (t .sy + (p .y - t .y)))
+    where
+      small : (b : Bool) {m n : ℕ} → m < 2 ^ 32 → n < 2 ^ 32 → cond b m n < 2 ^ 32
+      small true h k = h
+      small false h k = k
+
+-- the byte of a mono pixel is its own
+mono-byte : (s : Surface) → s .bytes ≡ 0 → (q : Px) → IsByte s q (byteAt s (q .x / 8) (q .y))
+mono-byte s e q = record { k = 0; low = some-byte s; at = ap (λ (c : ℕ). byteAt s c (q .y)) (sym (add-zero (_) ∙ mono-first s (q .x) e)) }
+
+-- the two surfaces are not one
+pub mono-apart : (t : Task) (w h : ℕ) → t .from .bytes ≡ 0 → 0 < t .ink .target .bytes → Orderly t w h
+    → meet (spanOf (t .ink .target) (rect false false (t .x) (t .y) w h)) (spanOf (t .from) (rect false false (t .sx) (t .sy) w h)) ≡ false
+mono-apart t w h e c = ⊎-elim (λ same. absurd (let b : t .from .bytes ≡ t .ink .target .bytes = ap (λ (s : Surface). s .bytes) same in omega arith)) (λ apart. apart)
+
+pub can-mono : (t : Task) (w h len : ℕ) → bitwise t ≡ true → CanPaint t w h len → Orderly t w h → CanMono (monoOf t) w h len
+unfolding monoOf sourcePlace
+can-mono t w h len e can orderly = record {
+  colour = can .colour;
+  wide = can .wide;
+  high = can .high;
+  small = can .small;
+  mono = is-mono t e;
+  sourceWide = can .sourceWide;
+  sourceHigh = can .sourceHigh;
+  target = λ i j li lj. can-pixel can (t .x + i) (t .y + j) (inside i j li lj) .0 .on;
+  source = λ i j li lj. rw (← column i, ← row j) (can-pixel can (t .x + i) (t .y + j) (inside i j li lj) .1 .on (copied t e));
+  apart = λ i l j k li ll lj lk f.
+      between t w h len can (λ _. orderly) (mono-apart t w h (is-mono t e) (can .colour .some) orderly) (px (t .x + l) (t .y + j)) (px (t .x + i) (t .y + j)) (inside l j ll lj) (inside i j li lj)
+      (byteOf (t .ink .target) (t .x + l) (t .y + j) k) (source-byte i j k l f) (byte-of (t .ink .target) (can .colour .some) (px (t .x + l) (t .y + j)) k lk);
+}
+  where
+    inside : (i j : ℕ) → i < w → j < h → Inside (t .x) (t .y) w h (px (t .x + i) (t .y + j))
+    inside i j li lj = omega arith
+
+    column : (i : ℕ) → t .sx + (t .x + i - t .x) ≡ t .sx + i
+    column i = omega arith
+
+    row : (j : ℕ) → t .sy + (t .y + j - t .y) ≡ t .sy + j
+    row j = omega arith
+
+    source-byte : (i j k l : ℕ) → byteAt (t .from) ((t .sx + i) / 8) (t .sy + j) ≡ byteOf (t .ink .target) (t .x + l) (t .y + j) k
+        → IsByte (t .from) (sourcePlace t (px (t .x + i) (t .y + j))) (byteOf (t .ink .target) (t .x + l) (t .y + j) k)
+    source-byte i j k l f = rw (← f, column i, row j) (mono-byte (t .from) (is-mono t e) (px (t .sx + i) (t .sy + j)))

@@ -1,0 +1,119 @@
+-- `rect::copy_rect` meets its contract: a mono copy gives each pixel the colour of its bit, a plain one moves its source's bytes; otherwise the corner chosen is one from which each pixel has its source as it was.
+-- Assumes nothing.
+use borrow.Author.Needs.{needs}
+use mathlib.Core.Path.{sym, ap, ap₂, subst⁻¹, _∙_}
+use mathlib.Core.Bool.{Bool, false}
+use mathlib.Core.Option.{some}
+use native.Mathlib.Nat.{mul-comm}
+use native.Mathlib.Omega.{arith}
+use lib.ListN.{length}
+use Rattle.surface.specs.Pixels.{rect}
+use Rattle.surface.proofs.Bytes.{product-lt}
+use Rattle.paint.specs.Paint.{state, paint}
+use Rattle.rect.specs.Copy.{giving, inTurn}
+use Rattle.rect.specs.Fast.{monoOf}
+use Rattle.bits.specs.declared.Mono.{Mono}
+use Rattle.bits.specs.Bits.{monoGiving, monoly, CanMono}
+use Rattle.rect.proofs.Mono.{is-mono, mono-gives, mono-apart, can-mono}
+use Rattle.paint.proofs.Turns.{paint-same}
+use Rattle.rect.proofs.Order.{in-order, in-any-order}
+use Rattle.paint.proofs.Frame.{Bytes}
+use Rattle.rect.proofs.Plain.{plainly-plain, plain-moves, plain-counts}
+use Rattle.runs.proofs.Runs.{given-once}
+use Rattle.rect.proofs.copy_rect.Statement.{statement}
+use Rattle.rect.proofs.copy_rect.Tie as tie
+
+is-bitwise-requires : tie.Need-is-bitwise-requires
+is-bitwise-requires c κs = search needs
+
+mono-of-requires : tie.Need-mono-of-requires
+mono-of-requires c κs = search needs
+
+mono-rows-requires : tie.Need-mono-rows-requires
+mono-rows-requires c κs =
+    let a = c .before .before .before .before .before .args in
+    let p = c .before .before .before .before .before .pre in
+    subst⁻¹ (λ (k : Mono). CanMono k (a .w) (a .h) (length (a .mem .now))) (c .mono-of .ensures .0)
+    (can-mono (a .t) (a .w) (a .h) (length (a .mem .now)) (sym (c .before .before .before .is-bitwise .ensures) ∙ c .before .before .if1 .taken) (p .0) (p .1 .1))
+
+same-length : tie.Need-same-length
+same-length c = search needs
+
+returns : tie.Need-returns
+unfolding monoOf
+returns c =
+    let a = c .before .before .before .before .before .before .before .before .args in
+    let p = c .before .before .before .before .before .before .before .before .pre in
+    let bitwise = sym (c .before .before .before .before .before .before .is-bitwise .ensures) ∙ c .before .before .before .before .before .if1 .taken in
+    let made = c .before .before .before .mono-of .ensures in
+    let m = a .mem .now in
+    let ps = rect false false (a .t .x) (a .t .y) (a .w) (a .h) in
+    c .before .before .mono-rows .ensures
+    ∙ ap (λ (k : Mono). paint (k .plain .target) (monoly k (rect false false (k .x) (k .y) (a .w) (a .h))) (state m 0)) (made .0)
+    ∙ sym (paint-same (a .t .ink .target) (λ q now. giving (a .t) (a .pattern) now now q) (λ q now. monoGiving (monoOf (a .t)) now q) ps
+    (λ q i now. mono-gives (a .t) bitwise (made .1 .0) (made .1 .1) (a .pattern) now q) (state m 0))
+    ∙ in-any-order (a .t) (a .w) (a .h) (length m) (p .0) (λ _. p .1 .1) (mono-apart (a .t) (a .w) (a .h) (is-mono (a .t) bitwise) (p .0 .colour .some) (p .1 .1)) false (a .pattern) m 0
+
+goes-back-requires : tie.Need-goes-back-requires
+goes-back-requires c κs = search needs
+
+is-plain-requires : tie.Need-is-plain-requires
+is-plain-requires c κs = search needs
+
+move-rows-requires : tie.Need-move-rows-requires
+move-rows-requires c κs =
+    let a = c .before .before .before .before .before .before .before .args in
+    let p = c .before .before .before .before .before .before .before .pre in
+    let plain = sym (c .before .before .is-plain .ensures) ∙ c .before .if2 .taken in
+    record { plain = plain; can = p .0; orderly = p .1 .1; way = c .before .before .before .goes-back .ensures }
+
+mul-result : tie.Need-mul-result
+mul-result c =
+    let a = c .before .before .before .before .before .before .before .before .before .before .args in
+    let p = c .before .before .before .before .before .before .before .before .before .before .pre .0 in
+    omega (arith, product-lt 14 14 {a = a .w} {b = a .h} (omega (arith, p .wide)) (omega (arith, p .high)))
+
+same-length-2 : tie.Need-same-length-2
+same-length-2 c = search needs
+
+returns-2 : tie.Need-returns-2
+returns-2 c =
+    let a = c .before .before .before .before .before .before .before .before .before .before .args in
+    let p = c .before .before .before .before .before .before .before .before .before .before .pre in
+    let plain = plainly-plain (a .t) (sym (c .before .before .before .before .before .is-plain .ensures) ∙ c .before .before .before .before .if2 .taken) in
+    let bytes : Bytes (a .mem .now) = (λ i. omega (arith, c .before .before .before .before .before .before .before .before .before .slice-known .given i)) in
+    ap₂ state (given-once (c .before .before .move-rows .ensures) (plain-moves (a .t) (a .pattern) (a .mem .now) (a .w) (a .h) plain (p .0) bytes))
+    (mul-comm (a .w) (a .h) ∙ sym (plain-counts (a .t) (a .pattern) (a .mem .now) (a .w) (a .h) plain (p .0) bytes))
+
+paint-rows-requires : tie.Need-paint-rows-requires
+paint-rows-requires c κs = search needs
+
+same-length-3 : tie.Need-same-length-3
+same-length-3 c = search needs
+
+returns-3 : tie.Need-returns-3
+returns-3 c =
+    let a = c .before .before .before .before .before .before .before .before .before .before .args in
+    let p = c .before .before .before .before .before .before .before .before .before .before .pre in
+    c .before .before .paint-rows .ensures
+    ∙ ap (λ (b : Bool). paint (a .t .ink .target) (inTurn (a .t) (a .pattern) (rect b b (a .t .x) (a .t .y) (a .w) (a .h))) (state (a .mem .now) 0)) (c .before .before .before .before .before .before .goes-back .ensures)
+    ∙ in-order (a .t) (a .w) (a .h) (length (a .mem .now)) (p .0) (λ _. p .1 .1) (a .pattern) (a .mem .now) 0
+
+pub copy-rect-spec : {M : Type 1} → statement M
+copy-rect-spec =
+    tie.close
+    (tie.spec
+    is-bitwise-requires
+    mono-of-requires
+    mono-rows-requires
+    same-length
+    returns
+    goes-back-requires
+    is-plain-requires
+    move-rows-requires
+    mul-result
+    same-length-2
+    returns-2
+    paint-rows-requires
+    same-length-3
+    returns-3)

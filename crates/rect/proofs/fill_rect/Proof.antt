@@ -1,0 +1,67 @@
+-- `rect::fill_rect` meets its contract: a solid fill gives each pixel one value, and no fill looks at a source.
+-- Assumes nothing.
+use borrow.Author.Needs.{needs}
+use mathlib.Core.Path.{sym, ap, _∙_}
+use mathlib.Core.Bool.{false}
+use mathlib.Core.Option.{some}
+use Prim.Native.Nat.{ℕ}
+use Rattle.surface.specs.Pixels.{rect}
+use Rattle.paint.specs.Paint.{state, paint}
+use Rattle.rect.specs.Copy.{giving}
+use Rattle.runs.specs.Runs.{evenly}
+use Rattle.paint.proofs.Turns.{paint-same}
+use Rattle.rect.proofs.Solid.{solid-gives, fill-gives}
+use Rattle.rect.proofs.TaskLaws.{can-pixel}
+use Rattle.rect.proofs.fill_rect.Statement.{statement}
+use Rattle.rect.proofs.fill_rect.Tie as tie
+
+is-solid-requires : tie.Need-is-solid-requires
+is-solid-requires c κs = search needs
+
+raster-requires : tie.Need-raster-requires
+raster-requires c κs = search needs
+
+solid-rows-requires : tie.Need-solid-rows-requires
+solid-rows-requires c κs =
+    let p = c .before .before .before .before .before .pre .0 in
+    record { colour = p .colour; wide = p .wide; high = p .high; on = λ i j l r t b. can-pixel p i j (record { left = l; right = r; top = t; bottom = b }) .0 }
+
+same-length : tie.Need-same-length
+same-length c = search needs
+
+returns : tie.Need-returns
+returns c =
+    let a = c .before .before .before .before .before .before .before .before .args in
+    let solid = sym (c .before .before .before .before .before .before .is-solid .ensures) ∙ c .before .before .before .before .before .if1 .taken in
+    let ps = rect false false (a .t .x) (a .t .y) (a .w) (a .h) in
+    c .before .before .solid-rows .ensures
+    ∙ ap (λ (v : ℕ). paint (a .t .ink .target) (evenly v ps) (state (a .mem .now) 0)) (c .before .before .before .before .raster .ensures)
+    ∙ sym (paint-same (a .t .ink .target) (λ p now. giving (a .t) (a .pattern) (a .mem .now) now p) (λ p now. some _) ps
+    (λ p i now. solid-gives (a .t) (a .pattern) (a .mem .now) now p solid) (state (a .mem .now) 0))
+
+paint-rows-requires : tie.Need-paint-rows-requires
+paint-rows-requires c κs = search needs
+
+same-length-2 : tie.Need-same-length-2
+same-length-2 c = search needs
+
+returns-2 : tie.Need-returns-2
+returns-2 c =
+    let a = c .before .before .before .before .before .before .before .args in
+    let p = c .before .before .before .before .before .before .before .pre in
+    c .before .before .paint-rows .ensures
+    ∙ paint-same (a .t .ink .target) (λ p now. giving (a .t) (a .pattern) now now p) (λ p now. giving (a .t) (a .pattern) (a .mem .now) now p)
+    (rect false false (a .t .x) (a .t .y) (a .w) (a .h)) (λ q i now. fill-gives (a .t) (a .pattern) now (a .mem .now) now q (p .1)) (state (a .mem .now) 0)
+
+pub fill-rect-spec : {M : Type 1} → statement M
+fill-rect-spec =
+    tie.close
+    (tie.spec
+    is-solid-requires
+    raster-requires
+    solid-rows-requires
+    same-length
+    returns
+    paint-rows-requires
+    same-length-2
+    returns-2)
