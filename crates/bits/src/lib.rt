@@ -91,10 +91,10 @@ pub fn put_bits(
     if n == 2 {
         return put_run(mem, p, 2, byte, k, x, y, m, count);
     }
-    if n == 4 {
-        return put_run(mem, p, 4, byte, k, x, y, m, count);
+    if n == 3 {
+        return put_run(mem, p, 3, byte, k, x, y, m, count);
     }
-    put_run(mem, p, n, byte, k, x, y, m, count)
+    put_run(mem, p, 4, byte, k, x, y, m, count)
 }
 
 fn least(a: u32, b: u32) -> u32
