@@ -14,7 +14,7 @@ use Rattle.registers.specs.declared.Place.the-variants.{Register, Pattern, Laun
 use Rattle.registers.specs.Regs.{putReg, getReg}
 use Rattle.registers.specs.Kept.{kept, oneOf}
 use Rattle.registers.specs.Offsets.{placeOf}
-use Rattle.registers.specs.Bank.{stored}
+use Rattle.bank.specs.Bank.{stored}
 use Rattle.registers.proofs.Arms.{Each}
 use Rattle.registers.proofs.RegsLaws.{registers, get-put, get-nowhere}
 use Rattle.host.specs.Host.{wordsOf}

@@ -14,7 +14,7 @@ use Rattle.registers.specs.declared.Place.the-variants.{Register, Pattern, Laun
 use Rattle.registers.specs.Regs.{getReg}
 use Rattle.registers.specs.Kept.{oneOf}
 use Rattle.registers.specs.Offsets.{placeOf}
-use Rattle.registers.specs.Bank.{getWord, freshBank}
+use Rattle.bank.specs.Bank.{getWord, freshBank}
 use Rattle.registers.proofs.Arms.{either-same, Each, of-each}
 use Rattle.registers.proofs.RegsLaws.{registers, get-zero}
 use Rattle.registers.proofs.OffsetLaws.{register-listed, pattern-word}

@@ -12,7 +12,7 @@ use Rattle.registers.specs.declared.Place.the-variants.{Register, Pattern}
 use Rattle.registers.specs.Regs.{putReg, getReg}
 use Rattle.registers.specs.Kept.{kept, oneOf}
 use Rattle.registers.specs.Offsets.{placeOf}
-use Rattle.registers.specs.Bank.{putWord, stored, patterned}
+use Rattle.bank.specs.Bank.{putWord, stored, patterned}
 use Rattle.registers.proofs.Arms.{Each, of-each}
 use Rattle.registers.proofs.RegsLaws.{registers}
 use Rattle.registers.proofs.OffsetLaws.{register-listed, pattern-word}

@@ -9,10 +9,10 @@ use lib.ListN.{length}
 use Rattle.surface.specs.Place.{byteOf}
 use Rattle.formats.specs.Format.{targetOf}
 use Rattle.views.specs.View.{viewAnswer}
-use Rattle.registers.specs.declared.Reading.{Reading}
+use Rattle.bank.specs.declared.Reading.{Reading}
 use Rattle.registers.specs.declared.Place.the-variants.{Register, Pattern}
 use Rattle.registers.specs.Offsets.{placeOf}
-use Rattle.registers.specs.Bank.{readNumber, readValue}
+use Rattle.bank.specs.Bank.{readNumber, readValue}
 use Rattle.engine.specs.declared.Answer.{Answer}
 use Rattle.engine.specs.Step.{Step, numberOf, countOf, freshEngine, written, readFrom}
 use Rattle.state.specs.Layout.{stateSize, wordAt, withWord, encoded, decoded, openedIn, isState}

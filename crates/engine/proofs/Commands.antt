@@ -32,7 +32,7 @@ use Rattle.registers.specs.declared.Regs.{Regs}
 use Rattle.registers.specs.declared.Place.{Place}
 use Rattle.registers.specs.declared.Place.the-variants.{Register, Pattern, Launch, Nowhere}
 use Rattle.registers.specs.Regs.{putReg}
-use Rattle.registers.specs.Bank.{stored, patterned}
+use Rattle.bank.specs.Bank.{stored, patterned}
 use Rattle.registers.specs.Offsets.{placeOf}
 use Rattle.command.specs.Decode.{target, origins, inkOf, fillTask, copyTask, lineOf, penOf, feedOf}
 use Rattle.cuts.specs.Cut.{bit, number, clipOf, cutAt, fillCut, copyCut, covered, needed}

@@ -16,7 +16,7 @@ use Rattle.registers.specs.declared.Regs.{Regs}
 use Rattle.registers.specs.declared.Place.{Place}
 use Rattle.registers.specs.declared.Place.the-variants.{Register, Pattern, Launch, Nowhere}
 use Rattle.registers.specs.Regs.{putReg}
-use Rattle.registers.specs.Bank.{stored}
+use Rattle.bank.specs.Bank.{stored}
 use Rattle.registers.specs.Offsets.{placeOf}
 use Rattle.host.specs.Host.{wordsOf}
 use Rattle.command.specs.Decode.{target, copyTask, fillTask, feedOf}

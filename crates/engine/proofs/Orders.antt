@@ -6,7 +6,7 @@ use Prim.Native.Nat.{ℕ}
 use native.Mathlib.Omega.{arith}
 use Rattle.registers.specs.declared.Regs.{Regs}
 use Rattle.registers.specs.Regs.{putReg}
-use Rattle.registers.specs.Bank.{stored}
+use Rattle.bank.specs.Bank.{stored}
 use Rattle.cuts.specs.Cut.{number}
 use Rattle.engine.specs.declared.Engine.{Engine}
 use Rattle.engine.specs.Step.{regs, storedIn}

@@ -11,7 +11,7 @@ use borrow.Author.Tests.{eqb-true, eq-eqb, le-ltb, ltb-true}
 use Rattle.registers.specs.declared.Regs.{Regs}
 use Rattle.registers.specs.declared.Place.{Place}
 use Rattle.registers.specs.declared.Place.the-variants.{Register, Pattern, Launch, Nowhere}
-use Rattle.registers.specs.Bank.{patterned}
+use Rattle.bank.specs.Bank.{patterned}
 use Rattle.registers.specs.Offsets.{placeOf}
 use Rattle.line.specs.Line.{pointCount}
 use Rattle.line.specs.Stipple.{styleAfter}

@@ -15,7 +15,7 @@ use Rattle.views.specs.View.{viewAnswer, viewed}
 use Rattle.paint.specs.Clip.{origin, inClip}
 use Rattle.paint.specs.Paint.{state, Touch, dab, paint}
 use Rattle.registers.specs.declared.Regs.{Regs}
-use Rattle.registers.specs.declared.Reading.{Reading}
+use Rattle.bank.specs.declared.Reading.{Reading}
 use Rattle.registers.specs.declared.Place.{Place}
 use Rattle.registers.specs.declared.Place.the-variants.{Register, Pattern, Launch, Nowhere}
 use Rattle.registers.specs.Offsets.{placeOf}

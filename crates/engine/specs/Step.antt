@@ -14,11 +14,11 @@ use Rattle.line.specs.Draw.{lineTouches}
 use Rattle.host.specs.Host.{byWord, wordsOf}
 use Rattle.host.specs.Draw.{hostTouches}
 use Rattle.registers.specs.declared.Regs.{Regs}
-use Rattle.registers.specs.declared.Bank.{Bank}
-use Rattle.registers.specs.declared.Reading.{Reading}
+use Rattle.bank.specs.declared.Bank.{Bank}
+use Rattle.bank.specs.declared.Reading.{Reading}
 use Rattle.registers.specs.declared.Place.{Place}
 use Rattle.registers.specs.declared.Place.the-variants.{Register, Pattern, Launch, Nowhere}
-use Rattle.registers.specs.Bank.{freshBank, stored, patterned, readAt}
+use Rattle.bank.specs.Bank.{freshBank, stored, patterned, readAt}
 use Rattle.registers.specs.Offsets.{placeOf}
 use Rattle.positions.specs.Position.{steppedXY}
 use Rattle.engine.specs.declared.Blit.{Blit}

@@ -1,7 +1,7 @@
 // The engine: a register write decoded, judged by the table of answers, and carried out.
-use registers::Bank;
+use bank::Bank;
+use bank::Reading;
 use registers::Place;
-use registers::Reading;
 ghost use mathlib.Core.Path.{_≡_};
 ghost use lib.ListN.{length};
 ghost use Rattle.paint.specs.Paint.{state};

@@ -1,7 +1,4 @@
 pub mod Arms
 pub mod OffsetLaws
 pub mod RegsLaws
-pub mod BackLaws
 pub mod KeptLaws
-pub mod Words
-pub mod BankLaws

@@ -1,4 +1,3 @@
 pub mod Regs
 pub mod Kept
 pub mod Offsets
-pub mod Bank

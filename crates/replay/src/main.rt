@@ -1,11 +1,11 @@
 // Recorded streams of register writes, replayed on the engine. Standard input holds little-endian words: for each stream the length that the
 // engine is opened for, the number of writes and a seed for the memory's bytes, then offset, word and kind of each write (kind 1: the memory is
 // lent without its last byte). For each stream it prints a head, a line `number count` for each answer, and checksums of registers and memory.
+use bank::Reading;
 use engine::Answer;
 use engine::Engine;
 use libc::STDIN_FILENO;
 use libc::STDOUT_FILENO;
-use registers::Reading;
 ghost use Prim.Native.Nat.{_<_, _≤_};
 
 // Three words of the input, and how many of their twelve bytes there were.

@@ -19,7 +19,7 @@ use Rattle.paint.specs.Pattern.{patternIn, patternPixel, patternBit}
 use Rattle.rect.specs.Copy.{giving, sourceBy, sourcePlace}
 use Rattle.paint.proofs.ClipLaws.{in-clip, clip-in}
 use Rattle.registers.specs.declared.Regs.{Regs}
-use Rattle.registers.specs.Bank.{freshBank, stored}
+use Rattle.bank.specs.Bank.{freshBank, stored}
 use Rattle.registers.specs.Kept.{kept}
 use Rattle.registers.specs.Regs.{putReg}
 use Rattle.registers.specs.Offsets.{placeOf}

@@ -1,7 +1,7 @@
 // The state of an engine as bytes, laid out as specs/Layout.antt says.
+use bank::Bank;
 use engine::Blit;
 use engine::Engine;
-use registers::Bank;
 use registers::Regs;
 ghost use mathlib.Core.Path.{_≡_};
 ghost use mathlib.Core.Bool.{true};

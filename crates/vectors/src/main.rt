@@ -1,8 +1,8 @@
 // Lines, stipples and a pattern that the databook prints, drawn by the engine from register writes: a pixel of colorFore is shown as x, one of colorBack
 // as o, an untouched one as a dot.
+use bank::Reading;
 use engine::Engine;
 use libc::STDOUT_FILENO;
-use registers::Reading;
 
 fn say(text: &[u8]) {
     io::write_all(STDOUT_FILENO, text);

@@ -3,7 +3,7 @@
 use borrow.Author.Needs.{needs}
 use mathlib.Core.Path.{ap, _∙_}
 use Rattle.engine.proofs.Laws.{waits, rests}
-use Rattle.registers.specs.declared.Bank.{Bank}
+use Rattle.bank.specs.declared.Bank.{Bank}
 use Rattle.engine.specs.Step.{toPattern, step, withBank}
 use Rattle.engine.specs.declared.Answer.the-variants.{Taken}
 use Rattle.engine.proofs.Engine.take_pattern.Statement.{statement}

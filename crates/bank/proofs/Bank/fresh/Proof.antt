@@ -1,9 +1,9 @@
 -- `Bank::fresh` meets its contract, by that of `Regs::zero`.
 -- Assumes nothing.
 use borrow.Author.Needs.{needs}
-use Rattle.registers.specs.Bank.{freshBank}
-use Rattle.registers.proofs.Bank.fresh.Statement.{statement}
-use Rattle.registers.proofs.Bank.fresh.Tie as tie
+use Rattle.bank.specs.Bank.{freshBank}
+use Rattle.bank.proofs.Bank.fresh.Statement.{statement}
+use Rattle.bank.proofs.Bank.fresh.Tie as tie
 
 zero-requires : tie.Need-zero-requires
 zero-requires c κs = search needs

@@ -1,9 +1,9 @@
 -- `Bank::store_pattern` meets its contract, by that of `put_word`.
 -- Assumes nothing.
 use borrow.Author.Needs.{needs}
-use Rattle.registers.specs.Bank.{patterned}
-use Rattle.registers.proofs.Bank.store_pattern.Statement.{statement}
-use Rattle.registers.proofs.Bank.store_pattern.Tie as tie
+use Rattle.bank.specs.Bank.{patterned}
+use Rattle.bank.proofs.Bank.store_pattern.Statement.{statement}
+use Rattle.bank.proofs.Bank.store_pattern.Tie as tie
 
 put-word-requires : tie.Need-put-word-requires
 put-word-requires c κs = search needs

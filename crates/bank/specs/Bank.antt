@@ -5,14 +5,14 @@ use mathlib.Core.Bool.{cond}
 use mathlib.Core.List.{List}
 use lib.Dec.{leb}
 use lib.ListN.{getD, set, replicate}
 use Rattle.registers.specs.Regs.{noRegs, putReg, getReg}
 use Rattle.registers.specs.Kept.{kept}
 use Rattle.registers.specs.Offsets.{placeOf}
-use Rattle.registers.specs.declared.Bank.{Bank}
-use Rattle.registers.specs.declared.Reading.{Reading}
-use Rattle.registers.specs.declared.Reading.the-variants.{Value, Refused}
+use Rattle.bank.specs.declared.Bank.{Bank}
+use Rattle.bank.specs.declared.Reading.{Reading}
+use Rattle.bank.specs.declared.Reading.the-variants.{Value, Refused}
 use Rattle.registers.specs.declared.Place.{Place}
 use Rattle.registers.specs.declared.Place.the-variants.{Register, Pattern, Launch, Nowhere}
 
 -- a word put at byte i of the pattern, low byte first; nothing where four bytes do not fit
 unfoldable pub putWord : List ℕ → ℕ → ℕ → List ℕ

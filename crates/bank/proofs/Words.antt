@@ -10,8 +10,8 @@ use borrow.Author.Tests.{le-leb, lt-leb}
 use lib.Dec.{leb}
 use lib.ListN.{length, getD, set, replicate, length-set}
 use lib.Seq.{getD-set-same, getD-set-other}
-use Rattle.registers.specs.Bank.{putWord, getWord}
+use Rattle.bank.specs.Bank.{putWord, getWord}
 use Rattle.registers.proofs.Arms.{either-same}
 
 -- ---- four numbers put at four places in a row
 

@@ -5,15 +5,15 @@ use mathlib.Core.Bool.{Bool, true, false, cond}
 use mathlib.Core.Path.{_≡_, refl, subst, subst⁻¹}
 use borrow.Author.Tests.{eqb-true}
 use lib.Dec.{eqb}
-use Rattle.registers.specs.declared.Bank.{Bank}
+use Rattle.bank.specs.declared.Bank.{Bank}
 use Rattle.registers.specs.declared.Place.the-variants.{Register}
 use Rattle.registers.specs.Regs.{getReg}
 use Rattle.registers.specs.Kept.{kept}
 use Rattle.registers.specs.Offsets.{placeOf}
-use Rattle.registers.specs.Bank.{freshBank, stored, patterned}
+use Rattle.bank.specs.Bank.{freshBank, stored, patterned}
 use Rattle.registers.proofs.KeptLaws.{kept-once, kept-zero}
 use Rattle.registers.proofs.RegsLaws.{get-zero}
-use Rattle.registers.proofs.BackLaws.{register-after}
+use Rattle.bank.proofs.BackLaws.{register-after}
 
 pub record Kept (b : Bank) : Type 0 where
   pub each : (o : ℕ) → placeOf o ≡ Register → kept o (getReg o (b .regs)) ≡ getReg o (b .regs)

@@ -2,10 +2,10 @@
 -- Assumes nothing.
 use borrow.Author.Needs.{needs}
 use mathlib.Core.Path.{sym, ap, _∙_}
-use Rattle.registers.specs.declared.Reading.the-variants.{Value}
-use Rattle.registers.proofs.BackLaws.{read-of}
-use Rattle.registers.proofs.Bank.read.Statement.{statement}
-use Rattle.registers.proofs.Bank.read.Tie as tie
+use Rattle.bank.specs.declared.Reading.the-variants.{Value}
+use Rattle.bank.proofs.BackLaws.{read-of}
+use Rattle.bank.proofs.Bank.read.Statement.{statement}
+use Rattle.bank.proofs.Bank.read.Tie as tie
 
 find-place-requires : tie.Need-find-place-requires
 find-place-requires c κs = search needs

@@ -1,9 +1,9 @@
 -- `Bank::store` meets its contract, by those of `kept_bits` and `Regs::put`.
 -- Assumes nothing.
 use borrow.Author.Needs.{needs}
-use Rattle.registers.specs.Bank.{stored}
-use Rattle.registers.proofs.Bank.store.Statement.{statement}
-use Rattle.registers.proofs.Bank.store.Tie as tie
+use Rattle.bank.specs.Bank.{stored}
+use Rattle.bank.proofs.Bank.store.Statement.{statement}
+use Rattle.bank.proofs.Bank.store.Tie as tie
 
 kept-bits-requires : tie.Need-kept-bits-requires
 kept-bits-requires c κs = search needs

@@ -7,17 +7,17 @@ use mathlib.Core.Path.{_≡_, refl, ap, _∙_}
 use borrow.Author.Tests.{eq-eqb, ne-eqb}
 use lib.Dec.{eqb}
 use lib.ListN.{length, length-replicate}
-use Rattle.registers.specs.declared.Bank.{Bank}
+use Rattle.bank.specs.declared.Bank.{Bank}
 use Rattle.registers.specs.declared.Place.{Place}
 use Rattle.registers.specs.declared.Place.the-variants.{Register, Pattern, Launch, Nowhere}
-use Rattle.registers.specs.declared.Reading.the-variants.{Value}
+use Rattle.bank.specs.declared.Reading.the-variants.{Value}
 use Rattle.registers.specs.Regs.{getReg}
 use Rattle.registers.specs.Kept.{kept}
 use Rattle.registers.specs.Offsets.{placeOf}
-use Rattle.registers.specs.Bank.{freshBank, stored, patterned, readPlace, readAt, readNumber}
+use Rattle.bank.specs.Bank.{freshBank, stored, patterned, readPlace, readAt, readNumber}
 use Rattle.registers.proofs.OffsetLaws.{register-listed, pattern-word, no-register}
 use Rattle.registers.proofs.RegsLaws.{put-nowhere, get-put, get-zero}
-use Rattle.registers.proofs.Words.{word-back, word-past, word-elsewhere, word-length, word-zero}
+use Rattle.bank.proofs.Words.{word-back, word-past, word-elsewhere, word-length, word-zero}
 
 pub read-of : {p : Place} (b : Bank) (o : ℕ) → placeOf o ≡ p → readAt b o ≡ readPlace p b o
 read-of b o e = ap (λ (q : Place). readPlace q b o) e

@@ -2,9 +2,9 @@
 -- Assumes nothing.
 use borrow.Author.Needs.{needs}
 use borrow.Author.Tests.{le-leb, lt-leb}
-use Rattle.registers.specs.Bank.{putWord}
-use Rattle.registers.proofs.put_word.Statement.{statement}
-use Rattle.registers.proofs.put_word.Tie as tie
+use Rattle.bank.specs.Bank.{putWord}
+use Rattle.bank.proofs.put_word.Statement.{statement}
+use Rattle.bank.proofs.put_word.Tie as tie
 
 cast-p : tie.Need-cast-p
 cast-p c = search needs

@@ -2,9 +2,9 @@
 -- Assumes nothing.
 use borrow.Author.Needs.{needs}
 use borrow.Author.Tests.{le-leb, lt-leb}
-use Rattle.registers.specs.Bank.{getWord}
-use Rattle.registers.proofs.get_word.Statement.{statement}
-use Rattle.registers.proofs.get_word.Tie as tie
+use Rattle.bank.specs.Bank.{getWord}
+use Rattle.bank.proofs.get_word.Statement.{statement}
+use Rattle.bank.proofs.get_word.Tie as tie
 
 array-read-wide : tie.Need-array-read-wide
 array-read-wide c = search needs

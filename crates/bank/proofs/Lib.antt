@@ -1,0 +1,3 @@
+pub mod BackLaws
+pub mod Words
+pub mod BankLaws
