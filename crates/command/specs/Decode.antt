@@ -7,7 +7,7 @@ use Rattle.surface.specs.declared.Surface.{Surface}
 use Rattle.surface.specs.Place.{surface}
 use Rattle.formats.specs.Format.{targetOf, sourceOf}
 use Rattle.paint.specs.declared.Ink.{Ink}
-use Rattle.rect.specs.declared.Task.{Task}
+use Rattle.sweep.specs.declared.Task.{Task}
 use Rattle.paint.specs.Clip.{origin}
 use Rattle.cuts.specs.Cut.{bit, number, width, height, fillCut, copyCut}
 use Rattle.registers.specs.declared.Regs.{Regs}

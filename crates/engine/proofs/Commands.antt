@@ -16,10 +16,10 @@ use Rattle.surface.specs.Pixels.{Px}
 use Rattle.spans.specs.Span.{allOn, spanOf, meet}
 use Rattle.surface.proofs.Lists.{In, by-cases}
 use Rattle.surface.proofs.Rects.{rect-in}
-use Rattle.rect.specs.declared.Task.{Task}
+use Rattle.sweep.specs.declared.Task.{Task}
 use Rattle.paint.specs.Clip.{origin}
 use Rattle.paint.specs.Paint.{state, Touch, paint}
-use Rattle.rect.specs.Copy.{giving, asBefore}
+use Rattle.sweep.specs.Copy.{giving, asBefore}
 use Rattle.paint.proofs.ClipLaws.{in-clip}
 use Rattle.paint.proofs.Frame.{pixels-of}
 use Rattle.line.specs.Line.{points, pointCount}

@@ -8,11 +8,11 @@ use native.Mathlib.Omega.{arith}
 use lib.Dec.{eqb, leb, ltb}
 use borrow.Author.Tests.{eq-eqb, ne-eqb, lt-ltb, le-ltb, le-leb, lt-leb}
 use Rattle.surface.specs.Pixels.{rect}
-use Rattle.rect.specs.declared.Task.{Task}
+use Rattle.sweep.specs.declared.Task.{Task}
 use Rattle.paint.specs.declared.Ink.{Ink}
 use Rattle.paint.specs.declared.Clip.{Clip}
 use Rattle.paint.specs.Paint.{State, state, paint}
-use Rattle.rect.specs.Copy.{asBefore, CanPaint, Orderly}
+use Rattle.sweep.specs.Copy.{asBefore, CanPaint, Orderly}
 use Rattle.line.specs.declared.Line.{Line}
 use Rattle.line.specs.Draw.{Drawable}
 use Rattle.host.specs.declared.Feed.{Feed}

@@ -7,7 +7,7 @@ use Prim.Native.Nat.{ℕ, _+_, _^_, _<_}
 use lib.Dec.{eqb, leb, ltb}
 use lib.ListN.{length}
 use Rattle.paint.specs.Paint.{State, state, Touch, paint}
-use Rattle.rect.specs.Copy.{asBefore}
+use Rattle.sweep.specs.Copy.{asBefore}
 use Rattle.line.specs.Line.{points, pointCount}
 use Rattle.line.specs.Stipple.{styleAfter}
 use Rattle.line.specs.Draw.{lineTouches}

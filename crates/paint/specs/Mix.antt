@@ -32,6 +32,10 @@ bitSource ink bit = source (cond (eqb bit 1) (ink .fore) (ink .back)) false (ink
 unfoldable pub fillSource : Ink → ℕ → Source
 fillSource ink bit = source (ink .fore) false (ink .clear && (ink .mono && eqb bit 0))
 
+-- its value, or nothing where the pixel is left
+unfoldable pub sourced : Source → Option ℕ
+sourced s = cond (s .left) none (some (s .value))
+
 -- ---- the raster operation: a source match adds 2 to its number, a target match adds 1
 unfoldable pub chosen : Ink → Bool → Bool → ℕ
 chosen ink sourceMatch targetMatch =

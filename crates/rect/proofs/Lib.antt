@@ -1,5 +1,4 @@
 pub mod Solid
-pub mod TaskLaws
 pub mod Order
 pub mod Mono
 pub mod Plain

@@ -24,10 +24,10 @@ use Rattle.paint.specs.Pattern.{patternColumn, patternRow, patternBit, patternV
 use Rattle.paint.proofs.MixLaws.{direct-mixed}
 use Rattle.paint.proofs.Owners.{byte-of}
 use Rattle.bits.specs.Bits.{coloured, monoGiving, CanMono}
-use Rattle.rect.specs.declared.Task.{Task}
-use Rattle.rect.specs.Copy.{sourcePlace, sourceBy, giving, CanPaint, Orderly}
+use Rattle.sweep.specs.declared.Task.{Task}
+use Rattle.sweep.specs.Copy.{sourcePlace, sourceBy, giving, CanPaint, Orderly}
 use Rattle.rect.specs.Fast.{bitwise, monoOf}
-use Rattle.rect.proofs.TaskLaws.{can-pixel}
+use Rattle.sweep.proofs.TaskLaws.{can-pixel}
 use Rattle.rect.proofs.Order.{between}
 
 -- a bit's colour, or nothing

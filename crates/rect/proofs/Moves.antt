@@ -15,13 +15,13 @@ use Rattle.surface.proofs.Lists.{by-cases}
 use Rattle.surface.proofs.OnLaws.{colour-byte, on-column}
 use Rattle.surface.proofs.Rects.{Past}
 use Rattle.spans.proofs.Spans.{IsByte}
-use Rattle.rect.specs.declared.Task.{Task}
-use Rattle.rect.specs.Copy.{sourcePlace, backward}
+use Rattle.sweep.specs.declared.Task.{Task}
+use Rattle.sweep.specs.Copy.{sourcePlace, backward}
 use Rattle.paint.specs.Paint.{nth}
 use Rattle.rect.specs.Fast.{sourceByte, toRow, fromRow, RowMoves, Moves}
 use Rattle.runs.specs.Runs.{Shifted, Given}
 use Rattle.paint.proofs.Owners.{byte-of}
-use Rattle.rect.proofs.TaskLaws.{can-pixel}
+use Rattle.sweep.proofs.TaskLaws.{can-pixel}
 use Rattle.rect.proofs.Order.{not-read, own-byte}
 use Rattle.rect.proofs.Plain.{PlainCopy, plainly-plain}
 use Rattle.runs.proofs.Runs.{run-byte, run-column, run-place, given-row}

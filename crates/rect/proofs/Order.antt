@@ -19,15 +19,15 @@ use Rattle.surface.proofs.Lists.{Pairs, pairs-map, pairs-all}
 use Rattle.surface.proofs.Pixels.{same-byte}
 use Rattle.surface.proofs.Rects.{in-rect, rect-in, rect-pairs, rect-distinct, Past, Ahead}
 use Rattle.spans.proofs.Spans.{IsByte, span-holds}
-use Rattle.rect.specs.declared.Task.{Task}
+use Rattle.sweep.specs.declared.Task.{Task}
 use Rattle.paint.specs.declared.Source.{Source}
 use Rattle.paint.specs.Paint.{state, paint}
 use Rattle.paint.specs.Mix.{mixed, bitSource, colourSource, fillSource}
 use Rattle.paint.specs.Pattern.{patternColumn, patternRow, patternBit, patternValue}
-use Rattle.rect.specs.Copy.{sourcePlace, sourceBy, giving, asBefore, inTurn, CanPaint, Orderly, backward}
+use Rattle.sweep.specs.Copy.{sourcePlace, sourceBy, giving, asBefore, inTurn, CanPaint, Orderly, backward}
 use Rattle.paint.proofs.Owners.{byte-of, one-owner, read-px, read-bit}
 use Rattle.paint.proofs.Settle.{Local, Unread, in-place, any-order}
-use Rattle.rect.proofs.TaskLaws.{can-pixel}
+use Rattle.sweep.proofs.TaskLaws.{can-pixel}
 
 -- ---- what a task reads: for a copy, the bytes of the source pixel
 abbrev pub Reads : Task → Px → ℕ → Type 0

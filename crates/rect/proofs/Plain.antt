@@ -24,18 +24,18 @@ use Rattle.surface.proofs.OnLaws.{and-left, and-right, colour-byte, on-column}
 use Rattle.surface.proofs.Pixels.{same-byte, read-small}
 use Rattle.surface.proofs.Lists.{by-cases}
 use Rattle.surface.proofs.Rects.{in-rect, rect-in, rect-distinct, rect-length}
-use Rattle.rect.specs.declared.Task.{Task}
+use Rattle.sweep.specs.declared.Task.{Task}
 use Rattle.paint.specs.Paint.{State, state, dab, paint}
 use Rattle.paint.specs.declared.Source.{Source}
 use Rattle.paint.specs.Mix.{source, mixed, bitSource, colourSource, fillSource, direct}
 use Rattle.paint.specs.Pattern.{patternColumn, patternRow, patternBit, patternValue}
-use Rattle.rect.specs.Copy.{sourcePlace, sourceBy, giving, asBefore, CanPaint}
+use Rattle.sweep.specs.Copy.{sourcePlace, sourceBy, giving, asBefore, CanPaint}
 use Rattle.rect.specs.Fast.{sourceByte, plainly}
 use Rattle.runs.specs.Runs.{Given}
 use Rattle.paint.proofs.Owners.{byte-of, of-byte}
 use Rattle.paint.proofs.Settle.{Settled, settled, tally, counted}
 use Rattle.paint.proofs.Frame.{Bytes}
-use Rattle.rect.proofs.TaskLaws.{can-pixel}
+use Rattle.sweep.proofs.TaskLaws.{can-pixel}
 use Rattle.paint.proofs.MixLaws.{not-true, direct-mixed}
 use Rattle.rect.proofs.Order.{Reads, giving-local}
 

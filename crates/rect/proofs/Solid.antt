@@ -12,10 +12,10 @@ use Rattle.raster.proofs.RopLaws.{copies}
 use Rattle.surface.specs.Place.{readPx}
 use Rattle.surface.specs.Pixels.{Px}
 use Rattle.surface.proofs.OnLaws.{and-left, and-right}
-use Rattle.rect.specs.declared.Task.{Task}
+use Rattle.sweep.specs.declared.Task.{Task}
 use Rattle.paint.specs.Mix.{mixed, chosen, fillSource}
 use Rattle.paint.specs.Pattern.{patternColumn, patternRow, patternBit, patternIn, patternValue}
-use Rattle.rect.specs.Copy.{sourceBy, giving}
+use Rattle.sweep.specs.Copy.{sourceBy, giving}
 use Rattle.rect.specs.Fast.{solid}
 use Rattle.paint.proofs.MixLaws.{not-true}
 

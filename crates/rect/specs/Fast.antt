@@ -1,31 +1,18 @@
--- What does not change within a row or a rectangle, worked out before its pixels: the pattern's row, the one value of a solid fill, and the runs of bytes that
--- a plain copy moves.
+-- Rectangles that need no general pixel: the one value of a solid fill, the bits of a mono copy, and the runs of bytes that a plain copy moves.
 -- Assumes nothing.
 use mathlib.Core.Path.{_≡_}
 use mathlib.Core.Bool.{Bool, true, false, not, _&&_}
-use mathlib.Core.List.{List, map}
-use mathlib.Core.Option.{Option}
-use Prim.Native.Nat.{ℕ, _+_, _-_, _/_, _%_, _^_, _<_, _≤_}
+use mathlib.Core.List.{List}
+use Prim.Native.Nat.{ℕ, _+_, _-_, _^_, _<_, _≤_}
 use lib.Dec.{eqb}
 use lib.ListN.{getD}
-use Rattle.surface.specs.Place.{byteOf, readPx, Colour}
+use Rattle.surface.specs.Place.{byteOf, Colour}
 use Rattle.surface.specs.Pixels.{Px}
-use Rattle.rect.specs.declared.Task.{Task}
-use Rattle.paint.specs.Paint.{Touch, touch}
-use Rattle.paint.specs.Mix.{mixed, direct}
-use Rattle.paint.specs.Pattern.{patternColumn}
+use Rattle.sweep.specs.declared.Task.{Task}
+use Rattle.paint.specs.Mix.{direct}
 use Rattle.runs.specs.Runs.{Run, Up, Down}
 use Rattle.bits.specs.declared.Mono.{Mono}
-use Rattle.rect.specs.Copy.{sourcePlace, sourceBy, backward, CanPaint, Orderly}
-
--- what pixel p is given where the pattern's row has these eight values, and these bits if it is mono
-unfoldable pub rowGiving : Task → List ℕ → ℕ → List ℕ → Px → Option ℕ
-rowGiving t values bits now p =
-    mixed (t .ink) (getD values (patternColumn (t .ink) (p .x)) 0) (sourceBy t (bits / 2 ^ (7 - patternColumn (t .ink) (p .x)) % 2) now p)
-    (readPx now (t .ink .target) (p .x) (p .y))
-
-abbrev pub inRow : Task → List ℕ → ℕ → List Px → List Touch
-inRow t values bits ps = map (λ p. touch p (λ now. rowGiving t values bits now p)) ps
+use Rattle.sweep.specs.Copy.{sourcePlace, backward, CanPaint, Orderly}
 
 -- a fill that gives each pixel colorFore: raster operation CC, no target key, nothing left unwritten
 abbrev pub solid : Task → Bool

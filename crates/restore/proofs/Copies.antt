@@ -19,7 +19,7 @@ use Rattle.spans.proofs.Spans.{IsByte}
 use Rattle.paint.specs.declared.Clip.{Clip}
 use Rattle.paint.specs.Clip.{origin}
 use Rattle.paint.specs.Paint.{State, state, paint}
-use Rattle.rect.specs.Copy.{sourcePlace, asBefore}
+use Rattle.sweep.specs.Copy.{sourcePlace, asBefore}
 use Rattle.rect.specs.Fast.{sourceByte}
 use Rattle.runs.specs.Runs.{Given}
 use Rattle.paint.proofs.Owners.{byte-of}

@@ -11,7 +11,7 @@ use lib.ListN.{length}
 use borrow.Author.Tests.{eqb-true, eq-eqb, ne-eqb, le-ltb}
 use Rattle.surface.proofs.OnLaws.{and-left, and-right}
 use Rattle.paint.specs.Paint.{state, paint}
-use Rattle.rect.specs.Copy.{asBefore}
+use Rattle.sweep.specs.Copy.{asBefore}
 use Rattle.paint.proofs.Frame.{Bytes, paint-bytes}
 use Rattle.registers.specs.declared.Regs.{Regs}
 use Rattle.registers.specs.declared.Place.{Place}

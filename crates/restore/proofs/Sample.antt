@@ -16,7 +16,7 @@ use Rattle.formats.specs.Step.{stepOf}
 use Rattle.paint.specs.Paint.{paint, dab}
 use Rattle.paint.specs.Mix.{colourSource, fillSource, mixed, chosen}
 use Rattle.paint.specs.Pattern.{patternIn, patternPixel, patternBit}
-use Rattle.rect.specs.Copy.{giving, sourceBy, sourcePlace}
+use Rattle.sweep.specs.Copy.{giving, sourceBy, sourcePlace}
 use Rattle.paint.proofs.ClipLaws.{in-clip, clip-in}
 use Rattle.registers.specs.declared.Regs.{Regs}
 use Rattle.bank.specs.Bank.{freshBank, stored}

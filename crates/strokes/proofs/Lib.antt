@@ -1,3 +1,2 @@
-pub mod PutLaws
 pub mod WalkLaws
 pub mod WalkDraw

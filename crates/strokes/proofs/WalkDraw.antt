@@ -16,7 +16,7 @@ use Rattle.paint.specs.declared.Clip.{Clip}
 use Rattle.paint.specs.declared.Ink.{Ink}
 use Rattle.paint.specs.Paint.{State, dab, Touch, touch, paint}
 use Rattle.paint.specs.Pattern.{patternValue}
-use Rattle.paint.specs.Mix.{bitSource, placed, direct}
+use Rattle.paint.specs.Mix.{bitSource, placed, direct, sourced}
 use Rattle.paint.specs.Clip.{origin, inClip, pixelAt}
 use Rattle.paint.proofs.ClipLaws.{in-clip, clip-in}
 use Rattle.line.specs.declared.Line.{Line}
@@ -24,11 +24,11 @@ use Rattle.line.specs.declared.Pen.{Pen}
 use Rattle.line.specs.Line.{longer, pointAt, pointsFrom, pointCount, points}
 use Rattle.line.specs.Stipple.{stippleBit, after}
 use Rattle.line.specs.Draw.{coveredPoints, lineTouches, Drawable}
-use Rattle.strokes.specs.Walk.{sourced, walkTouches, whole, walks, Walkable}
+use Rattle.strokes.specs.Walk.{walkTouches, whole, walks, Walkable}
 use Rattle.line.proofs.Sides.{count-le}
 use Rattle.line.proofs.PointLaws.{point-box, from-cons, from-none}
 use Rattle.line.proofs.DrawLaws.{point-on, on-turn}
-use Rattle.strokes.proofs.PutLaws.{direct-source}
+use Rattle.points.proofs.PutLaws.{direct-source}
 
 -- ---- one point, and the others
 module _ (ink : Ink) (pen : Pen) (l : Line) (i e style : ℕ) (st : State) where

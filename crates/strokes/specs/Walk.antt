@@ -4,16 +4,14 @@
 use mathlib.Core.Path.{_≡_}
 use mathlib.Core.Bool.{Bool, true, cond, _&&_}
 use mathlib.Core.List.{List, [], _∷_}
-use mathlib.Core.Option.{Option, none, some}
 use Prim.Native.Nat.{ℕ, _+_, _-_, _*_, _%_, _^_, _<_, _≤_}
 use lib.Dec.{eqb, leb, ltb}
 use Rattle.surface.specs.declared.Surface.{Surface}
-use Rattle.surface.specs.Place.{byteOf, writeBytes, onSurface, Colour, Held}
+use Rattle.surface.specs.Place.{byteOf, onSurface, Colour, Held}
 use Rattle.paint.specs.declared.Clip.{Clip}
 use Rattle.paint.specs.declared.Ink.{Ink}
-use Rattle.paint.specs.declared.Source.{Source}
-use Rattle.paint.specs.Paint.{State, state, Touch, touch}
-use Rattle.paint.specs.Mix.{bitSource, direct}
+use Rattle.paint.specs.Paint.{Touch, touch}
+use Rattle.paint.specs.Mix.{sourced, bitSource, direct}
 use Rattle.paint.specs.Clip.{origin, inClip, pixelAt}
 use Rattle.line.specs.declared.Point.{Point}
 use Rattle.line.specs.declared.Line.{Line}
@@ -58,9 +56,6 @@ pub record AtPoint (s : Surface) (l : Line) (i : ℕ) (w : Walk) : Type 0 where
   pub rest : w .rest ≡ (2 * i * shorter l + longer l) % (2 * longer l)
 
 -- ---- what is put there
-
-unfoldable pub sourced : Source → Option ℕ
-sourced s = cond (s .left) none (some (s .value))
 
 -- each point is given its source
 unfoldable pub walkTouches : Ink → Pen → ℕ → List Point → List Touch

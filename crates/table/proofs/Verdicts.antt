@@ -23,7 +23,7 @@ use Rattle.formats.proofs.FormatLaws.{target-colour, source-small}
 use Rattle.paint.specs.declared.Clip.{Clip}
 use Rattle.paint.specs.Clip.{origin, inClip, pixelAt}
 use Rattle.paint.proofs.ClipLaws.{in-clip}
-use Rattle.rect.specs.Copy.{CanPaint, Orderly}
+use Rattle.sweep.specs.Copy.{CanPaint, Orderly}
 use Rattle.line.specs.Line.{points, Within, Placed}
 use Rattle.line.specs.Draw.{coveredPoints, lineOff, Drawable}
 use Rattle.host.specs.Host.{Sizes, wordsOf}

@@ -10,7 +10,7 @@ use lib.ListN.{length}
 use Rattle.surface.specs.Pixels.{rect}
 use Rattle.surface.proofs.Bytes.{product-lt}
 use Rattle.paint.specs.Paint.{state, paint}
-use Rattle.rect.specs.Copy.{giving, inTurn}
+use Rattle.sweep.specs.Copy.{giving, inTurn}
 use Rattle.rect.specs.Fast.{monoOf}
 use Rattle.bits.specs.declared.Mono.{Mono}
 use Rattle.bits.specs.Bits.{monoGiving, monoly, CanMono}

@@ -7,11 +7,11 @@ use mathlib.Core.Option.{some}
 use Prim.Native.Nat.{ℕ}
 use Rattle.surface.specs.Pixels.{rect}
 use Rattle.paint.specs.Paint.{state, paint}
-use Rattle.rect.specs.Copy.{giving}
+use Rattle.sweep.specs.Copy.{giving}
 use Rattle.runs.specs.Runs.{evenly}
 use Rattle.paint.proofs.Turns.{paint-same}
 use Rattle.rect.proofs.Solid.{solid-gives, fill-gives}
-use Rattle.rect.proofs.TaskLaws.{can-pixel}
+use Rattle.sweep.proofs.TaskLaws.{can-pixel}
 use Rattle.rect.proofs.fill_rect.Statement.{statement}
 use Rattle.rect.proofs.fill_rect.Tie as tie
 

@@ -1,7 +1,7 @@
 -- `rect::goes_back` meets its contract: by the tests.
 -- Assumes nothing.
 use borrow.Author.Tests.{lt-ltb, le-ltb, eq-eqb, ne-eqb, not-true, not-false}
-use Rattle.rect.specs.Copy.{backward}
+use Rattle.sweep.specs.Copy.{backward}
 use Rattle.rect.proofs.goes_back.Statement.{statement}
 use Rattle.rect.proofs.goes_back.Tie as tie
 

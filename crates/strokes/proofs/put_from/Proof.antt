@@ -2,7 +2,7 @@
 -- Assumes nothing.
 use borrow.Author.Needs.{needs}
 use native.Mathlib.Omega.{arith}
-use Rattle.strokes.proofs.PutLaws.{from-left, from-put}
+use Rattle.points.proofs.PutLaws.{from-left, from-put}
 use Rattle.strokes.proofs.put_from.Statement.{statement}
 use Rattle.strokes.proofs.put_from.Tie as tie
 

@@ -8,13 +8,13 @@ use Prim.Native.Nat.{ℕ, _-_, _<_, _≤_}
 use lib.ListN.{length}
 use Rattle.paint.specs.declared.Source.{Source}
 use Rattle.paint.specs.Paint.{state, dab, paint}
-use Rattle.paint.specs.Mix.{bitSource}
+use Rattle.paint.specs.Mix.{bitSource, sourced}
 use Rattle.paint.specs.Clip.{origin, pixelAt}
 use Rattle.surface.proofs.Run.{pixel-held}
 use Rattle.line.specs.declared.Point.{Point}
 use Rattle.line.specs.Line.{pointAt, pointCount, pointsFrom, points}
 use Rattle.line.specs.Stipple.{styleAfter}
-use Rattle.strokes.specs.Walk.{sourced, walkTouches, wordOf, AtPoint, Fields}
+use Rattle.strokes.specs.Walk.{walkTouches, wordOf, AtPoint, Fields}
 use Rattle.line.proofs.Sides.{count-le, longer-lt}
 use Rattle.line.proofs.PointLaws.{from-start}
 use Rattle.line.proofs.StippleLaws.{style-start, style-turn, style-done}

@@ -10,10 +10,10 @@ use Rattle.surface.specs.Place.{OnColour}
 use Rattle.surface.specs.Pixels.{Px, px, rect, Inside}
 use Rattle.surface.proofs.Rects.{rect-in}
 use Rattle.spans.proofs.Corner.{all-each}
-use Rattle.rect.specs.declared.Task.{Task}
+use Rattle.sweep.specs.declared.Task.{Task}
 use Rattle.paint.specs.Pattern.{patternColumn, patternRow, patternBit, RowOf}
-use Rattle.rect.specs.Copy.{giving, HasSource, RowReady, CanPaint}
-use Rattle.rect.specs.Fast.{rowGiving}
+use Rattle.sweep.specs.Copy.{giving, HasSource, RowReady, CanPaint}
+use Rattle.sweep.specs.Row.{rowGiving}
 
 -- a row's pixels are given what the pattern's row gives them
 pub by-row : (t : Task) (pattern now : List ℕ) (p : Px) {row bits : ℕ} {values : List ℕ} → row ≡ patternRow (t .ink) (p .y) → bits ≡ getD pattern row 0

@@ -9,12 +9,11 @@ use Rattle.surface.specs.Place.{readPx}
 use Rattle.surface.specs.Pixels.{px}
 use Rattle.paint.specs.declared.Source.{Source}
 use Rattle.paint.specs.Paint.{state, dab}
-use Rattle.paint.specs.Mix.{mixed}
+use Rattle.paint.specs.Mix.{mixed, sourced}
 use Rattle.paint.specs.Pattern.{patternValue}
-use Rattle.strokes.specs.Walk.{sourced}
-use Rattle.strokes.proofs.PutLaws.{direct-source}
-use Rattle.strokes.proofs.put_point.Statement.{statement}
-use Rattle.strokes.proofs.put_point.Tie as tie
+use Rattle.points.proofs.PutLaws.{direct-source}
+use Rattle.points.proofs.put_point.Statement.{statement}
+use Rattle.points.proofs.put_point.Tie as tie
 
 bit-source-requires : tie.Need-bit-source-requires
 bit-source-requires c κs = search needs

@@ -1,8 +1,8 @@
 -- `rect::paint_pixel` meets its contract: the source is read before the store.
 -- Assumes nothing.
 use borrow.Author.Needs.{needs}
-use Rattle.rect.proofs.paint_pixel.Statement.{statement}
-use Rattle.rect.proofs.paint_pixel.Tie as tie
+use Rattle.sweep.proofs.paint_pixel.Statement.{statement}
+use Rattle.sweep.proofs.paint_pixel.Tie as tie
 
 source-at-requires : tie.Need-source-at-requires
 source-at-requires c κs = search needs

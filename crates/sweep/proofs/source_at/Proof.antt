@@ -3,10 +3,10 @@
 use borrow.Author.Needs.{needs}
 use native.Mathlib.Omega.{arith}
 use borrow.Author.Tests.{eq-eqb, ne-eqb, not-true, not-false}
-use Rattle.rect.specs.Copy.{sourcePlace, sourceBy}
+use Rattle.sweep.specs.Copy.{sourcePlace, sourceBy}
 use Rattle.surface.proofs.OnLaws.{pos-of-ne}
-use Rattle.rect.proofs.source_at.Statement.{statement}
-use Rattle.rect.proofs.source_at.Tie as tie
+use Rattle.sweep.proofs.source_at.Statement.{statement}
+use Rattle.sweep.proofs.source_at.Tie as tie
 
 fill-source-requires : tie.Need-fill-source-requires
 fill-source-requires c κs = search needs

@@ -17,8 +17,8 @@ use Rattle.line.proofs.Sides.{count-le, longer-lt}
 use Rattle.line.proofs.PointLaws.{from-start}
 use Rattle.line.proofs.StippleLaws.{style-start, style-turn, style-done}
 use Rattle.line.proofs.DrawLaws.{on-left, paint-left, paint-none}
-use Rattle.strokes.proofs.paint_each.Statement.{statement}
-use Rattle.strokes.proofs.paint_each.Tie as tie
+use Rattle.points.proofs.paint_each.Statement.{statement}
+use Rattle.points.proofs.paint_each.Tie as tie
 
 abbrev Inv-loop : tie.InvT-loop
 Inv-loop mem₀ ink pattern c l pen style total done₀ i₀ mem done i =

@@ -2,8 +2,8 @@
 -- Assumes nothing.
 use mathlib.Core.Path.{refl}
 use Rattle.paint.specs.Mix.{fillSource}
-use Rattle.rect.proofs.fill_source.Statement.{statement}
-use Rattle.rect.proofs.fill_source.Tie as tie
+use Rattle.sweep.proofs.fill_source.Statement.{statement}
+use Rattle.sweep.proofs.fill_source.Tie as tie
 
 returns : tie.Need-returns
 unfolding fillSource

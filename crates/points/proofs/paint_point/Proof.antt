@@ -8,8 +8,8 @@ use mathlib.Core.Path.{_≡_, sym, _∙_}
 use Rattle.paint.specs.Clip.{inClip}
 use Rattle.paint.proofs.ClipLaws.{in-clip}
 use Rattle.line.proofs.DrawLaws.{point-on, paint-covered, paint-clipped}
-use Rattle.strokes.proofs.paint_point.Statement.{statement}
-use Rattle.strokes.proofs.paint_point.Tie as tie
+use Rattle.points.proofs.paint_point.Statement.{statement}
+use Rattle.points.proofs.paint_point.Tie as tie
 
 inside : (c : tie.Else1) → inClip (c .before .before .before .before .args .c) (c .before .before .before .before .args .p .x) (c .before .before .before .before .args .p .y) ≡ true
 inside c = sym (c .before .covers .ensures) ∙ not-false (c .before .covers .result) (c .if1 .left)

@@ -8,11 +8,11 @@ use lib.ListN.{length}
 use borrow.Author.Needs.{needs}
 use Rattle.surface.specs.Pixels.{Px, rect}
 use Rattle.paint.specs.Paint.{state, touch, paint}
-use Rattle.rect.specs.Copy.{giving, inTurn}
+use Rattle.sweep.specs.Copy.{giving, inTurn}
 use Rattle.paint.proofs.Turns.{rows-left, rows-whole, rows-again, rows-end, nth-in}
-use Rattle.rect.proofs.TaskLaws.{can-row}
-use Rattle.rect.proofs.paint_rows.Statement.{statement}
-use Rattle.rect.proofs.paint_rows.Tie as tie
+use Rattle.sweep.proofs.TaskLaws.{can-row}
+use Rattle.sweep.proofs.paint_rows.Statement.{statement}
+use Rattle.sweep.proofs.paint_rows.Tie as tie
 
 abbrev Inv-loop : tie.InvT-loop
 Inv-loop mem₀ t pattern w h back n₀ j₀ mem n j =

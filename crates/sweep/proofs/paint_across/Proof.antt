@@ -8,10 +8,10 @@ use lib.ListN.{length}
 use borrow.Author.Needs.{needs}
 use Rattle.surface.specs.Pixels.{Px, across}
 use Rattle.paint.specs.Paint.{state, touch, paint}
-use Rattle.rect.specs.Fast.{rowGiving, inRow}
+use Rattle.sweep.specs.Row.{rowGiving, inRow}
 use Rattle.paint.proofs.Turns.{row-left, row-whole, row-again, row-ends, nth-in}
-use Rattle.rect.proofs.paint_across.Statement.{statement}
-use Rattle.rect.proofs.paint_across.Tie as tie
+use Rattle.sweep.proofs.paint_across.Statement.{statement}
+use Rattle.sweep.proofs.paint_across.Tie as tie
 
 abbrev Inv-loop : tie.InvT-loop
 Inv-loop mem₀ t bits w y back n values ink r₀ i₀ mem r i =

@@ -2,9 +2,9 @@
 -- Assumes nothing.
 use borrow.Author.Needs.{needs}
 use native.Mathlib.Omega.{arith}
-use Rattle.strokes.proofs.PutLaws.{plain-left, plain-put}
-use Rattle.strokes.proofs.put_plain.Statement.{statement}
-use Rattle.strokes.proofs.put_plain.Tie as tie
+use Rattle.points.proofs.PutLaws.{plain-left, plain-put}
+use Rattle.points.proofs.put_plain.Statement.{statement}
+use Rattle.points.proofs.put_plain.Tie as tie
 
 returns : tie.Need-returns
 returns c =

@@ -11,7 +11,7 @@ use Rattle.surface.specs.Place.{readPx, monoBit, onSurface, Small, Colour, OnCo
 use Rattle.surface.specs.Pixels.{Px, px, rect}
 use Rattle.spans.specs.Span.{allOn, spanOf, meet}
 use Rattle.paint.specs.declared.Source.{Source}
-use Rattle.rect.specs.declared.Task.{Task}
+use Rattle.sweep.specs.declared.Task.{Task}
 use Rattle.paint.specs.Paint.{Touch, touch}
 use Rattle.paint.specs.Mix.{colourSource, bitSource, fillSource, mixed}
 use Rattle.paint.specs.Pattern.{patternColumn, patternRow, patternBit, patternValue}

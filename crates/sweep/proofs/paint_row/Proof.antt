@@ -7,12 +7,12 @@ use Rattle.surface.specs.Pixels.{across}
 use Rattle.surface.proofs.Rects.{in-across}
 use Rattle.paint.specs.Paint.{state}
 use Rattle.paint.specs.Pattern.{patternRow}
-use Rattle.rect.specs.Copy.{giving}
-use Rattle.rect.specs.Fast.{rowGiving}
+use Rattle.sweep.specs.Copy.{giving}
+use Rattle.sweep.specs.Row.{rowGiving}
 use Rattle.paint.proofs.Turns.{paint-same}
-use Rattle.rect.proofs.TaskLaws.{by-row}
-use Rattle.rect.proofs.paint_row.Statement.{statement}
-use Rattle.rect.proofs.paint_row.Tie as tie
+use Rattle.sweep.proofs.TaskLaws.{by-row}
+use Rattle.sweep.proofs.paint_row.Statement.{statement}
+use Rattle.sweep.proofs.paint_row.Tie as tie
 
 pattern-row-requires : tie.Need-pattern-row-requires
 pattern-row-requires c κs = search needs

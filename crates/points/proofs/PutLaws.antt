@@ -11,9 +11,8 @@ use Rattle.surface.specs.Pixels.{px}
 use Rattle.paint.specs.declared.Ink.{Ink}
 use Rattle.paint.specs.declared.Source.{Source}
 use Rattle.paint.specs.Paint.{state, dab, dabAt}
-use Rattle.paint.specs.Mix.{bitSource, mixed, direct}
+use Rattle.paint.specs.Mix.{bitSource, mixed, direct, sourced}
 use Rattle.paint.proofs.MixLaws.{direct-mixed}
-use Rattle.strokes.specs.Walk.{sourced}
 use Rattle.line.proofs.Sides.{either}
 
 module _ (at n count : ℕ) (s : Source) (m : List ℕ) where

@@ -1,8 +1,8 @@
 -- `rect::place` meets its contract: by the direction.
 -- Assumes nothing.
 use borrow.Author.Needs.{needs}
-use Rattle.rect.proofs.place.Statement.{statement}
-use Rattle.rect.proofs.place.Tie as tie
+use Rattle.sweep.proofs.place.Statement.{statement}
+use Rattle.sweep.proofs.place.Tie as tie
 
 sub-result : tie.Need-sub-result
 sub-result c = search needs
