@@ -1,7 +1,7 @@
 -- Rectangles that need no general pixel: the one value of a solid fill, the bits of a mono copy, and the runs of bytes that a plain copy moves.
 -- Assumes nothing.
 use mathlib.Core.Path.{_≡_}
-use mathlib.Core.Bool.{Bool, true, false, not, _&&_}
+use mathlib.Core.Bool.{Bool, true, false, not, _&&_, _||_}
 use mathlib.Core.List.{List}
 use Prim.Native.Nat.{ℕ, _+_, _-_, _^_, _<_, _≤_}
 use lib.Dec.{eqb}
@@ -12,6 +12,7 @@ use Rattle.sweep.specs.declared.Task.{Task}
 use Rattle.paint.specs.Mix.{direct}
 use Rattle.runs.specs.Runs.{Run, Up, Down}
 use Rattle.bits.specs.declared.Mono.{Mono}
+use Rattle.straight.specs.declared.Straight.{Straight}
 use Rattle.sweep.specs.Copy.{sourcePlace, backward, CanPaint, Orderly}
 
 -- a fill that gives each pixel colorFore: raster operation CC, no target key, nothing left unwritten
@@ -21,6 +22,25 @@ solid t = ((not (t .copies) && eqb (t .ink .rop0) 0xcc) && not (t .ink .dstKey))
 -- a copy that moves the bytes of its source: raster operation CC, no keys, one format
 abbrev pub plainly : Task → Bool
 plainly t = (((t .copies && eqb (t .ink .rop0) 0xcc) && not (t .ink .srcKey)) && not (t .ink .dstKey)) && eqb (t .from .bytes) (t .ink .target .bytes)
+
+-- a copy whose pixels get their sources, converted, or keep what stands there where the source matches the key: raster operation CC, no target key, and AA
+-- for a match
+abbrev pub straight : Task → Bool
+straight t = ((t .copies && not (eqb (t .from .bytes) 0)) && direct (t .ink)) && (not (t .ink .srcKey) || eqb (t .ink .rop2) 0xaa)
+
+-- and what it needs
+unfoldable pub straightOf : Task → Straight
+straightOf t = record {
+  target = t .ink .target;
+  from = t .from;
+  key = t .ink .srcKey;
+  least = t .ink .srcMin;
+  most = t .ink .srcMax;
+  x = t .x;
+  y = t .y;
+  sx = t .sx;
+  sy = t .sy;
+}
 
 -- a mono copy whose pixels get the colours of their bits: raster operation CC, no target key
 abbrev pub bitwise : Task → Bool

@@ -1,6 +1,7 @@
 // Rectangles of pixels, filled or copied: as runs of bytes or bits where they can be, and else pixel by pixel.
 use bits::Mono;
 use bits::Plain;
+use straight::Straight;
 use sweep::Task;
 ghost use mathlib.Core.Path.{_≡_};
 ghost use mathlib.Core.Bool.{true, false};
@@ -10,7 +11,7 @@ ghost use Rattle.surface.specs.Pixels.{rect};
 ghost use Rattle.paint.specs.Paint.{state, paint};
 ghost use Rattle.paint.specs.Mix.{source};
 ghost use Rattle.sweep.specs.Copy.{asBefore, backward, CanPaint, Orderly};
-ghost use Rattle.rect.specs.Fast.{solid, plainly, bitwise, monoOf, sourceByte, toRow, fromRow, RowMoves, Moves};
+ghost use Rattle.rect.specs.Fast.{solid, plainly, straight, straightOf, bitwise, monoOf, sourceByte, toRow, fromRow, RowMoves, Moves};
 ghost use Rattle.runs.specs.Runs.{Shifted, Given};
 
 // Row y of a plain copy, as a run of n bytes.
@@ -102,6 +103,35 @@ fn mono_of(t: Task) -> Mono
     }
 }
 
+// Whether a copy gives each pixel its source, or keeps what stands there where the source matches the key.
+fn is_straight(t: Task) -> bool
+    ensures { λ r. ⌜ r ≡ straight t ⌝ }
+{
+    t.copies
+        & !(t.from.bytes == 0)
+        & paint::is_direct(t.ink)
+        & (!t.ink.srcKey | (t.ink.rop2 == 0xaa))
+}
+
+fn straight_of(t: Task) -> Straight
+    ensures { λ r. ⌜ r ≡ straightOf t ⌝ }
+{
+    let ink = t.ink;
+    let target = ink.target;
+    let from = t.from;
+    Straight {
+        target: target,
+        from: from,
+        key: ink.srcKey,
+        least: ink.srcMin,
+        most: ink.srcMax,
+        x: t.x,
+        y: t.y,
+        sx: t.sx,
+        sy: t.sy,
+    }
+}
+
 // A rectangle filled.
 fn fill_rect(mem: &mut [u8], t: Task, pattern: [u8; 256], w: u32, h: u32) -> u32
     requires { ⌜ CanPaint t w h (length (now mem)) × (t .copies ≡ false) ⌝ }
@@ -126,6 +156,9 @@ fn copy_rect(mem: &mut [u8], t: Task, pattern: [u8; 256], w: u32, h: u32) -> u32
     if is_plain(t) {
         move_rows(mem, t, w, h, back);
         return w * h;
+    }
+    if is_straight(t) {
+        return straight::straight_rows(mem, straight_of(t), w, h, back);
     }
     sweep::paint_rows(mem, t, pattern, w, h, back)
 }

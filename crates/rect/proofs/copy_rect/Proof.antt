@@ -1,4 +1,4 @@
--- `rect::copy_rect` meets its contract: a mono copy gives each pixel the colour of its bit, a plain one moves its source's bytes; otherwise the corner chosen is one from which each pixel has its source as it was.
+-- `rect::copy_rect` meets its contract: a mono copy gives each pixel the colour of its bit, a plain one moves its source's bytes, a straight one gives the source or keeps; otherwise the corner chosen is one from which each pixel has its source as it was.
 -- Assumes nothing.
 use borrow.Author.Needs.{needs}
 use mathlib.Core.Path.{sym, ap, ap₂, subst⁻¹, _∙_}
@@ -11,9 +11,12 @@ use Rattle.surface.specs.Pixels.{rect}
 use Rattle.surface.proofs.Bytes.{product-lt}
 use Rattle.paint.specs.Paint.{state, paint}
 use Rattle.sweep.specs.Copy.{giving, inTurn}
-use Rattle.rect.specs.Fast.{monoOf}
+use Rattle.rect.specs.Fast.{monoOf, straightOf}
 use Rattle.bits.specs.declared.Mono.{Mono}
+use Rattle.straight.specs.declared.Straight.{Straight}
+use Rattle.straight.specs.Straight.{straightGiving, straightly, CanCopy}
 use Rattle.bits.specs.Bits.{monoGiving, monoly, CanMono}
+use Rattle.rect.proofs.Straight.{straight-gives, can-straight}
 use Rattle.rect.proofs.Mono.{is-mono, mono-gives, mono-apart, can-mono}
 use Rattle.paint.proofs.Turns.{paint-same}
 use Rattle.rect.proofs.Order.{in-order, in-any-order}
@@ -85,18 +88,48 @@ returns-2 c =
     ap₂ state (given-once (c .before .before .move-rows .ensures) (plain-moves (a .t) (a .pattern) (a .mem .now) (a .w) (a .h) plain (p .0) bytes))
     (mul-comm (a .w) (a .h) ∙ sym (plain-counts (a .t) (a .pattern) (a .mem .now) (a .w) (a .h) plain (p .0) bytes))
 
-paint-rows-requires : tie.Need-paint-rows-requires
-paint-rows-requires c κs = search needs
+is-straight-requires : tie.Need-is-straight-requires
+is-straight-requires c κs = search needs
+
+straight-of-requires : tie.Need-straight-of-requires
+straight-of-requires c κs = search needs
+
+straight-rows-requires : tie.Need-straight-rows-requires
+straight-rows-requires c κs =
+    let a = c .before .before .before .before .before .before .before .before .before .before .args in
+    subst⁻¹ (λ (k : Straight). CanCopy k (a .w) (a .h) (length (a .mem .now))) (c .straight-of .ensures)
+    (can-straight (a .t) (sym (c .before .before .before .is-straight .ensures) ∙ c .before .before .if3 .taken) (a .w) (a .h) (length (a .mem .now)) (c .before .before .before .before .before .before .before .before .before .before .pre .0))
 
 same-length-3 : tie.Need-same-length-3
 same-length-3 c = search needs
 
 returns-3 : tie.Need-returns-3
+unfolding straightOf
 returns-3 c =
-    let a = c .before .before .before .before .before .before .before .before .before .before .args in
-    let p = c .before .before .before .before .before .before .before .before .before .before .pre in
+    let a = c .before .before .before .before .before .before .before .before .before .before .before .before .before .args in
+    let p = c .before .before .before .before .before .before .before .before .before .before .before .before .before .pre in
+    let straight = sym (c .before .before .before .before .before .before .is-straight .ensures) ∙ c .before .before .before .before .before .if3 .taken in
+    let m = a .mem .now in
+    let back = c .before .before .before .before .before .before .before .before .before .goes-back in
+    c .before .before .straight-rows .ensures
+    ∙ ap (λ (k : Straight). paint (k .target) (straightly k (rect (back .result) (back .result) (k .x) (k .y) (a .w) (a .h))) (state m 0)) (c .before .before .before .straight-of .ensures)
+    ∙ sym (paint-same (a .t .ink .target) (λ q now. giving (a .t) (a .pattern) now now q) (λ q now. straightGiving (straightOf (a .t)) now q)
+    (rect (back .result) (back .result) (a .t .x) (a .t .y) (a .w) (a .h)) (λ q i now. straight-gives (a .t) straight (a .pattern) now q) (state m 0))
+    ∙ ap (λ (b : Bool). paint (a .t .ink .target) (inTurn (a .t) (a .pattern) (rect b b (a .t .x) (a .t .y) (a .w) (a .h))) (state m 0)) (back .ensures)
+    ∙ in-order (a .t) (a .w) (a .h) (length m) (p .0) (λ _. p .1 .1) (a .pattern) m 0
+
+paint-rows-requires : tie.Need-paint-rows-requires
+paint-rows-requires c κs = search needs
+
+same-length-4 : tie.Need-same-length-4
+same-length-4 c = search needs
+
+returns-4 : tie.Need-returns-4
+returns-4 c =
+    let a = c .before .before .before .before .before .before .before .before .before .before .before .before .args in
+    let p = c .before .before .before .before .before .before .before .before .before .before .before .before .pre in
     c .before .before .paint-rows .ensures
-    ∙ ap (λ (b : Bool). paint (a .t .ink .target) (inTurn (a .t) (a .pattern) (rect b b (a .t .x) (a .t .y) (a .w) (a .h))) (state (a .mem .now) 0)) (c .before .before .before .before .before .before .goes-back .ensures)
+    ∙ ap (λ (b : Bool). paint (a .t .ink .target) (inTurn (a .t) (a .pattern) (rect b b (a .t .x) (a .t .y) (a .w) (a .h))) (state (a .mem .now) 0)) (c .before .before .before .before .before .before .before .before .goes-back .ensures)
     ∙ in-order (a .t) (a .w) (a .h) (length (a .mem .now)) (p .0) (λ _. p .1 .1) (a .pattern) (a .mem .now) 0
 
 pub copy-rect-spec : {M : Type 1} → statement M
@@ -114,6 +147,11 @@ copy-rect-spec =
     mul-result
     same-length-2
     returns-2
-    paint-rows-requires
+    is-straight-requires
+    straight-of-requires
+    straight-rows-requires
     same-length-3
-    returns-3)
+    returns-3
+    paint-rows-requires
+    same-length-4
+    returns-4)

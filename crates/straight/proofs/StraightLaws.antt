@@ -1,0 +1,160 @@
+-- Laws of straight copies: bytes that are given what they have, the bytes of a pixel and of its source, a pixel's turn in its row, and the rows of a rectangle.
+-- Assumes nothing.
+use mathlib.Core.Path.{_≡_, refl, sym, ap, ap₂, subst, _∙_}
+use mathlib.Core.Bool.{Bool, true, false, cond}
+use mathlib.Core.List.{List}
+use Prim.Native.Nat.{ℕ, zero, suc, _+_, _-_, _*_, _/_, _%_, _^_, _<_, _≤_}
+use native.Mathlib.Nat.{lt-of-lt-of-le, pow-le-pow-right}
+use native.Mathlib.Omega.{arith}
+use lib.ListN.{length, getD}
+use lib.Seq.{set-getD}
+use Rattle.colour.specs.Convert.{converted}
+use Rattle.surface.specs.declared.Surface.{Surface}
+use Rattle.surface.specs.Place.{byteOf, readBytes, writeBytes, readPx, writePx, Held}
+use Rattle.surface.specs.Pixels.{Px, px, across}
+use Rattle.surface.proofs.Bytes.{read-fits}
+use Rattle.surface.proofs.Run.{pixel-held, read-run, write-run}
+use Rattle.paint.specs.Paint.{state, touch, dab, paint, nth}
+use Rattle.paint.proofs.Frame.{Bytes}
+use Rattle.paint.proofs.Turns.{row-left, row-whole, row-again, row-ends}
+use Rattle.runs.proofs.Runs.{run-byte}
+use Rattle.straight.specs.declared.Straight.{Straight}
+use Rattle.straight.specs.Straight.{keyed, straightValue, straightGiving, straightly, copied, CanCopy, RowCopies, Formats, PixelCopies, RunAt, RowCopied}
+
+-- ---- bytes that are given what they have
+given-again : (at : ℕ → ℕ) (k n : ℕ) (m : List ℕ) → Bytes m → writeBytes at k n (readBytes m at k n) m ≡ m
+unfolding readBytes writeBytes
+given-again at k zero m bytes = refl
+given-again at k (suc n) m bytes =
+    let b = getD m (at k) 0 in
+    let r = readBytes m at (suc k) n in
+    let low : (b + 256 * r) % 256 ≡ b = omega (arith, bytes (at k)) in
+    let high : (b + 256 * r) / 256 ≡ r = omega (arith, bytes (at k)) in
+    rw (low, high, set-getD m (at k) 0) (given-again at (suc k) n m bytes)
+
+-- the number in at most four bytes
+read-word : (at : ℕ → ℕ) (n : ℕ) (m : List ℕ) → n < 5 → Bytes m → readBytes m at 0 n < 2 ^ 32
+read-word at n m few bytes =
+    lt-of-lt-of-le (read-fits m at 0 n (λ j. bytes (at j))) (pow-le-pow-right {n = 256} (omega arith) {i = n} {j = 4} (omega arith))
+
+-- ---- a pixel, left or given its source
+module _ (t : Straight) (from to d s v : ℕ) (m : List ℕ) (formats : Formats t from to) (read : v ≡ readBytes m (λ k. s + k) 0 from) where
+  abbrev old : ℕ
+  old = readBytes m (λ k. d + k) 0 (t .target .bytes)
+
+  source-read : v ≡ readBytes m (λ k. s + k) 0 (t .from .bytes)
+  source-read = read ∙ ap (λ (n : ℕ). readBytes m (λ k. s + k) 0 n) (formats .source)
+
+  -- what it is given, by the key
+  by-key : (b : Bool) → keyed t v ≡ b → (cond b old (converted (t .from .bytes) (t .target .bytes) v)) % 2 ^ 32 ≡ straightValue t old (readBytes m (λ k. s + k) 0 (t .from .bytes))
+  by-key b e =
+      ap (λ (c : Bool). cond c old (converted (t .from .bytes) (t .target .bytes) v) % 2 ^ 32) (sym e) ∙ ap (λ (u : ℕ). straightValue t old u) source-read
+
+  pub keeps : t .target .bytes < 5 → Bytes m → keyed t v ≡ true → m ≡ copied t d s m
+  unfolding copied
+  keeps few bytes e =
+      let word : old ≡ old % 2 ^ 32 = omega (arith, read-word (λ k. d + k) (t .target .bytes) m few bytes) in
+      sym (given-again (λ k. d + k) 0 (t .target .bytes) m bytes)
+      ∙ ap (λ (u : ℕ). writeBytes (λ k. d + k) 0 (t .target .bytes) u m) (word ∙ by-key true e)
+
+  pub puts : (u : ℕ) (m′ : List ℕ) → u < 2 ^ 32 → keyed t v ≡ false → u ≡ converted from to v → m′ ≡ writeBytes (λ k. d + k) 0 to u m → m′ ≡ copied t d s m
+  unfolding copied
+  puts u m′ word e c p =
+      let low : u ≡ u % 2 ^ 32 = omega arith in
+      p ∙ ap₂ (λ (n i : ℕ). writeBytes (λ k. d + k) 0 n i m) (formats .target)
+      (low ∙ ap (λ (i : ℕ). i % 2 ^ 32) (c ∙ ap₂ (λ (f g : ℕ). converted f g v) (formats .source) (formats .target)) ∙ by-key false e)
+
+-- ---- where a pixel of a row is
+pub run-at : (s : Surface) (x y a k : ℕ) → 0 < s .bytes → a ≡ byteOf s x y 0 → a + k * s .bytes ≡ byteOf s (x + k) y 0
+run-at s x y a k some e = omega (arith, run-byte s some x y k 0, e)
+
+copied-px : (t : Straight) (d s x y x′ y′ : ℕ) (m : List ℕ) → d ≡ byteOf (t .target) x y 0 → s ≡ byteOf (t .from) x′ y′ 0
+    → copied t d s m ≡ writePx m (t .target) x y (straightValue t (readPx m (t .target) x y) (readPx m (t .from) x′ y′))
+unfolding copied
+copied-px t d s x y x′ y′ m e f =
+    write-run (t .target) x y d e (straightValue t (readBytes m (λ k. d + k) 0 (t .target .bytes)) (readBytes m (λ k. s + k) 0 (t .from .bytes))) m
+    ∙ ap₂ (λ (old v : ℕ). writePx m (t .target) x y (straightValue t old v)) (read-run (t .target) x y d e m) (read-run (t .from) x′ y′ s f m)
+
+-- a turn's number, counted from another place
+pub nth-from : (b : Bool) (at n i : ℕ) → at + nth b 0 n i ≡ nth b at n i
+nth-from false at n i = omega arith
+nth-from true at n i = omega arith
+
+-- ---- pixel number k of row j
+module _ {t : Straight} {w j len n from to d s : ℕ} (row : RowCopies t w j len n) (run : RunAt t from to d s j) (k : ℕ) where
+  target-at : d + k * to ≡ byteOf (t .target) (t .x + k) (t .y + j) 0
+  target-at = ap (λ (b : ℕ). d + k * b) (run .formats .target) ∙ run-at (t .target) (t .x) (t .y + j) d k (row .target .some) (run .first)
+
+  source-at : s + k * from ≡ byteOf (t .from) (t .sx + k) (t .sy + j) 0
+  source-at = ap (λ (b : ℕ). s + k * b) (run .formats .source) ∙ run-at (t .from) (t .sx) (t .sy + j) s k (row .from .some) (run .sourceFirst)
+
+  -- its bytes, and its source's, are in memory
+  pub pixel-copies : k < w → PixelCopies t from to (d + k * to) (s + k * from) len
+  pixel-copies h = record {
+    formats = run .formats;
+    stored = subst (λ (b : ℕ). Held (d + k * to) b len) (sym (run .formats .target)) (pixel-held (row .onTarget k h) (d + k * to) target-at);
+    read = subst (λ (b : ℕ). Held (s + k * from) b len) (sym (run .formats .source)) (pixel-held (row .onSource k h) (s + k * from) source-at);
+  }
+
+  -- the pixel whose bytes were copied is given its value
+  pixel-given : (count : ℕ) (m m′ : List ℕ) → m′ ≡ copied t (d + k * to) (s + k * from) m
+      → state m′ (count + 1) ≡ dab (t .target) (px (t .x + k) (t .y + j)) (straightGiving t m (px (t .x + k) (t .y + j))) (state m count)
+  unfolding dab straightGiving
+  pixel-given count m m′ e =
+      let column : k ≡ t .x + k - t .x = omega arith in
+      let line : j ≡ t .y + j - t .y = omega arith in
+      ap (λ (left : List ℕ). state left (count + 1))
+      (e ∙ copied-px t (d + k * to) (s + k * from) (t .x + k) (t .y + j) (t .sx + (t .x + k - t .x)) (t .sy + (t .y + j - t .y)) m target-at
+      (source-at ∙ ap₂ (λ (a b : ℕ). byteOf (t .from) (t .sx + a) (t .sy + b) 0) column line))
+
+-- ---- the loop over a row: after i turns what remains of the row, painted on the memory now, is the row painted on the memory at the start
+pub record Remains (t : Straight) (w j : ℕ) (back : Bool) (n i : ℕ) (m₀ m : List ℕ) : Type 0 where
+  pub painted : paint (t .target) (straightly t (row-left back (t .x) w i (t .y + j))) (state m (n + i)) ≡ paint (t .target) (straightly t (across back (t .x) w (t .y + j))) (state m₀ n)
+  pub long : length m ≡ length m₀
+  pub within : i ≤ w
+
+pub remains-whole : (t : Straight) (w j : ℕ) (back : Bool) (n i : ℕ) (m : List ℕ) → i ≡ 0 → Remains t w j back n i m m
+remains-whole t w j back n i m none =
+    let count : n + 0 ≡ n = omega arith in
+    let whole : Remains t w j back n 0 m m = record {
+      painted = ap₂ (λ (ps : List Px) (c : ℕ). paint (t .target) (straightly t ps) (state m c)) (row-whole back (t .x) w (t .y + j)) count;
+      long = refl;
+      within = omega arith;
+    } in
+    subst (λ (z : ℕ). Remains t w j back n z m m) (sym none) whole
+
+module _ {t : Straight} {w j n i : ℕ} {back : Bool} {m₀ m : List ℕ} (left : Remains t w j back n i m₀ m) where
+  pub remains-again : {len from to d s : ℕ} → RowCopies t w j len n → RunAt t from to d s j → (k i′ : ℕ) (m′ : List ℕ) → i < w → k ≡ nth back 0 w i → i′ ≡ i + 1
+      → m′ ≡ copied t (d + k * to) (s + k * from) m → length m′ ≡ length m → Remains t w j back n i′ m₀ m′
+  remains-again row run k i′ m′ h e next copy long =
+      let more : n + (i + 1) ≡ n + i + 1 = omega arith in
+      let again : Remains t w j back n (i + 1) m₀ m′ = record {
+        painted = ap (λ (c : ℕ). paint (t .target) (straightly t (row-left back (t .x) w (i + 1) (t .y + j))) (state m′ c)) more
+            ∙ row-again (t .target) (λ p. touch p (λ now. straightGiving t now p)) back (t .x) w i (t .y + j) (t .x + k) (state m (n + i)) (state m′ (n + i + 1)) h
+            (ap (λ (r : ℕ). t .x + r) e ∙ nth-from back (t .x) w i) (pixel-given row run k (n + i) m m′ copy)
+            ∙ left .painted;
+        long = long ∙ left .long;
+        within = omega arith;
+      } in
+      subst (λ (z : ℕ). Remains t w j back n z m₀ m′) (sym next) again
+
+  pub remains-none : w ≤ i → RowCopied t w j back n m₀ m (n + w)
+  remains-none h =
+      let all : i ≡ w = omega (arith, left .within) in
+      record {
+        painted = ap (λ (c : ℕ). state m (n + c)) (sym all)
+            ∙ row-ends (t .target) (λ p. touch p (λ now. straightGiving t now p)) back (t .x) w i (t .y + j) (state m (n + i)) h ∙ left .painted;
+        counted = refl;
+      }
+
+-- ---- the rows of a rectangle
+pub can-row : {t : Straight} {w h len : ℕ} → CanCopy t w h len → (j n : ℕ) → j < h → n + w < 2 ^ 32 → RowCopies t w j len n
+can-row can j n low room = record {
+  target = can .target;
+  from = can .from;
+  room = room;
+  row = omega (arith, can .high);
+  sourceRow = omega (arith, can .sourceHigh);
+  onTarget = λ i l. can .onTarget i j l low;
+  onSource = λ i l. can .onSource i j l low;
+}

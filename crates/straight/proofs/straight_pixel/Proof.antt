@@ -1,0 +1,58 @@
+-- `straight::straight_pixel` meets its contract: the pixel is left, which gives it what it has, or it is put there.
+-- Assumes nothing.
+use borrow.Author.Needs.{needs}
+use mathlib.Core.Path.{sym, _∙_}
+use native.Mathlib.Omega.{arith}
+use Rattle.paint.proofs.Frame.{Bytes}
+use Rattle.straight.proofs.StraightLaws.{keeps, puts}
+use Rattle.straight.proofs.straight_pixel.Statement.{statement}
+use Rattle.straight.proofs.straight_pixel.Tie as tie
+
+get-bytes-requires : tie.Need-get-bytes-requires
+get-bytes-requires c κs = search needs
+
+is-keyed-requires : tie.Need-is-keyed-requires
+is-keyed-requires c κs = search needs
+
+same-length : tie.Need-same-length
+same-length c = search needs
+
+returns : tie.Need-returns
+returns c =
+    let a = c .before .before .before .before .before .args in
+    let p = c .before .before .before .before .before .pre in
+    let bytes : Bytes (a .mem .now) = (λ i. omega (arith, c .before .before .before .before .slice-known .given i)) in
+    keeps (a .t) (a .from) (a .to) (a .d) (a .s) (c .before .before .get-bytes .result) (a .mem .now) (p .formats) (c .before .before .get-bytes .ensures)
+    (omega (arith, p .formats .target, p .stored .few)) bytes (sym (c .before .is-keyed .ensures) ∙ c .if1 .taken)
+
+convert-by-rule-requires : tie.Need-convert-by-rule-requires
+convert-by-rule-requires c κs = search needs
+
+put-bytes-requires : tie.Need-put-bytes-requires
+put-bytes-requires c κs = search needs
+
+same-length-2 : tie.Need-same-length-2
+same-length-2 c = search needs
+
+returns-2 : tie.Need-returns-2
+returns-2 c =
+    let a = c .before .before .before .before .before .before .before .before .before .before .args in
+    let p = c .before .before .before .before .before .before .before .before .before .before .pre in
+    let value = c .before .before .before .convert-by-rule in
+    let v = c .before .before .before .before .before .before .before .get-bytes in
+    puts (a .t) (a .from) (a .to) (a .d) (a .s) (v .result) (a .mem .now) (p .formats) (v .ensures)
+    (value .result) _ (omega arith) (sym (c .before .before .before .before .before .before .is-keyed .ensures) ∙ c .before .before .before .before .before .if1 .left) (value .ensures)
+    (c .before .before .put-bytes .ensures)
+
+pub straight-pixel-spec : {M : Type 1} → statement M
+straight-pixel-spec =
+    tie.close
+    (tie.spec
+    get-bytes-requires
+    is-keyed-requires
+    same-length
+    returns
+    convert-by-rule-requires
+    put-bytes-requires
+    same-length-2
+    returns-2)

@@ -1,0 +1,222 @@
+// Copies whose pixels get their source, converted, or stay as they are where the source matches the key.
+use surface::Surface;
+ghost use mathlib.Core.Path.{_≡_};
+ghost use mathlib.Core.Bool.{true, false};
+ghost use Prim.Native.Nat.{_+_, _*_, _%_, _^_, _<_};
+ghost use lib.ListN.{length};
+ghost use Rattle.colour.specs.Convert.{repeated, widened, narrowed, converted};
+ghost use Rattle.surface.specs.Pixels.{rect};
+ghost use Rattle.paint.specs.Paint.{state, paint, nth};
+ghost use Rattle.straight.specs.Straight.{keyed, straightly, copied, CanCopy, RowCopies, RunAt, PixelCopies, RowCopied};
+
+// What a straight copy needs: the two surfaces, the source key if there is one, and the first pixel of the target and of the source.
+pub struct Straight {
+    pub target: Surface,
+    pub from: Surface,
+    pub key: bool,
+    pub least: u32,
+    pub most: u32,
+    pub x: u32,
+    pub y: u32,
+    pub sx: u32,
+    pub sy: u32,
+}
+
+// The low five bits of n, widened to eight.
+fn repeat5(n: u32) -> u32
+    ensures { λ r. ⌜ r ≡ repeated 5 (n % 32) ⌝ }
+{
+    let bits = n % 32;
+    bits * 8 + bits / 4
+}
+
+// The low six bits of n, widened to eight.
+fn repeat6(n: u32) -> u32
+    ensures { λ r. ⌜ r ≡ repeated 6 (n % 64) ⌝ }
+{
+    let bits = n % 64;
+    bits * 4 + bits / 16
+}
+
+// A pixel of 2 bytes as one of 3.
+fn widen_by_rule(v: u32) -> u32
+    ensures { λ r. ⌜ r ≡ widened v ⌝ }
+{
+    let red = repeat5(v / 2048);
+    let green = repeat6(v / 32);
+    let blue = repeat5(v);
+    red * 65536 + green * 256 + blue
+}
+
+// A pixel of 3 or 4 bytes as one of 2.
+fn narrow_by_rule(v: u32) -> u32
+    ensures { λ r. ⌜ r ≡ narrowed v ⌝ }
+{
+    v / 65536 % 256 / 8 * 2048 + v / 256 % 256 / 4 * 32 + v % 256 / 8
+}
+
+// A pixel's value in another format, with no table.
+fn convert_by_rule(from: u32, to: u32, v: u32) -> u32
+    ensures { λ r. ⌜ r ≡ converted from to v ⌝ }
+{
+    if from == to {
+        return v;
+    }
+    if from == 2 {
+        return widen_by_rule(v);
+    }
+    if to == 2 {
+        return narrow_by_rule(v);
+    }
+    v % 16777216
+}
+
+// Whether a source value matches the key, if there is one.
+fn is_keyed(t: Straight, from: u32, v: u32) -> bool
+    requires { ⌜ from ≡ t .from .bytes ⌝ }
+    ensures { λ r. ⌜ r ≡ keyed t v ⌝ }
+{
+    if t.key {
+        return keys::key_match(from, t.least, t.most, v);
+    }
+    false
+}
+
+// The address of pixel number k of a row that begins at `first`.
+fn pixel_at(first: usize, bytes: u32, k: u32) -> usize
+    requires { ⌜ first + k * bytes < 2 ^ 64 ⌝ }
+    ensures { λ r. ⌜ r ≡ first + k * bytes ⌝ }
+{
+    first + (k as usize) * (bytes as usize)
+}
+
+// The pixel whose `to` bytes begin at d, from the source whose `from` bytes begin at s.
+fn straight_pixel(mem: &mut [u8], t: Straight, from: u32, to: u32, d: usize, s: usize)
+    requires { ⌜ PixelCopies t from to d s (length (now mem)) ⌝ }
+    ensures { λ _. ⌜ now (mem .exit) ≡ copied t d s (now (mem .entry)) ⌝ }
+{
+    let v = surface::get_bytes(mem, s, from);
+    if is_keyed(t, from, v) {
+        return;
+    }
+    surface::put_bytes(mem, d, to, convert_by_rule(from, to, v));
+}
+
+// The w pixels of row j, of `to` bytes each from d on, and their sources, of `from` bytes each from s on, after n that were written: from the left.
+fn straight_up(
+    mem: &mut [u8],
+    t: Straight,
+    from: u32,
+    to: u32,
+    d: usize,
+    s: usize,
+    w: u32,
+    j: u32,
+    n: u32,
+) -> u32
+    requires { ⌜ RowCopies t w j (length (now mem)) n × RunAt t from to d s j ⌝ }
+    ensures { λ r. ⌜ RowCopied t w j false n (now (mem .entry)) (now (mem .exit)) r ⌝ }
+{
+    let mut i = 0;
+    while i < w {
+        straight_pixel(mem, t, from, to, pixel_at(d, to, i), pixel_at(s, from, i));
+        i += 1;
+    }
+    n + w
+}
+
+// The same, from the right.
+fn straight_down(
+    mem: &mut [u8],
+    t: Straight,
+    from: u32,
+    to: u32,
+    d: usize,
+    s: usize,
+    w: u32,
+    j: u32,
+    n: u32,
+) -> u32
+    requires { ⌜ RowCopies t w j (length (now mem)) n × RunAt t from to d s j ⌝ }
+    ensures { λ r. ⌜ RowCopied t w j true n (now (mem .entry)) (now (mem .exit)) r ⌝ }
+{
+    let mut i = w;
+    while 0 < i {
+        i -= 1;
+        straight_pixel(mem, t, from, to, pixel_at(d, to, i), pixel_at(s, from, i));
+    }
+    n + w
+}
+
+// The same, one way or the other.
+fn straight_run(
+    mem: &mut [u8],
+    t: Straight,
+    from: u32,
+    to: u32,
+    d: usize,
+    s: usize,
+    w: u32,
+    j: u32,
+    back: bool,
+    n: u32,
+) -> u32
+    requires { ⌜ RowCopies t w j (length (now mem)) n × RunAt t from to d s j ⌝ }
+    ensures { λ r. ⌜ RowCopied t w j back n (now (mem .entry)) (now (mem .exit)) r ⌝ }
+{
+    if back {
+        return straight_down(mem, t, from, to, d, s, w, j, n);
+    }
+    straight_up(mem, t, from, to, d, s, w, j, n)
+}
+
+// Row j, with loops of their own for each pair of formats that is allowed.
+fn straight_row(mem: &mut [u8], t: Straight, w: u32, j: u32, back: bool, n: u32) -> u32
+    requires { ⌜ RowCopies t w j (length (now mem)) n ⌝ }
+    ensures { λ r. ⌜ RowCopied t w j back n (now (mem .entry)) (now (mem .exit)) r ⌝ }
+{
+    let from = t.from.bytes;
+    let to = t.target.bytes;
+    let d = surface::byte_of(t.target, t.x, t.y + j, 0);
+    let s = surface::byte_of(t.from, t.sx, t.sy + j, 0);
+    let pair = from * 8 + to;
+    match pair {
+        9 => straight_run(mem, t, 1, 1, d, s, w, j, back, n),
+        18 => straight_run(mem, t, 2, 2, d, s, w, j, back, n),
+        19 => straight_run(mem, t, 2, 3, d, s, w, j, back, n),
+        20 => straight_run(mem, t, 2, 4, d, s, w, j, back, n),
+        26 => straight_run(mem, t, 3, 2, d, s, w, j, back, n),
+        27 => straight_run(mem, t, 3, 3, d, s, w, j, back, n),
+        28 => straight_run(mem, t, 3, 4, d, s, w, j, back, n),
+        34 => straight_run(mem, t, 4, 2, d, s, w, j, back, n),
+        35 => straight_run(mem, t, 4, 3, d, s, w, j, back, n),
+        36 => straight_run(mem, t, 4, 4, d, s, w, j, back, n),
+        _ => straight_run(mem, t, from, to, d, s, w, j, back, n),
+    }
+}
+
+// The number of the row whose turn is i, of n: from the top, or from the bottom.
+fn turn(back: bool, n: u32, i: u32) -> u32
+    requires { ⌜ i < n ⌝ }
+    ensures { λ r. ⌜ r ≡ nth back 0 n i ⌝ }
+{
+    if back {
+        return n - 1 - i;
+    }
+    i
+}
+
+// A straight copy, row by row from the upper left corner or from the lower right one; the count of its pixels.
+pub fn straight_rows(mem: &mut [u8], t: Straight, w: u32, h: u32, back: bool) -> u32
+    requires { ⌜ CanCopy t w h (length (now mem)) ⌝ }
+    ensures { λ r. ⌜ state (now (mem .exit)) r ≡ paint (t .target) (straightly t (rect back back (t .x) (t .y) w h)) (state (now (mem .entry)) 0) ⌝ }
+{
+    let mut n = 0;
+    let mut i = 0;
+    while i < h {
+        let j = turn(back, h, i);
+        n = straight_row(mem, t, w, j, back, n);
+        i += 1;
+    }
+    n
+}
