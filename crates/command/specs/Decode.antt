@@ -6,7 +6,7 @@ use lib.Dec.{eqb}
 use Rattle.surface.specs.declared.Surface.{Surface}
 use Rattle.surface.specs.Place.{surface}
 use Rattle.formats.specs.Format.{targetOf, sourceOf}
-use Rattle.paint.specs.declared.Ink.{Ink}
+use Rattle.ink.specs.declared.Ink.{Ink}
 use Rattle.sweep.specs.declared.Task.{Task}
 use Rattle.paint.specs.Clip.{origin}
 use Rattle.cuts.specs.Cut.{bit, number, width, height, fillCut, copyCut}

@@ -1,9 +1,9 @@
 // What the registers say of a command's surfaces, its ink and its work.
 use bits::Plain;
 use host::Feed;
+use ink::Ink;
 use line::Line;
 use line::Pen;
-use paint::Ink;
 use registers::Regs;
 use surface::Surface;
 use sweep::Task;

@@ -6,7 +6,7 @@ use mathlib.Core.List.{List, [], _∷_}
 use Prim.Native.Nat.{ℕ, _+_, _-_, _^_, _<_}
 use lib.Dec.{eqb}
 use Rattle.surface.specs.Place.{Colour, OnColour}
-use Rattle.paint.specs.declared.Ink.{Ink}
+use Rattle.ink.specs.declared.Ink.{Ink}
 use Rattle.paint.specs.declared.Clip.{Clip}
 use Rattle.paint.specs.declared.Source.{Source}
 use Rattle.paint.specs.Paint.{Touch, State, paint}

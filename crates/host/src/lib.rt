@@ -1,6 +1,6 @@
 // Host blits: the pixels that a word of data finishes, painted. Nothing here knows a register's offset or an answer's number.
+use ink::Ink;
 use paint::Clip;
-use paint::Ink;
 use paint::Source;
 ghost use mathlib.Core.Path.{_≡_};
 ghost use mathlib.Core.List.{[], _∷_};
@@ -127,7 +127,7 @@ fn host_pixel(
     if paint::covers(c, x, y) {
         let column = x - 16384;
         let row = y - 16384;
-        let p = paint::pattern_at(ink, pattern, column, row);
+        let p = ink::pattern_at(ink, pattern, column, row);
         let s = source_of(ink, feed, v);
         return paint::put_source(mem, ink, p, column, row, s, n);
     }

@@ -15,9 +15,9 @@ use Rattle.surface.proofs.Lists.{In}
 use Rattle.surface.proofs.Rects.{Distinct, rect-in}
 use Rattle.spans.proofs.Corner.{all-each, each-all}
 use Rattle.paint.specs.declared.Clip.{Clip}
-use Rattle.paint.specs.declared.Ink.{Ink}
+use Rattle.ink.specs.declared.Ink.{Ink}
 use Rattle.paint.specs.Paint.{State, state, dab, Touch, paint}
-use Rattle.paint.specs.Pattern.{patternValue}
+use Rattle.ink.specs.Pattern.{patternValue}
 use Rattle.paint.specs.Mix.{bitSource, mixed}
 use Rattle.paint.specs.Clip.{origin, inClip, pixelAt}
 use Rattle.paint.proofs.ClipLaws.{in-clip}

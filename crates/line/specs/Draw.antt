@@ -9,7 +9,7 @@ use Rattle.surface.specs.Place.{Small, Colour}
 use Rattle.surface.specs.Pixels.{Px}
 use Rattle.spans.specs.Span.{allOn}
 use Rattle.paint.specs.declared.Clip.{Clip}
-use Rattle.paint.specs.declared.Ink.{Ink}
+use Rattle.ink.specs.declared.Ink.{Ink}
 use Rattle.paint.specs.Paint.{Touch}
 use Rattle.paint.specs.Mix.{bitSource, placed}
 use Rattle.paint.specs.Clip.{inClip, pixelAt, Bits12}

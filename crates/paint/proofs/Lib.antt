@@ -1,5 +1,4 @@
 pub mod MixLaws
-pub mod PatternLaws
 pub mod Turns
 pub mod Owners
 pub mod Settle

@@ -14,7 +14,7 @@ use Rattle.raster.proofs.RopLaws.{copies}
 use Rattle.surface.specs.Place.{readPx, writePx}
 use Rattle.surface.specs.Pixels.{px}
 use Rattle.surface.proofs.OnLaws.{and-left, and-right}
-use Rattle.paint.specs.declared.Ink.{Ink}
+use Rattle.ink.specs.declared.Ink.{Ink}
 use Rattle.paint.specs.declared.Source.{Source}
 use Rattle.paint.specs.Paint.{state, dab}
 use Rattle.paint.specs.Mix.{source, chosen, targetMatch, mixed, direct}

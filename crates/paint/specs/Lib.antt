@@ -1,4 +1,3 @@
 pub mod Paint
 pub mod Mix
-pub mod Pattern
 pub mod Clip

@@ -10,10 +10,10 @@ use Rattle.raster.specs.Rop.{ropBits}
 use Rattle.keys.specs.Key.{keyMatch}
 use Rattle.surface.specs.Place.{readPx, OnColour}
 use Rattle.surface.specs.Pixels.{Px}
-use Rattle.paint.specs.declared.Ink.{Ink}
+use Rattle.ink.specs.declared.Ink.{Ink}
 use Rattle.paint.specs.declared.Source.{Source}
 use Rattle.paint.specs.Paint.{Touch, touch}
-use Rattle.paint.specs.Pattern.{patternValue}
+use Rattle.ink.specs.Pattern.{patternValue}
 
 -- ---- the source of a pixel: its value in the target's format, whether it matches the source key, and whether the pixel is left unwritten
 abbrev pub source : ℕ → Bool → Bool → Source

@@ -9,7 +9,7 @@ use lib.Dec.{eqb}
 use Rattle.surface.specs.declared.Surface.{Surface}
 use Rattle.surface.specs.Place.{writePx, Colour, OnColour}
 use Rattle.surface.specs.Pixels.{Px}
-use Rattle.paint.specs.declared.Ink.{Ink}
+use Rattle.ink.specs.declared.Ink.{Ink}
 use Rattle.paint.specs.declared.Clip.{Clip}
 use Rattle.paint.specs.declared.Source.{Source}
 use Rattle.paint.specs.Paint.{State, state, dab, Touch, touch, paint}

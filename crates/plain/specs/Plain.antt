@@ -5,7 +5,7 @@ use mathlib.Core.Path.{_≡_}
 use mathlib.Core.Bool.{true, false}
 use mathlib.Core.List.{List, [], _∷_}
 use Prim.Native.Nat.{ℕ, zero, suc, _+_, _-_, _*_, _%_, _^_, _<_, _≤_}
-use Rattle.paint.specs.declared.Ink.{Ink}
+use Rattle.ink.specs.declared.Ink.{Ink}
 use Rattle.paint.specs.Mix.{direct}
 use Rattle.host.specs.declared.Feed.{Feed}
 use Rattle.bits.specs.declared.Plain.{Plain}

@@ -8,7 +8,7 @@ use lib.Dec.{eqb}
 use Rattle.surface.specs.declared.Surface.{Surface}
 use Rattle.surface.specs.Place.{writeBytes, writePx}
 use Rattle.surface.specs.Pixels.{px}
-use Rattle.paint.specs.declared.Ink.{Ink}
+use Rattle.ink.specs.declared.Ink.{Ink}
 use Rattle.paint.specs.declared.Source.{Source}
 use Rattle.paint.specs.Paint.{state, dab, dabAt}
 use Rattle.paint.specs.Mix.{bitSource, mixed, direct, sourced}

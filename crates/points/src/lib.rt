@@ -1,9 +1,9 @@
 // A line drawn point by point.
+use ink::Ink;
 use line::Line;
 use line::Pen;
 use line::Point;
 use paint::Clip;
-use paint::Ink;
 use paint::Source;
 use surface::Surface;
 ghost use mathlib.Core.Path.{_≡_};
@@ -13,7 +13,7 @@ ghost use lib.ListN.{length};
 ghost use Rattle.surface.specs.Place.{readPx, OnColour};
 ghost use Rattle.surface.specs.Pixels.{px};
 ghost use Rattle.paint.specs.Paint.{state, dab, paint};
-ghost use Rattle.paint.specs.Pattern.{patternValue};
+ghost use Rattle.ink.specs.Pattern.{patternValue};
 ghost use Rattle.paint.specs.Mix.{bitSource, mixed, Ready, sourced};
 ghost use Rattle.line.specs.Line.{pointCount, points};
 ghost use Rattle.line.specs.Stipple.{after, styleAfter};
@@ -46,7 +46,7 @@ fn put_point(mem: &mut [u8], ink: Ink, pattern: [u8; 256], x: u32, y: u32, bit: 
     if paint::is_direct(ink) {
         return put_plain(mem, ink.target, x, y, source, n);
     }
-    let value = paint::pattern_at(ink, pattern, x, y);
+    let value = ink::pattern_at(ink, pattern, x, y);
     paint::put_source(mem, ink, value, x, y, source, n)
 }
 

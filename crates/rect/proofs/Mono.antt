@@ -20,7 +20,7 @@ use Rattle.spans.specs.Span.{spanOf, meet}
 use Rattle.spans.proofs.Spans.{IsByte}
 use Rattle.paint.specs.declared.Source.{Source}
 use Rattle.paint.specs.Mix.{source, bitSource, fillSource, colourSource, mixed, direct}
-use Rattle.paint.specs.Pattern.{patternColumn, patternRow, patternBit, patternValue}
+use Rattle.ink.specs.Pattern.{patternColumn, patternRow, patternBit, patternValue}
 use Rattle.paint.proofs.MixLaws.{direct-mixed}
 use Rattle.paint.proofs.Owners.{byte-of}
 use Rattle.bits.specs.Bits.{coloured, monoGiving, CanMono}

@@ -23,7 +23,7 @@ use Rattle.sweep.specs.declared.Task.{Task}
 use Rattle.paint.specs.declared.Source.{Source}
 use Rattle.paint.specs.Paint.{state, paint}
 use Rattle.paint.specs.Mix.{mixed, bitSource, colourSource, fillSource}
-use Rattle.paint.specs.Pattern.{patternColumn, patternRow, patternBit, patternValue}
+use Rattle.ink.specs.Pattern.{patternColumn, patternRow, patternBit, patternValue}
 use Rattle.sweep.specs.Copy.{sourcePlace, sourceBy, giving, asBefore, inTurn, CanPaint, Orderly, backward}
 use Rattle.paint.proofs.Owners.{byte-of, one-owner, read-px, read-bit}
 use Rattle.paint.proofs.Settle.{Local, Unread, in-place, any-order}

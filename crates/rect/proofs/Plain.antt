@@ -28,7 +28,7 @@ use Rattle.sweep.specs.declared.Task.{Task}
 use Rattle.paint.specs.Paint.{State, state, dab, paint}
 use Rattle.paint.specs.declared.Source.{Source}
 use Rattle.paint.specs.Mix.{source, mixed, bitSource, colourSource, fillSource, direct}
-use Rattle.paint.specs.Pattern.{patternColumn, patternRow, patternBit, patternValue}
+use Rattle.ink.specs.Pattern.{patternColumn, patternRow, patternBit, patternValue}
 use Rattle.sweep.specs.Copy.{sourcePlace, sourceBy, giving, asBefore, CanPaint}
 use Rattle.rect.specs.Fast.{sourceByte, plainly}
 use Rattle.runs.specs.Runs.{Given}

@@ -14,7 +14,7 @@ use Rattle.surface.specs.Pixels.{Px}
 use Rattle.surface.proofs.OnLaws.{and-left, and-right}
 use Rattle.sweep.specs.declared.Task.{Task}
 use Rattle.paint.specs.Mix.{mixed, chosen, fillSource}
-use Rattle.paint.specs.Pattern.{patternColumn, patternRow, patternBit, patternIn, patternValue}
+use Rattle.ink.specs.Pattern.{patternColumn, patternRow, patternBit, patternIn, patternValue}
 use Rattle.sweep.specs.Copy.{sourceBy, giving}
 use Rattle.rect.specs.Fast.{solid}
 use Rattle.paint.proofs.MixLaws.{not-true}

@@ -15,10 +15,10 @@ use Rattle.raster.proofs.RopLaws.{leaves}
 use Rattle.surface.specs.Place.{readPx, monoBit, Colour}
 use Rattle.surface.specs.Pixels.{Px, px, Inside}
 use Rattle.surface.proofs.OnLaws.{and-left, and-right, pos-of-ne}
-use Rattle.paint.specs.declared.Ink.{Ink}
+use Rattle.ink.specs.declared.Ink.{Ink}
 use Rattle.paint.specs.declared.Source.{Source}
 use Rattle.paint.specs.Mix.{source, bitSource, fillSource, colourSource, chosen, mixed, direct}
-use Rattle.paint.specs.Pattern.{patternColumn, patternRow, patternBit, patternValue}
+use Rattle.ink.specs.Pattern.{patternColumn, patternRow, patternBit, patternValue}
 use Rattle.paint.proofs.MixLaws.{not-true, direct-low}
 use Rattle.straight.specs.Straight.{straightGiving, CanCopy}
 use Rattle.sweep.specs.declared.Task.{Task}

@@ -15,7 +15,7 @@ use Rattle.formats.specs.Format.{targetOf, sourceOf}
 use Rattle.formats.specs.Step.{stepOf}
 use Rattle.paint.specs.Paint.{paint, dab}
 use Rattle.paint.specs.Mix.{colourSource, fillSource, mixed, chosen}
-use Rattle.paint.specs.Pattern.{patternIn, patternPixel, patternBit}
+use Rattle.ink.specs.Pattern.{patternIn, patternPixel, patternBit}
 use Rattle.sweep.specs.Copy.{giving, sourceBy, sourcePlace}
 use Rattle.paint.proofs.ClipLaws.{in-clip, clip-in}
 use Rattle.registers.specs.declared.Regs.{Regs}

@@ -13,9 +13,9 @@ use Rattle.spans.specs.Span.{allOn}
 use Rattle.surface.proofs.OnLaws.{and-left, and-right}
 use Rattle.surface.proofs.Lists.{by-cases}
 use Rattle.paint.specs.declared.Clip.{Clip}
-use Rattle.paint.specs.declared.Ink.{Ink}
+use Rattle.ink.specs.declared.Ink.{Ink}
 use Rattle.paint.specs.Paint.{State, dab, Touch, touch, paint}
-use Rattle.paint.specs.Pattern.{patternValue}
+use Rattle.ink.specs.Pattern.{patternValue}
 use Rattle.paint.specs.Mix.{bitSource, placed, direct, sourced}
 use Rattle.paint.specs.Clip.{origin, inClip, pixelAt}
 use Rattle.paint.proofs.ClipLaws.{in-clip, clip-in}

@@ -9,7 +9,7 @@ use lib.Dec.{eqb, leb, ltb}
 use Rattle.surface.specs.declared.Surface.{Surface}
 use Rattle.surface.specs.Place.{byteOf, onSurface, Colour, Held}
 use Rattle.paint.specs.declared.Clip.{Clip}
-use Rattle.paint.specs.declared.Ink.{Ink}
+use Rattle.ink.specs.declared.Ink.{Ink}
 use Rattle.paint.specs.Paint.{Touch, touch}
 use Rattle.paint.specs.Mix.{sourced, bitSource, direct}
 use Rattle.paint.specs.Clip.{origin, inClip, pixelAt}

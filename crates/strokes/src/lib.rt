@@ -1,8 +1,8 @@
 // A line drawn: walked by address where it lies inside the clip and its points get their source, and else point by point.
+use ink::Ink;
 use line::Line;
 use line::Pen;
 use paint::Clip;
-use paint::Ink;
 use paint::Source;
 use points::LineDone;
 use surface::Surface;

@@ -11,7 +11,7 @@ use Rattle.surface.specs.Pixels.{Px, px, rect, Inside}
 use Rattle.surface.proofs.Rects.{rect-in}
 use Rattle.spans.proofs.Corner.{all-each}
 use Rattle.sweep.specs.declared.Task.{Task}
-use Rattle.paint.specs.Pattern.{patternColumn, patternRow, patternBit, RowOf}
+use Rattle.ink.specs.Pattern.{patternColumn, patternRow, patternBit, RowOf}
 use Rattle.sweep.specs.Copy.{giving, HasSource, RowReady, CanPaint}
 use Rattle.sweep.specs.Row.{rowGiving}
 

@@ -14,7 +14,7 @@ use Rattle.paint.specs.declared.Source.{Source}
 use Rattle.sweep.specs.declared.Task.{Task}
 use Rattle.paint.specs.Paint.{Touch, touch}
 use Rattle.paint.specs.Mix.{colourSource, bitSource, fillSource, mixed}
-use Rattle.paint.specs.Pattern.{patternColumn, patternRow, patternBit, patternValue}
+use Rattle.ink.specs.Pattern.{patternColumn, patternRow, patternBit, patternValue}
 
 -- the source pixel of a target pixel
 unfoldable pub sourcePlace : Task → Px → Px

@@ -9,7 +9,7 @@ use Rattle.surface.specs.Pixels.{Px}
 use Rattle.sweep.specs.declared.Task.{Task}
 use Rattle.paint.specs.Paint.{Touch, touch}
 use Rattle.paint.specs.Mix.{mixed}
-use Rattle.paint.specs.Pattern.{patternColumn}
+use Rattle.ink.specs.Pattern.{patternColumn}
 use Rattle.sweep.specs.Copy.{sourceBy}
 
 -- what pixel p is given where the pattern's row has these eight values, and these bits if it is mono

@@ -1,5 +1,5 @@
 // Rectangles filled or copied pixel by pixel, row by row from one corner.
-use paint::Ink;
+use ink::Ink;
 use paint::Source;
 use surface::Surface;
 ghost use mathlib.Core.Path.{_≡_};
@@ -93,8 +93,8 @@ fn paint_across(
     let mut i = 0;
     while i < w {
         let x = place(back, t.x, w, i);
-        let column = paint::pattern_column(ink, x);
-        let bit = paint::bit_of(bits, column);
+        let column = ink::pattern_column(ink, x);
+        let bit = ink::bit_of(bits, column);
         r = paint_pixel(mem, t, values[column as usize], bit, x, y, r);
         i += 1;
     }
@@ -107,9 +107,9 @@ fn paint_row(mem: &mut [u8], t: Task, pattern: [u8; 256], w: u32, y: u32, back: 
     ensures { λ r. ⌜ (state (now (mem .exit)) r ≡ paint (t .ink .target) (inTurn t pattern (across back (t .x) w y)) (state (now (mem .entry)) n)) × (r ≤ n + w) ⌝ }
 {
     let ink = t.ink;
-    let row = paint::pattern_row(ink, y);
-    let values = paint::row_values(ink, pattern, row);
-    let bits = paint::pattern_byte(pattern, row);
+    let row = ink::pattern_row(ink, y);
+    let values = ink::row_values(ink, pattern, row);
+    let bits = ink::pattern_byte(pattern, row);
     paint_across(mem, t, values, bits, w, y, back, n)
 }
 

@@ -10,7 +10,7 @@ use Rattle.surface.specs.Pixels.{px}
 use Rattle.paint.specs.declared.Source.{Source}
 use Rattle.paint.specs.Paint.{state, dab}
 use Rattle.paint.specs.Mix.{mixed, sourced}
-use Rattle.paint.specs.Pattern.{patternValue}
+use Rattle.ink.specs.Pattern.{patternValue}
 use Rattle.points.proofs.PutLaws.{direct-source}
 use Rattle.points.proofs.put_point.Statement.{statement}
 use Rattle.points.proofs.put_point.Tie as tie

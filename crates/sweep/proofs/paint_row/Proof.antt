@@ -6,7 +6,7 @@ use borrow.Author.Needs.{needs}
 use Rattle.surface.specs.Pixels.{across}
 use Rattle.surface.proofs.Rects.{in-across}
 use Rattle.paint.specs.Paint.{state}
-use Rattle.paint.specs.Pattern.{patternRow}
+use Rattle.ink.specs.Pattern.{patternRow}
 use Rattle.sweep.specs.Copy.{giving}
 use Rattle.sweep.specs.Row.{rowGiving}
 use Rattle.paint.proofs.Turns.{paint-same}

@@ -5,7 +5,7 @@ use mathlib.Core.Path.{ap, ap₂, _∙_}
 use lib.ListN.{length}
 use Rattle.command.specs.Decode.{target, inkOf}
 use Rattle.cuts.specs.Cut.{clipOf}
-use Rattle.paint.specs.declared.Ink.{Ink}
+use Rattle.ink.specs.declared.Ink.{Ink}
 use Rattle.paint.specs.declared.Clip.{Clip}
 use Rattle.paint.specs.Paint.{state, paint}
 use Rattle.line.specs.declared.Line.{Line}

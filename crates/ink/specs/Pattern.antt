@@ -7,7 +7,7 @@ use Prim.Native.Nat.{ℕ, _+_, _*_, _-_, _/_, _%_, _^_, _<_}
 use lib.Dec.{eqb}
 use lib.ListN.{getD}
 use Rattle.surface.specs.Place.{readBytes}
-use Rattle.paint.specs.declared.Ink.{Ink}
+use Rattle.ink.specs.declared.Ink.{Ink}
 
 -- the pattern's column and row for a pixel: moved by the offsets, modulo 8, and row 0 where that is forced
 abbrev pub patternColumn : Ink → ℕ → ℕ

@@ -1,9 +1,9 @@
 -- `paint::pattern_bit` meets its contract.
 -- Assumes nothing.
 use borrow.Author.Needs.{needs}
-use Rattle.paint.specs.Pattern.{patternBit}
-use Rattle.paint.proofs.pattern_bit.Statement.{statement}
-use Rattle.paint.proofs.pattern_bit.Tie as tie
+use Rattle.ink.specs.Pattern.{patternBit}
+use Rattle.ink.proofs.pattern_bit.Statement.{statement}
+use Rattle.ink.proofs.pattern_bit.Tie as tie
 
 pattern-byte-requires : tie.Need-pattern-byte-requires
 pattern-byte-requires c κs = search needs

@@ -2,8 +2,8 @@
 -- Assumes nothing.
 use borrow.Author.Needs.{needs}
 use native.Mathlib.Omega.{arith}
-use Rattle.paint.proofs.pattern_row.Statement.{statement}
-use Rattle.paint.proofs.pattern_row.Tie as tie
+use Rattle.ink.proofs.pattern_row.Statement.{statement}
+use Rattle.ink.proofs.pattern_row.Tie as tie
 
 returns : tie.Need-returns
 returns c = (rw (c .if1 .taken), omega arith)

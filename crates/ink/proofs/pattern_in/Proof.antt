@@ -2,9 +2,9 @@
 -- Assumes nothing.
 use borrow.Author.Needs.{needs}
 use borrow.Author.Tests.{eq-eqb, ne-eqb}
-use Rattle.paint.specs.Pattern.{patternIn}
-use Rattle.paint.proofs.pattern_in.Statement.{statement}
-use Rattle.paint.proofs.pattern_in.Tie as tie
+use Rattle.ink.specs.Pattern.{patternIn}
+use Rattle.ink.proofs.pattern_in.Statement.{statement}
+use Rattle.ink.proofs.pattern_in.Tie as tie
 
 pattern-bit-requires : tie.Need-pattern-bit-requires
 pattern-bit-requires c κs = search needs

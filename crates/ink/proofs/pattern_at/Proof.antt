@@ -2,9 +2,9 @@
 -- Assumes nothing.
 use borrow.Author.Needs.{needs}
 use mathlib.Core.Path.{ap₂, _∙_}
-use Rattle.paint.specs.Pattern.{patternIn}
-use Rattle.paint.proofs.pattern_at.Statement.{statement}
-use Rattle.paint.proofs.pattern_at.Tie as tie
+use Rattle.ink.specs.Pattern.{patternIn}
+use Rattle.ink.proofs.pattern_at.Statement.{statement}
+use Rattle.ink.proofs.pattern_at.Tie as tie
 
 pattern-column-requires : tie.Need-pattern-column-requires
 pattern-column-requires c κs = search needs

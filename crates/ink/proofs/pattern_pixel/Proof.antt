@@ -7,9 +7,9 @@ use Prim.Native.Nat.{ℕ, _+_, _*_}
 use native.Mathlib.Nat.{add-zero}
 use lib.ListN.{getD}
 use Rattle.surface.specs.Place.{readBytes}
-use Rattle.paint.proofs.PatternLaws.{in-pattern, pixel-of}
-use Rattle.paint.proofs.pattern_pixel.Statement.{statement}
-use Rattle.paint.proofs.pattern_pixel.Tie as tie
+use Rattle.ink.proofs.PatternLaws.{in-pattern, pixel-of}
+use Rattle.ink.proofs.pattern_pixel.Statement.{statement}
+use Rattle.ink.proofs.pattern_pixel.Tie as tie
 
 mul-at : tie.Need-mul-at
 mul-at c = search needs

@@ -5,10 +5,10 @@ use borrow.Author.Needs.{needs}
 use mathlib.Core.Path.{_≡_, refl}
 use Prim.Native.Nat.{ℕ, _-_, _<_, _≤_}
 use lib.ListN.{length, getD, length-set}
-use Rattle.paint.proofs.PatternLaws.{filled-more}
-use Rattle.paint.specs.Pattern.{patternIn}
-use Rattle.paint.proofs.row_values.Statement.{statement}
-use Rattle.paint.proofs.row_values.Tie as tie
+use Rattle.ink.proofs.PatternLaws.{filled-more}
+use Rattle.ink.specs.Pattern.{patternIn}
+use Rattle.ink.proofs.row_values.Statement.{statement}
+use Rattle.ink.proofs.row_values.Tie as tie
 
 abbrev Inv-loop : tie.InvT-loop
 Inv-loop ink pattern row values₀ column₀ values column = (column ≤ 8) × (length values ≡ 8) × ((k : ℕ) → k < column → getD values k 0 ≡ patternIn ink pattern k row)
