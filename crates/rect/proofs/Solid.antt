@@ -16,6 +16,7 @@ use Rattle.sweep.specs.declared.Task.{Task}
 use Rattle.paint.specs.Mix.{mixed, chosen, fillSource}
 use Rattle.ink.specs.Pattern.{patternColumn, patternRow, patternBit, patternIn, patternValue}
 use Rattle.sweep.specs.Copy.{sourceBy, giving}
+use Rattle.tint.specs.Tint.{filling}
 use Rattle.rect.specs.Fast.{solid}
 use Rattle.paint.proofs.MixLaws.{not-true}
 
@@ -42,3 +43,8 @@ solid-gives t pattern m now p e =
 pub fill-gives : (t : Task) (pattern m m′ now : List ℕ) (p : Px) → t .copies ≡ false → giving t pattern m now p ≡ giving t pattern m′ now p
 unfolding giving sourceBy
 fill-gives t pattern m m′ now p e = rw e refl
+
+-- what a fill gives needs no task
+pub fill-alone : (t : Task) (pattern m now : List ℕ) (p : Px) → t .copies ≡ false → giving t pattern m now p ≡ filling (t .ink) pattern now p
+unfolding giving sourceBy filling
+fill-alone t pattern m now p e = rw e refl

@@ -141,6 +141,9 @@ fn fill_rect(mem: &mut [u8], t: Task, pattern: [u8; 256], w: u32, h: u32) -> u32
         let v = raster::raster(0xcc, 0, t.ink.fore, 0);
         return runs::solid_rows(mem, t.ink.target, v, t.x, t.y, w, h);
     }
+    if !t.ink.dstKey {
+        return tint::tint_rows(mem, t.ink, pattern, t.x, t.y, w, h);
+    }
     sweep::paint_rows(mem, t, pattern, w, h, false)
 }
 

@@ -1,4 +1,4 @@
--- `rect::fill_rect` meets its contract: a solid fill gives each pixel one value, and no fill looks at a source.
+-- `rect::fill_rect` meets its contract: a solid fill gives each pixel one value, one without a target key goes by masks, and no fill looks at a source.
 -- Assumes nothing.
 use borrow.Author.Needs.{needs}
 use mathlib.Core.Path.{sym, ap, _∙_}
@@ -9,8 +9,10 @@ use Rattle.surface.specs.Pixels.{rect}
 use Rattle.paint.specs.Paint.{state, paint}
 use Rattle.sweep.specs.Copy.{giving}
 use Rattle.runs.specs.Runs.{evenly}
+use Rattle.tint.specs.Tint.{filling}
 use Rattle.paint.proofs.Turns.{paint-same}
-use Rattle.rect.proofs.Solid.{solid-gives, fill-gives}
+use Rattle.paint.proofs.MixLaws.{not-true}
+use Rattle.rect.proofs.Solid.{solid-gives, fill-gives, fill-alone}
 use Rattle.sweep.proofs.TaskLaws.{can-pixel}
 use Rattle.rect.proofs.fill_rect.Statement.{statement}
 use Rattle.rect.proofs.fill_rect.Tie as tie
@@ -39,16 +41,33 @@ returns c =
     ∙ sym (paint-same (a .t .ink .target) (λ p now. giving (a .t) (a .pattern) (a .mem .now) now p) (λ p now. some _) ps
     (λ p i now. solid-gives (a .t) (a .pattern) (a .mem .now) now p solid) (state (a .mem .now) 0))
 
-paint-rows-requires : tie.Need-paint-rows-requires
-paint-rows-requires c κs = search needs
+tint-rows-requires : tie.Need-tint-rows-requires
+tint-rows-requires c κs =
+    let p = c .before .before .before .before .before .before .pre .0 in (
+      record { colour = p .colour; wide = p .wide; high = p .high; on = λ i j l r t b. can-pixel p i j (record { left = l; right = r; top = t; bottom = b }) .0 },
+      not-true _ (c .before .if2 .taken),
+    )
 
 same-length-2 : tie.Need-same-length-2
 same-length-2 c = search needs
 
 returns-2 : tie.Need-returns-2
 returns-2 c =
-    let a = c .before .before .before .before .before .before .before .args in
-    let p = c .before .before .before .before .before .before .before .pre in
+    let a = c .before .before .before .before .before .before .before .before .before .args in
+    c .before .before .tint-rows .ensures
+    ∙ sym (paint-same (a .t .ink .target) (λ p now. giving (a .t) (a .pattern) (a .mem .now) now p) (λ p now. filling (a .t .ink) (a .pattern) now p)
+    (rect false false (a .t .x) (a .t .y) (a .w) (a .h)) (λ q i now. fill-alone (a .t) (a .pattern) (a .mem .now) now q (c .before .before .before .before .before .before .before .before .before .pre .1)) (state (a .mem .now) 0))
+
+paint-rows-requires : tie.Need-paint-rows-requires
+paint-rows-requires c κs = search needs
+
+same-length-3 : tie.Need-same-length-3
+same-length-3 c = search needs
+
+returns-3 : tie.Need-returns-3
+returns-3 c =
+    let a = c .before .before .before .before .before .before .before .before .before .args in
+    let p = c .before .before .before .before .before .before .before .before .before .pre in
     c .before .before .paint-rows .ensures
     ∙ paint-same (a .t .ink .target) (λ p now. giving (a .t) (a .pattern) now now p) (λ p now. giving (a .t) (a .pattern) (a .mem .now) now p)
     (rect false false (a .t .x) (a .t .y) (a .w) (a .h)) (λ q i now. fill-gives (a .t) (a .pattern) now (a .mem .now) now q (p .1)) (state (a .mem .now) 0)
@@ -62,6 +81,9 @@ fill-rect-spec =
     solid-rows-requires
     same-length
     returns
-    paint-rows-requires
+    tint-rows-requires
     same-length-2
-    returns-2)
+    returns-2
+    paint-rows-requires
+    same-length-3
+    returns-3)

@@ -1,0 +1,4 @@
+pub mod MaskLaws
+pub mod ByteLaws
+pub mod RowLaws
+pub mod FillLaws

@@ -1,0 +1,2 @@
+pub mod Tint
+pub mod Masking

@@ -1,0 +1,100 @@
+-- Masks: a fill without a target key makes of a pixel its old value with some bits kept and some turned over. Tables of masks, in bytes, and what they give.
+-- Assumes nothing.
+use mathlib.Core.Path.{_≡_}
+use mathlib.Core.Bool.{Bool, true, false, cond}
+use mathlib.Core.List.{List, map}
+use mathlib.Core.Option.{Option, none, some}
+use Prim.Native.Nat.{ℕ, zero, suc, _+_, _-_, _*_, _/_, _%_, _^_, _<_, _≤_}
+use lib.Dec.{eqb}
+use lib.Bits.{bitAnd, bitXor}
+use lib.ListN.{length, getD, set}
+use Rattle.raster.specs.Rop.{ropBits}
+use Rattle.surface.specs.declared.Surface.{Surface}
+use Rattle.surface.specs.Place.{readBytes, readPx, Colour}
+use Rattle.surface.specs.Pixels.{Px}
+use Rattle.ink.specs.declared.Ink.{Ink}
+use Rattle.paint.specs.Paint.{Touch, touch}
+use Rattle.paint.specs.Mix.{fillSource}
+use Rattle.ink.specs.Pattern.{patternColumn, patternRow, patternBit, patternIn}
+use Rattle.runs.specs.Runs.{RowOn}
+use Rattle.tint.specs.declared.Mask.{Mask}
+use Rattle.tint.specs.declared.Masks.{Masks}
+
+-- all the bits of a pixel
+abbrev pub ones : ℕ
+ones = 2 ^ 32 - 1
+
+-- the old pixel: the bits of `keep` kept, those of `flip` turned over
+unfoldable pub masked : ℕ → ℕ → ℕ → ℕ
+masked old keep flip = bitXor (bitAnd old keep) flip
+
+-- what a mask gives the pixel: nothing where it adds no pixel to the count
+unfoldable pub byMask : ℕ → ℕ → ℕ → ℕ → Option ℕ
+byMask keep flip adds old = cond (eqb adds 0) none (some (masked old keep flip))
+
+-- a mask of its three numbers
+abbrev pub mask : ℕ → ℕ → ℕ → Mask
+mask keep flip adds = record { keep = keep; flip = flip; adds = adds }
+
+-- the mask by what becomes of a 1 and of a 0 at each bit; a pixel that is left keeps all its bits, and is not counted
+abbrev pub maskBy : Bool → ℕ → ℕ → Mask
+maskBy true fromOnes fromZeros = mask ones 0 0
+maskBy false fromOnes fromZeros = mask (bitXor fromOnes fromZeros) fromZeros 1
+
+-- what a fill without a target key makes of an old pixel, at a column and a row of the pattern
+abbrev pub becomes : Ink → List ℕ → ℕ → ℕ → ℕ → ℕ
+becomes ink pattern column row old = ropBits 32 (ink .rop0) (patternIn ink pattern column row) (ink .fore) old
+
+-- its mask there
+unfoldable pub maskOf : Ink → List ℕ → ℕ → ℕ → Mask
+maskOf ink pattern column row =
+    maskBy (fillSource ink (patternBit pattern column row) .left) (becomes ink pattern column row ones) (becomes ink pattern column row 0)
+
+-- ---- masks as bytes, in a table for pixels of n bytes
+
+-- mask number k of the table
+abbrev pub maskIn : ℕ → List ℕ → ℕ → ℕ
+maskIn n table k = readBytes table (λ j. k * n + j) 0 n
+
+-- what pixel p is given by the eight masks from number `first` on, the first of them at column x
+unfoldable pub tinting : Surface → List ℕ → List ℕ → List ℕ → ℕ → ℕ → List ℕ → Px → Option ℕ
+tinting s keep flip adds first x now p =
+    byMask (maskIn (s .bytes) keep (first + (p .x - x) % 8)) (maskIn (s .bytes) flip (first + (p .x - x) % 8)) (getD adds (first + (p .x - x) % 8) 0)
+    (readPx now s (p .x) (p .y))
+
+-- each pixel in its turn
+abbrev pub tintings : Surface → List ℕ → List ℕ → List ℕ → ℕ → ℕ → List Px → List Touch
+tintings s keep flip adds first x ps = map (λ p. touch p (λ now. tinting s keep flip adds first x now p)) ps
+
+-- the memory with n bytes from `at` on changed by the tables' bytes from `from` on
+unfoldable pub blended : List ℕ → List ℕ → ℕ → ℕ → ℕ → List ℕ → List ℕ
+blended keep flip from at zero m = m
+blended keep flip from at (suc n) m = blended keep flip (from + 1) (at + 1) n (set m at (masked (getD m at 0) (getD keep from 0) (getD flip from 0)))
+
+-- ---- what functions ask for and give
+
+-- the mask of pixel (x + k % 8, y + k / 8)
+abbrev pub maskHere : Ink → List ℕ → ℕ → ℕ → ℕ → Mask
+maskHere ink pattern x y k = maskOf ink pattern (patternColumn ink (x + k % 8)) (patternRow ink (y + k / 8))
+
+-- tables of masks, of which number k is that of pixel (x + k % 8, y + k / 8), in the first rows of eight
+pub record MasksOf (ink : Ink) (pattern : List ℕ) (x y rows : ℕ) (m : Masks) : Type 0 where
+  pub keep : (k : ℕ) → k < rows * 8 → maskIn (ink .target .bytes) (m .keep) k ≡ maskHere ink pattern x y k .keep % 256 ^ ink .target .bytes
+  pub flip : (k : ℕ) → k < rows * 8 → maskIn (ink .target .bytes) (m .flip) k ≡ maskHere ink pattern x y k .flip % 256 ^ ink .target .bytes
+  pub adds : (k : ℕ) → k < rows * 8 → getD (m .adds) k 0 ≡ maskHere ink pattern x y k .adds
+  pub keeps : length (m .keep) ≡ 256
+  pub flips : length (m .flip) ≡ 256
+
+-- a mask for n bytes that counts a pixel, or leaves it
+pub record Sound (n keep flip adds : ℕ) : Type 0 where
+  pub few : adds ≤ 1
+  pub left : adds ≡ 0 → (keep ≡ ones % 256 ^ n) × (flip ≡ 0 % 256 ^ n)
+
+-- w pixels of row y from x on can be tinted, after n that were written
+pub record CanTint (s : Surface) (keep flip adds : List ℕ) (first len x w y n : ℕ) : Type 0 where
+  pub colour : Colour s
+  pub on : RowOn s len x w y n
+  pub eight : first ≤ 56
+  pub keeps : length keep ≡ 256
+  pub flips : length flip ≡ 256
+  pub sound : (i : ℕ) → i < 8 → Sound (s .bytes) (maskIn (s .bytes) keep (first + i)) (maskIn (s .bytes) flip (first + i)) (getD adds (first + i) 0)

@@ -1,0 +1,229 @@
+// Fills whose pixels depend on the pattern and on what stands there, by masks that are worked out before the pixels.
+use ink::Ink;
+use surface::Surface;
+ghost use mathlib.Core.Path.{_≡_};
+ghost use mathlib.Core.Bool.{false};
+ghost use Prim.Native.Nat.{ℕ, _+_, _*_, _%_, _^_, _<_, _≤_};
+ghost use lib.ListN.{length};
+ghost use Rattle.surface.specs.Place.{Colour};
+ghost use Rattle.surface.specs.Pixels.{across, rect};
+ghost use Rattle.paint.specs.Paint.{state, paint};
+ghost use Rattle.ink.specs.Pattern.{patternBit, patternIn, Cell};
+ghost use Rattle.runs.specs.Runs.{RectOn};
+ghost use Rattle.tint.specs.Tint.{fillings};
+ghost use Rattle.tint.specs.Masking.{blended, maskOf, tintings, MasksOf, CanTint};
+
+// The bits of a pixel that are kept, those that are then turned over, and 1 if the pixel is written.
+pub struct Mask {
+    pub keep: u32,
+    pub flip: u32,
+    pub adds: u32,
+}
+
+// The masks of eight rows of eight pixels, as bytes in the target's format.
+pub struct Masks {
+    pub keep: [u8; 256],
+    pub flip: [u8; 256],
+    pub adds: [u32; 64],
+}
+
+fn wide(x: u8) -> u32
+    ensures { λ r. ⌜ r ≡ x ⌝ }
+{
+    x as u32
+}
+
+// The pattern's value at a column and a row, where its bit is known.
+fn value_at(ink: Ink, pattern: &[u8; 256], bit: u32, column: u32, row: u32) -> u32
+    requires { ⌜ Cell (ink .target .bytes) column row × (bit ≡ patternBit (now pattern) column row) ⌝ }
+    ensures { λ r. ⌜ r ≡ patternIn ink (now (pattern .entry)) column row ⌝ }
+{
+    if ink.mono {
+        if bit == 1 {
+            return ink.fore;
+        }
+        return ink.back;
+    }
+    let n = ink.target.bytes;
+    let at = ((row * 8 + column) * n) as usize;
+    surface::get_bytes(pattern, at, n)
+}
+
+// The mask of a fill there.
+fn mask_at(ink: Ink, pattern: &[u8; 256], column: u32, row: u32) -> Mask
+    requires { ⌜ Cell (ink .target .bytes) column row ⌝ }
+    ensures { λ r. ⌜ r ≡ maskOf ink (now (pattern .entry)) column row ⌝ }
+{
+    let bit = ink::bit_of(wide(pattern[row as usize]), column);
+    if ink.clear & (ink.mono & (bit == 0)) {
+        return Mask {
+            keep: 0xffff_ffff,
+            flip: 0,
+            adds: 0,
+        };
+    }
+    let value = value_at(ink, pattern, bit, column, row);
+    let flip = raster::raster(ink.rop0, value, ink.fore, 0);
+    Mask {
+        keep: raster::raster(ink.rop0, value, ink.fore, 0xffff_ffff) ^ flip,
+        flip: flip,
+        adds: 1,
+    }
+}
+
+// The masks of the first rows, at most eight, from pixel (x, y) on.
+fn masks_at(ink: Ink, pattern: &[u8; 256], x: u32, y: u32, rows: u32) -> Masks
+    requires { ⌜ Colour (ink .target) × (x ≤ 2 ^ 13) × (y ≤ 2 ^ 13) × (rows ≤ 8) ⌝ }
+    ensures { λ r. ⌜ MasksOf ink (now (pattern .entry)) x y rows r ⌝ }
+{
+    let n = ink.target.bytes;
+    let mut keep = [0u8; 256];
+    let mut flip = [0u8; 256];
+    let mut adds = [0u32; 64];
+    let mut k = 0;
+    while k < rows * 8 {
+        let column = ink::pattern_column(ink, x + k % 8);
+        let row = ink::pattern_row(ink, y + k / 8);
+        let m = mask_at(ink, pattern, column, row);
+        let at = (k * n) as usize;
+        surface::put_bytes(&mut keep, at, n, m.keep);
+        surface::put_bytes(&mut flip, at, n, m.flip);
+        adds[k as usize] = m.adds;
+        k += 1;
+    }
+    Masks {
+        keep: keep,
+        flip: flip,
+        adds: adds,
+    }
+}
+
+// How many rows of masks h rows of pixels want.
+fn mask_rows(h: u32) -> u32
+    ensures { λ r. ⌜ (r ≤ 8) × ((j : ℕ) → j < h → j % 8 < r) ⌝ }
+{
+    if h < 8 {
+        return h;
+    }
+    8
+}
+
+// The n bytes from an address on, by the masks' bytes from number `from` on.
+fn tint_bytes(mem: &mut [u8], at: usize, n: usize, keep: &[u8], flip: &[u8], from: usize)
+    requires { ⌜ ((i : ℕ) → i < n → at + i < length (now mem)) × (from + n ≤ length (now keep)) × (from + n ≤ length (now flip)) ⌝ }
+    ensures { λ _. ⌜ now (mem .exit) ≡ blended (now (keep .entry)) (now (flip .entry)) from at n (now (mem .entry)) ⌝ }
+{
+    let mut i = 0;
+    while i < n {
+        mem[at + i] = (mem[at + i] & keep[from + i]) ^ flip[from + i];
+        i += 1;
+    }
+}
+
+// The w pixels, at most eight, of row y from x on, each of so many bytes, by the masks from number `first` on, after n that were written.
+fn tint_across(
+    mem: &mut [u8],
+    s: Surface,
+    bytes: u32,
+    keep: &[u8],
+    flip: &[u8],
+    adds: &[u32; 64],
+    first: u32,
+    x: u32,
+    w: u32,
+    y: u32,
+    n: u32,
+) -> u32
+    requires { ⌜ CanTint s (now keep) (now flip) (now adds) first (length (now mem)) x w y n × (bytes ≡ s .bytes) × (w ≤ 8) ⌝ }
+    ensures { λ r. ⌜ (state (now (mem .exit)) r ≡ paint s (tintings s (now (keep .entry)) (now (flip .entry)) (now (adds .entry)) first x (across false x w y)) (state (now (mem .entry)) n)) × (r ≤ n + w) ⌝ }
+{
+    let at = surface::byte_of(s, x, y, 0);
+    let many = (w * bytes) as usize;
+    let from = (first * bytes) as usize;
+    tint_bytes(mem, at, many, keep, flip, from);
+    let mut r = n;
+    let mut i = 0;
+    while i < w {
+        r += adds[(first + i) as usize];
+        i += 1;
+    }
+    r
+}
+
+// A row of any width, eight pixels at a time.
+fn tint_eights(
+    mem: &mut [u8],
+    s: Surface,
+    bytes: u32,
+    keep: &[u8],
+    flip: &[u8],
+    adds: &[u32; 64],
+    first: u32,
+    x: u32,
+    w: u32,
+    y: u32,
+    n: u32,
+) -> u32
+    requires { ⌜ CanTint s (now keep) (now flip) (now adds) first (length (now mem)) x w y n × (bytes ≡ s .bytes) ⌝ }
+    ensures { λ r. ⌜ (state (now (mem .exit)) r ≡ paint s (tintings s (now (keep .entry)) (now (flip .entry)) (now (adds .entry)) first x (across false x w y)) (state (now (mem .entry)) n)) × (r ≤ n + w) ⌝ }
+{
+    let mut r = n;
+    let mut i = 0;
+    while i + 8 <= w {
+        r = tint_across(mem, s, bytes, keep, flip, adds, first, x + i, 8, y, r);
+        i += 8;
+    }
+    tint_across(mem, s, bytes, keep, flip, adds, first, x + i, w - i, y, r)
+}
+
+// The same, by the number of bytes, so that each number has a loop of its own.
+fn tint_row(
+    mem: &mut [u8],
+    s: Surface,
+    keep: &[u8],
+    flip: &[u8],
+    adds: &[u32; 64],
+    first: u32,
+    x: u32,
+    w: u32,
+    y: u32,
+    n: u32,
+) -> u32
+    requires { ⌜ CanTint s (now keep) (now flip) (now adds) first (length (now mem)) x w y n ⌝ }
+    ensures { λ r. ⌜ (state (now (mem .exit)) r ≡ paint s (tintings s (now (keep .entry)) (now (flip .entry)) (now (adds .entry)) first x (across false x w y)) (state (now (mem .entry)) n)) × (r ≤ n + w) ⌝ }
+{
+    let bytes = s.bytes;
+    match bytes {
+        1 => tint_eights(mem, s, 1, keep, flip, adds, first, x, w, y, n),
+        2 => tint_eights(mem, s, 2, keep, flip, adds, first, x, w, y, n),
+        3 => tint_eights(mem, s, 3, keep, flip, adds, first, x, w, y, n),
+        _ => tint_eights(mem, s, 4, keep, flip, adds, first, x, w, y, n),
+    }
+}
+
+// A fill without a target key, row by row from the upper left corner; the count of pixels written.
+pub fn tint_rows(
+    mem: &mut [u8],
+    ink: Ink,
+    pattern: [u8; 256],
+    x: u32,
+    y: u32,
+    w: u32,
+    h: u32,
+) -> u32
+    requires { ⌜ RectOn (ink .target) (length (now mem)) x y w h × (ink .dstKey ≡ false) ⌝ }
+    ensures { λ r. ⌜ state (now (mem .exit)) r ≡ paint (ink .target) (fillings ink pattern (rect false false x y w h)) (state (now (mem .entry)) 0) ⌝ }
+{
+    let m = masks_at(ink, &pattern, x, y, mask_rows(h));
+    let keep = m.keep;
+    let flip = m.flip;
+    let adds = m.adds;
+    let s = ink.target;
+    let mut n = 0;
+    let mut j = 0;
+    while j < h {
+        n = tint_row(mem, s, &keep, &flip, &adds, j % 8 * 8, x, w, y + j, n);
+        j += 1;
+    }
+    n
+}
