@@ -1,11 +1,14 @@
 -- Laws of pixels from bits: one pixel, a turn of each loop, and a byte read once for all its pixels.
 -- Assumes nothing.
-use mathlib.Core.Path.{_≡_, sym, ap, ap₂, _∙_}
-use mathlib.Core.Bool.{true, false}
+use mathlib.Core.Path.{_≡_, refl, sym, ap, ap₂, _∙_}
+use mathlib.Core.Bool.{Bool, true, false, cond, _&&_}
 use mathlib.Core.List.{List}
+use mathlib.Core.Option.{Option, none, some}
 use Prim.Native.Nat.{ℕ, _+_, _-_, _*_, _/_, _%_, _^_, _<_, _≤_}
 use native.Mathlib.Nat.{add-mul}
+use native.Mathlib.Decide.{ℕ-discrete}
 use native.Mathlib.Omega.{arith}
+use lib.Dec.{eqb}
 use lib.ListN.{getD}
 use borrow.Author.Tests.{eq-eqb, ne-eqb}
 use Rattle.surface.specs.declared.Surface.{Surface}
@@ -14,7 +17,7 @@ use Rattle.surface.specs.Pixels.{Px, px, across}
 use Rattle.surface.proofs.Rows.{byteAt-run}
 use Rattle.surface.proofs.Run.{pixel-held}
 use Rattle.surface.proofs.Rects.{same-px, in-across}
-use Rattle.surface.proofs.Lists.{In}
+use Rattle.surface.proofs.Lists.{In, by-cases}
 use Rattle.spans.proofs.Spans.{IsByte}
 use Rattle.paint.specs.Paint.{State, state, dab, dabAt, paint}
 use Rattle.paint.proofs.Owners.{of-byte, dab-leaves}
@@ -37,6 +40,19 @@ module _ (at n bit count : ℕ) (p : Plain) (m : List ℕ) where
   pub bit-back : {m′ : List ℕ} → (bit ≡ 1 → ⊥) → p .clear ≡ false → m′ ≡ writeBytes (λ k. at + k) 0 n (p .back) m → state m′ (count + 1) ≡ dabAt at n (coloured p bit) (state m count)
   unfolding coloured dabAt
   bit-back e c w = rw (ne-eqb bit 1 e, c, w)
+
+-- the two colours as a source has them
+pub bit-given : (bit fore back : ℕ) (clear : Bool) → bit < 2
+    → cond (clear && eqb bit 0) none (some (cond (eqb bit 1) fore back)) ≡ cond (eqb bit 1) (some fore) (cond clear none (some back))
+bit-given bit fore back clear h = by-cases (ℕ-discrete bit 1) (λ e. rw e (one clear)) (λ e. let z : bit ≡ 0 = omega arith in rw z (none-of clear))
+  where
+    one : (c : Bool) → _≡_ {A = Option ℕ} (cond (c && false) none (some fore)) (some fore)
+    one true = refl
+    one false = refl
+
+    none-of : (c : Bool) → _≡_ {A = Option ℕ} (cond (c && true) none (some back)) (cond c none (some back))
+    none-of true = refl
+    none-of false = refl
 
 -- ---- where a pixel of the row begins
 pub pixel-place : (s : Surface) (x y i : ℕ) → byteOf s x y 0 + i * s .bytes ≡ byteOf s (x + i) y 0

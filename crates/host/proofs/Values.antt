@@ -48,7 +48,7 @@ module _ (ws : ℕ → ℕ) (k last : ℕ) (prior : 0 < k → last ≡ ws (k - 1
       ap (λ (n : ℕ). x % 2 ^ n) (omega arith) ∙ mod-pow-add x (8 * b) 8 in
       omega (arith, byte-of-two o r e (omega arith))
 
-  bit-of-two : (o t r : ℕ) → o ≡ 4 * k + t → t < 4 → r < 8 → two last (ws k) / 2 ^ (8 * (4 + t) + r) % 2 ≡ dataByte ws o / 2 ^ r % 2
+  pub bit-of-two : (o t r : ℕ) → o ≡ 4 * k + t → t < 4 → r < 8 → two last (ws k) / 2 ^ (8 * (4 + t) + r) % 2 ≡ dataByte ws o / 2 ^ r % 2
   bit-of-two o t r e h l =
       let x = two last (ws k) / 2 ^ (8 * (4 + t)) in
       let a : two last (ws k) / 2 ^ (8 * (4 + t) + r) ≡ x / 2 ^ r = sym (shr-shr (two last (ws k)) (8 * (4 + t)) r) in

@@ -8,16 +8,16 @@ use Prim.Native.Nat.{ℕ, _+_, _%_, _^_, _<_}
 use native.Mathlib.Nat.{mod-eq-of-lt}
 use lib.Dec.{eqb}
 use borrow.Author.Tests.{eqb-true}
-use Rattle.raster.specs.Rop.{ropBits}
+use Rattle.raster.specs.Rop.{ropBits, patternFree}
 use Rattle.keys.specs.Key.{keyMatch}
-use Rattle.raster.proofs.RopLaws.{copies}
+use Rattle.raster.proofs.RopLaws.{copies, pattern-free}
 use Rattle.surface.specs.Place.{readPx, writePx}
 use Rattle.surface.specs.Pixels.{px}
 use Rattle.surface.proofs.OnLaws.{and-left, and-right}
 use Rattle.ink.specs.declared.Ink.{Ink}
 use Rattle.paint.specs.declared.Source.{Source}
 use Rattle.paint.specs.Paint.{state, dab}
-use Rattle.paint.specs.Mix.{source, chosen, targetMatch, mixed, direct}
+use Rattle.paint.specs.Mix.{source, chosen, targetMatch, patternless, mixed, direct}
 
 pub left-alone : (ink : Ink) (pattern : ℕ) (s : Source) (x y n : ℕ) (m : List ℕ) → s .left ≡ true
     → state m n ≡ dab (ink .target) (px x y) (mixed ink pattern s (readPx m (ink .target) x y)) (state m n)
@@ -30,6 +30,24 @@ pub put-there : (ink : Ink) (pattern : ℕ) (s : Source) (x y n : ℕ) (m m′ :
     → state m′ (n + 1) ≡ dab (ink .target) (px x y) (mixed ink pattern s (readPx m (ink .target) x y)) (state m n)
 unfolding mixed dab
 put-there ink pattern s x y n m m′ e o t k r w = rw (e, ← o, ← t, ← k, ← r, w)
+
+-- ---- a pattern that no raster operation looks at
+pub pattern-unread : (ink : Ink) (p q : ℕ) (s : Source) (old : ℕ) → patternless ink ≡ true → mixed ink p s old ≡ mixed ink q s old
+unfolding mixed chosen
+pattern-unread ink p q s old e =
+    ap {B = Option ℕ} (λ (v : ℕ). cond (s .left) none (some v)) (pattern-free 32 (chosen ink (s .key) (targetMatch ink old)) p q (s .value) old (free (s .key) (targetMatch ink old)))
+  where
+    low : Bool
+    low = patternFree (ink .rop0) && patternFree (ink .rop1)
+
+    high : Bool
+    high = patternFree (ink .rop2) && patternFree (ink .rop3)
+
+    free : (a b : Bool) → patternFree (chosen ink a b) ≡ true
+    free true true = and-right (patternFree (ink .rop2)) (patternFree (ink .rop3)) (and-right low high e)
+    free true false = and-left (patternFree (ink .rop2)) (patternFree (ink .rop3)) (and-right low high e)
+    free false true = and-right (patternFree (ink .rop0)) (patternFree (ink .rop1)) (and-left low high e)
+    free false false = and-left (patternFree (ink .rop0)) (patternFree (ink .rop1)) (and-left low high e)
 
 -- ---- a pixel that gets its source
 pub not-true : (b : Bool) → not b ≡ true → b ≡ false

@@ -6,7 +6,7 @@ use mathlib.Core.Option.{Option, none, some}
 use Prim.Native.Nat.{ℕ, _+_, _^_, _<_}
 use lib.Dec.{eqb}
 use Rattle.colour.specs.Convert.{converted}
-use Rattle.raster.specs.Rop.{ropBits}
+use Rattle.raster.specs.Rop.{ropBits, patternFree}
 use Rattle.keys.specs.Key.{keyMatch}
 use Rattle.surface.specs.Place.{readPx, OnColour}
 use Rattle.surface.specs.Pixels.{Px}
@@ -40,6 +40,10 @@ sourced s = cond (s .left) none (some (s .value))
 unfoldable pub chosen : Ink → Bool → Bool → ℕ
 chosen ink sourceMatch targetMatch =
     cond sourceMatch (cond targetMatch (ink .rop3) (ink .rop2)) (cond targetMatch (ink .rop1) (ink .rop0))
+
+-- no raster operation of the command looks at the pattern
+abbrev pub patternless : Ink → Bool
+patternless ink = (patternFree (ink .rop0) && patternFree (ink .rop1)) && (patternFree (ink .rop2) && patternFree (ink .rop3))
 
 -- the target key is tested on the pixel as it stands before the write
 abbrev pub targetMatch : Ink → ℕ → Bool

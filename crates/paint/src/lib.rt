@@ -7,7 +7,7 @@ ghost use lib.ListN.{length};
 ghost use Rattle.surface.specs.Place.{readPx};
 ghost use Rattle.surface.specs.Pixels.{px};
 ghost use Rattle.paint.specs.Paint.{state, dab};
-ghost use Rattle.paint.specs.Mix.{source, colourSource, bitSource, chosen, targetMatch, mixed, Ready, direct};
+ghost use Rattle.paint.specs.Mix.{source, colourSource, bitSource, chosen, targetMatch, mixed, Ready, direct, patternless};
 ghost use Rattle.paint.specs.Clip.{inClip, Bits12};
 
 // A pixel's source: its value in the target's format, whether it matches the source key, and whether the pixel is left unwritten.
@@ -100,6 +100,14 @@ pub fn is_direct(ink: Ink) -> bool
     ensures { λ r. ⌜ r ≡ direct ink ⌝ }
 {
     (ink.rop0 == 0xcc) & !ink.dstKey
+}
+
+// Whether no raster operation of a command looks at the pattern.
+pub fn is_patternless(ink: Ink) -> bool
+    ensures { λ r. ⌜ r ≡ patternless ink ⌝ }
+{
+    (raster::is_pattern_free(ink.rop0) & raster::is_pattern_free(ink.rop1))
+        & (raster::is_pattern_free(ink.rop2) & raster::is_pattern_free(ink.rop3))
 }
 
 // The one store: the pixel is given what pattern, source and target make, and counted, or it is left.

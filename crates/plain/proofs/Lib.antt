@@ -1,3 +1,4 @@
 pub mod Stretch
 pub mod Parts
 pub mod PlainLaws
+pub mod Bits

@@ -1,6 +1,6 @@
 -- Laws of drawing a part of a row: one turn of the loops over its pixels, and over the parts that a word has.
 -- Assumes nothing.
-use mathlib.Core.Path.{_≡_}
+use mathlib.Core.Path.{sym, _≡_}
 use mathlib.Core.List.{List, [], _∷_}
 use Prim.Native.Nat.{ℕ, suc, _+_, _-_, _*_, _%_, _<_, _≤_}
 use native.Mathlib.Omega.{arith}
@@ -11,7 +11,7 @@ use Rattle.host.specs.declared.Feed.{Feed}
 use Rattle.host.specs.Host.{lastByteOf, pixel, valueOf, byBytes}
 use Rattle.host.specs.Draw.{hostTouches, drawn}
 use Rattle.plain.specs.Plain.{stretch}
-use Rattle.plain.proofs.Stretch.{bytes-append, past-none}
+use Rattle.plain.proofs.Stretch.{bytes-append, past-none, stretch-append}
 use Rattle.host.proofs.Drawing.{turn}
 
 module _ (ink : Ink) (pattern : List ℕ) (c : Clip) (feed : Feed) where
@@ -24,6 +24,14 @@ module _ (ink : Ink) (pattern : List ℕ) (c : Clip) (feed : Feed) where
     stretch-turn i e v st st′ l a q =
         let k : e - i ≡ suc (e - (i + 1)) = omega arith in
         turn ink pattern c feed (pixel i j v ∷ []) (stretch feed last word j (i + 1) (e - (i + 1))) (stretch feed last word j i (e - i)) st st′ (rw (k, a)) q
+
+    -- m pixels at once
+    pub stretch-part : (i e m : ℕ) (st st′ : State) → i + m ≤ e → st′ ≡ drawn ink pattern c feed (stretch feed last word j i m) st
+        → drawn ink pattern c feed (stretch feed last word j (i + m) (e - (i + m))) st′ ≡ drawn ink pattern c feed (stretch feed last word j i (e - i)) st
+    stretch-part i e m st st′ l q =
+        let k : e - i ≡ m + (e - (i + m)) = omega arith in
+        turn ink pattern c feed (stretch feed last word j i m) (stretch feed last word j (i + m) (e - (i + m))) (stretch feed last word j i (e - i)) st st′
+        (rw k (sym (stretch-append feed last word j i m (e - (i + m))))) q
 
     pub stretch-done : (i e : ℕ) (st : State) → e ≤ i → drawn ink pattern c feed (stretch feed last word j i (e - i)) st ≡ st
     unfolding stretch hostTouches paint

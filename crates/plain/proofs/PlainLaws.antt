@@ -23,7 +23,7 @@ use Rattle.host.specs.Draw.{hostSource, hostTouches, drawn, Waits}
 use Rattle.plain.specs.Plain.{plainInk, Plainly}
 
 -- ---- the plain ink
-plain-direct : (p : Plain) → direct (plainInk p) ≡ true
+pub plain-direct : (p : Plain) → direct (plainInk p) ≡ true
 unfolding plainInk
 plain-direct p = refl
 

@@ -29,7 +29,7 @@ module _ (f : Feed) (last word : ℕ) where
       let past : f .height ≤ o / f .step = le-div-iff-mul-le {k = f .step} {x = f .height} {y = o} s .1 l in
       rw (le-ltb (o / f .step) (f .height) past) (past-none s (o + 1) n (omega arith))
 
-  stretch-append : (j i m n : ℕ) → stretch f last word j i m ++ stretch f last word j (i + m) n ≡ stretch f last word j i (m + n)
+  pub stretch-append : (j i m n : ℕ) → stretch f last word j i m ++ stretch f last word j (i + m) n ≡ stretch f last word j i (m + n)
   unfolding stretch
   stretch-append j i zero n = rw (add-zero i, zero-add n)
   stretch-append j i (suc m) n =
@@ -80,8 +80,20 @@ part-within f t j c m n start end p room a b = record {
   row = p .row;
   first = omega (arith, whole-width f c);
   past = omega (arith, whole-width f (c + m));
-  room = room;
+  room = omega (arith, whole-width f (c + m));
   low = λ i l u. column-in f c m i (omega arith) (omega arith) .0;
   high = λ i l u. let k = column-in f c m i (omega arith) (omega arith) in omega (arith, k, p .inside);
   byte = λ i l u. let k = column-in f c m i (omega arith) (omega arith) in omega (arith, k, p .inside, p .place);
+}
+
+-- a part of such pixels, after r that were written
+pub within-part : {f : Feed} {t j c start end n : ℕ} → Within f t j c start end n → (i m r : ℕ) → start ≤ i → i + m ≤ end → r + start ≤ n + i → Within f t j c i (i + m) r
+within-part {f} {t} {j} {c} w i m r l u k = record {
+  row = w .row;
+  first = omega (arith, w .past);
+  past = omega (arith, w .past);
+  room = omega (arith, w .room);
+  low = λ q a b. w .low q (omega arith) (omega arith);
+  high = λ q a b. w .high q (omega arith) (omega arith);
+  byte = λ q a b. w .byte q (omega arith) (omega arith);
 }

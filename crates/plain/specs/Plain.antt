@@ -62,7 +62,7 @@ pub record Within (f : Feed) (t j column start end n : ℕ) : Type 0 where
   pub row : j < f .height
   pub first : start ≤ f .width
   pub past : end ≤ f .width
-  pub room : n + f .width < 2 ^ 16
+  pub room : n + (end - start) < 2 ^ 16
   pub low : (i : ℕ) → start ≤ i → i < end → column ≤ lastColumn f i
   pub high : (i : ℕ) → start ≤ i → i < end → t + lastColumn f i - column < 4
   pub byte : (i : ℕ) → start ≤ i → i < end → t + lastColumn f i - column ≡ lastByteOf f i j % 4

@@ -86,7 +86,66 @@ fn last_column(feed: Feed, i: u32) -> u32
     i * bytes + (bytes - 1)
 }
 
-// The pixels of row j from start up to end, mono; byte `column` of the row is byte t of this word.
+// The pixels of row j from start up to end, mono, one by one; byte `column` of the row is byte t of this word.
+fn mono_each(
+    mem: &mut [u8],
+    p: Plain,
+    c: Clip,
+    feed: Feed,
+    last: u32,
+    word: u32,
+    t: u32,
+    j: u32,
+    column: u32,
+    start: u32,
+    end: u32,
+    n: u32,
+) -> u32
+    requires { ⌜ Opened (plainInk p) c feed (length (now mem)) × (Within feed t j column start end n × ((feed .bytes ≡ 0) × (start ≤ end))) ⌝ }
+    ensures { λ r. ⌜ (state (now (mem .exit)) r ≡ drawn (plainInk p) [] c feed (stretch feed last word j start (end - start)) (state (now (mem .entry)) n)) × (r + start ≤ n + end) ⌝ }
+{
+    let mut r = n;
+    let mut i = start;
+    while i < end {
+        let v = host::value_of(feed, last, word, t + last_column(feed, i) - column, i);
+        let s = plain_bit(p, feed, v);
+        r = plain_pixel(mem, p, c, feed, i, j, v, s.value, s.left, r);
+        i += 1;
+    }
+    r
+}
+
+// m of them that one byte of the word holds: as bits of that byte where all are inside the clip.
+fn mono_part(
+    mem: &mut [u8],
+    p: Plain,
+    c: Clip,
+    feed: Feed,
+    last: u32,
+    word: u32,
+    t: u32,
+    j: u32,
+    column: u32,
+    i: u32,
+    m: u32,
+    n: u32,
+) -> u32
+    requires { ⌜ Opened (plainInk p) c feed (length (now mem)) × (Within feed t j column i (i + m) n × ((feed .bytes ≡ 0) × ((0 < m) × (i % 8 + m ≤ 8)))) ⌝ }
+    ensures { λ r. ⌜ (state (now (mem .exit)) r ≡ drawn (plainInk p) [] c feed (stretch feed last word j i m) (state (now (mem .entry)) n)) × (r ≤ n + m) ⌝ }
+{
+    let x = feed.x + i;
+    let y = feed.y + j;
+    if paint::covers(c, x, y) {
+        if paint::covers(c, x + (m - 1), y) {
+            let b = t + i / 8 - column;
+            let byte = (word >> (8 * b)) % 256;
+            return bits::put_bits(mem, p, byte, i % 8, x - 16384, y - 16384, m, n);
+        }
+    }
+    mono_each(mem, p, c, feed, last, word, t, j, column, i, i + m, n)
+}
+
+// All of them, byte by byte.
 fn mono_row(
     mem: &mut [u8],
     p: Plain,
@@ -107,10 +166,9 @@ fn mono_row(
     let mut r = n;
     let mut i = start;
     while i < end {
-        let v = host::value_of(feed, last, word, t + last_column(feed, i) - column, i);
-        let s = plain_bit(p, feed, v);
-        r = plain_pixel(mem, p, c, feed, i, j, v, s.value, s.left, r);
-        i += 1;
+        let m = least(8 - i % 8, end - i);
+        r = mono_part(mem, p, c, feed, last, word, t, j, column, i, m, r);
+        i += m;
     }
     r
 }

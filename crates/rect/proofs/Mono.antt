@@ -1,13 +1,12 @@
 -- A mono copy whose pixels get the colours of their bits: what a pixel is given, and that the rectangle can be copied a byte at a time.
 -- Assumes nothing.
-use mathlib.Core.Path.{_≡_, refl, sym, ap, _∙_}
+use mathlib.Core.Path.{_≡_, sym, ap, _∙_}
 use mathlib.Core.Logic.{⊎-elim}
 use mathlib.Core.Bool.{Bool, true, false, cond, _&&_}
 use mathlib.Core.List.{List}
-use mathlib.Core.Option.{Option, none, some}
+use mathlib.Core.Option.{some}
 use Prim.Native.Nat.{ℕ, _+_, _-_, _/_, _^_, _<_}
 use native.Mathlib.Nat.{add-zero}
-use native.Mathlib.Decide.{ℕ-discrete}
 use native.Mathlib.Omega.{arith}
 use lib.Dec.{eqb}
 use borrow.Author.Tests.{eq-eqb, eqb-true}
@@ -15,7 +14,6 @@ use Rattle.surface.specs.declared.Surface.{Surface}
 use Rattle.surface.specs.Place.{byteAt, byteOf, readPx, monoBit}
 use Rattle.surface.specs.Pixels.{Px, px, rect, Inside}
 use Rattle.surface.proofs.OnLaws.{and-left, and-right, mono-first, some-byte}
-use Rattle.surface.proofs.Lists.{by-cases}
 use Rattle.spans.specs.Span.{spanOf, meet}
 use Rattle.spans.proofs.Spans.{IsByte}
 use Rattle.paint.specs.declared.Source.{Source}
@@ -23,26 +21,13 @@ use Rattle.paint.specs.Mix.{source, bitSource, fillSource, colourSource, mixed,
 use Rattle.ink.specs.Pattern.{patternColumn, patternRow, patternBit, patternValue}
 use Rattle.paint.proofs.MixLaws.{direct-mixed}
 use Rattle.paint.proofs.Owners.{byte-of}
+use Rattle.bits.proofs.BitLaws.{bit-given}
 use Rattle.bits.specs.Bits.{coloured, monoGiving, CanMono}
 use Rattle.sweep.specs.declared.Task.{Task}
 use Rattle.sweep.specs.Copy.{sourcePlace, sourceBy, giving, CanPaint, Orderly}
 use Rattle.rect.specs.Fast.{bitwise, monoOf}
 use Rattle.sweep.proofs.TaskLaws.{can-pixel}
 use Rattle.rect.proofs.Order.{between}
-
--- a bit's colour, or nothing
-given : (bit fore back : ℕ) (clear : Bool) → bit < 2
-    → cond (clear && eqb bit 0) none (some (cond (eqb bit 1) fore back)) ≡ cond (eqb bit 1) (some fore) (cond clear none (some back))
-given bit fore back clear h =
-    by-cases (ℕ-discrete bit 1) (λ e. rw e (one clear)) (λ e. let z : bit ≡ 0 = omega arith in rw z (none-of clear))
-  where
-    one : (c : Bool) → _≡_ {A = Option ℕ} (cond (c && false) none (some fore)) (some fore)
-    one true = refl
-    one false = refl
-
-    none-of : (c : Bool) → _≡_ {A = Option ℕ} (cond (c && true) none (some back)) (cond c none (some back))
-    none-of true = refl
-    none-of false = refl
 
 bit-small : (m : List ℕ) (s : Surface) (x y : ℕ) → monoBit m s x y < 2
 unfolding monoBit
@@ -72,7 +57,7 @@ module _ (t : Task) (e : bitwise t ≡ true) where
       ap (λ (s : Source). mixed (t .ink) pv s old) (mono-source (patternBit pattern (patternColumn (t .ink) (p .x)) (patternRow (t .ink) (p .y))) now p)
       ∙ direct-mixed (t .ink) pv (cond (eqb bit 1) (t .ink .fore) (t .ink .back)) old (t .ink .clear && eqb bit 0)
       (and-right (t .copies && eqb (t .from .bytes) 0) (direct (t .ink)) e) (small (eqb bit 1) fore back)
-      ∙ given bit (t .ink .fore) (t .ink .back) (t .ink .clear) (bit-small now (t .from) (t .sx + (p .x - t .x)) (t .sy + (p .y - t .y)))
+      ∙ bit-given bit (t .ink .fore) (t .ink .back) (t .ink .clear) (bit-small now (t .from) (t .sx + (p .x - t .x)) (t .sy + (p .y - t .y)))
     where
       small : (b : Bool) {m n : ℕ} → m < 2 ^ 32 → n < 2 ^ 32 → cond b m n < 2 ^ 32
       small true h k = h

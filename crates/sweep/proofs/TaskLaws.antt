@@ -1,18 +1,20 @@
 -- Laws of a rectangle's pixels: what one is given, by the numbers that the loop has; and that a rectangle that can be painted has its rows ready.
 -- Assumes nothing.
-use mathlib.Core.Path.{_≡_}
-use mathlib.Core.Bool.{false}
+use mathlib.Core.Path.{_≡_, refl, _∙_}
+use mathlib.Core.Bool.{true, false}
 use mathlib.Core.List.{List}
-use Prim.Native.Nat.{ℕ, _+_, _-_, _^_, _<_, _≤_}
+use Prim.Native.Nat.{ℕ, _+_, _-_, _/_, _%_, _^_, _<_, _≤_}
 use native.Mathlib.Omega.{arith}
 use lib.ListN.{getD}
-use Rattle.surface.specs.Place.{OnColour}
+use Rattle.surface.specs.Place.{readPx, OnColour}
 use Rattle.surface.specs.Pixels.{Px, px, rect, Inside}
 use Rattle.surface.proofs.Rects.{rect-in}
 use Rattle.spans.proofs.Corner.{all-each}
 use Rattle.sweep.specs.declared.Task.{Task}
-use Rattle.ink.specs.Pattern.{patternColumn, patternRow, patternBit, RowOf}
-use Rattle.sweep.specs.Copy.{giving, HasSource, RowReady, CanPaint}
+use Rattle.ink.specs.Pattern.{patternColumn, patternRow, patternBit, patternValue, RowOf}
+use Rattle.paint.specs.Mix.{patternless}
+use Rattle.paint.proofs.MixLaws.{pattern-unread}
+use Rattle.sweep.specs.Copy.{sourceBy, giving, HasSource, RowReady, CanPaint}
 use Rattle.sweep.specs.Row.{rowGiving}
 
 -- a row's pixels are given what the pattern's row gives them
@@ -23,6 +25,15 @@ by-row t pattern now p {row} e b rows =
     let column = patternColumn (t .ink) (p .x) in
     let v = rows .at column (omega arith) in
     rw (v, b, e)
+
+-- and by any eight values, where no raster operation looks at the pattern
+pub by-no-row : (t : Task) (pattern now : List ℕ) (p : Px) {row bits : ℕ} (values : List ℕ) → row ≡ patternRow (t .ink) (p .y) → bits ≡ getD pattern row 0
+    → patternless (t .ink) ≡ true → rowGiving t values bits now p ≡ giving t pattern now now p
+unfolding rowGiving giving patternBit
+by-no-row t pattern now p {row} {bits} values e b free =
+    pattern-unread (t .ink) (getD values (patternColumn (t .ink) (p .x)) 0) (patternValue (t .ink) pattern (p .x) (p .y))
+    (sourceBy t (bits / 2 ^ (7 - patternColumn (t .ink) (p .x)) % 2) now p) (readPx now (t .ink .target) (p .x) (p .y)) free
+    ∙ rw (b, e) refl
 
 -- the pixels of the rectangle, one by one
 pub can-pixel : {t : Task} {w h len : ℕ} → CanPaint t w h len → (x y : ℕ) → Inside (t .x) (t .y) w h (px x y)

@@ -108,8 +108,11 @@ fn paint_row(mem: &mut [u8], t: Task, pattern: [u8; 256], w: u32, y: u32, back: 
 {
     let ink = t.ink;
     let row = ink::pattern_row(ink, y);
-    let values = ink::row_values(ink, pattern, row);
     let bits = ink::pattern_byte(pattern, row);
+    if paint::is_patternless(ink) {
+        return paint_across(mem, t, [0u32; 8], bits, w, y, back, n);
+    }
+    let values = ink::row_values(ink, pattern, row);
     paint_across(mem, t, values, bits, w, y, back, n)
 }
 

@@ -1,4 +1,4 @@
--- `paint::pattern_at` meets its contract.
+-- `ink::pattern_at` meets its contract.
 -- Assumes nothing.
 use borrow.Author.Needs.{needs}
 use mathlib.Core.Path.{ap₂, _∙_}

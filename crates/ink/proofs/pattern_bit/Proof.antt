@@ -1,4 +1,4 @@
--- `paint::pattern_bit` meets its contract.
+-- `ink::pattern_bit` meets its contract.
 -- Assumes nothing.
 use borrow.Author.Needs.{needs}
 use Rattle.ink.specs.Pattern.{patternBit}

@@ -1,4 +1,4 @@
--- `paint::pattern_in` meets its contract: by the test for mono and the bit.
+-- `ink::pattern_in` meets its contract: by the test for mono and the bit.
 -- Assumes nothing.
 use borrow.Author.Needs.{needs}
 use borrow.Author.Tests.{eq-eqb, ne-eqb}

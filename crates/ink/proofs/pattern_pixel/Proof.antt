@@ -1,4 +1,4 @@
--- `paint::pattern_pixel` meets its contract: at each number of bytes, the bytes read are the pixel's.
+-- `ink::pattern_pixel` meets its contract: at each number of bytes, the bytes read are the pixel's.
 -- Assumes nothing.
 use borrow.Author.Needs.{needs}
 use native.Mathlib.Omega.{arith}

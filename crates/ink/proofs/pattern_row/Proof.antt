@@ -1,4 +1,4 @@
--- `paint::pattern_row` meets its contract: by the test for the forced row.
+-- `ink::pattern_row` meets its contract: by the test for the forced row.
 -- Assumes nothing.
 use borrow.Author.Needs.{needs}
 use native.Mathlib.Omega.{arith}

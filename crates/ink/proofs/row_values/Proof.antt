@@ -1,4 +1,4 @@
--- `paint::row_values` meets its contract: the columns passed have their values.
+-- `ink::row_values` meets its contract: the columns passed have their values.
 -- Assumes nothing.
 use native.Mathlib.Omega.{arith}
 use borrow.Author.Needs.{needs}

@@ -1,17 +1,16 @@
--- `plain::mono_row` meets its contract: what is left of the pixels, drawn on what stands now, is all of them drawn on what stood.
+-- `plain::mono_row` meets its contract: what remains, drawn on the memory now, is all drawn on the memory at the start.
 -- Assumes nothing.
-use native.Mathlib.Omega.{arith}
 use borrow.Author.Needs.{needs}
-use mathlib.Core.Path.{_≡_, refl, sym, ap, _∙_}
+use native.Mathlib.Omega.{arith}
+use mathlib.Core.Path.{_≡_, refl, sym, _∙_}
 use mathlib.Core.List.{[]}
-use Prim.Native.Nat.{ℕ, _+_, _-_, _≤_}
+use Prim.Native.Nat.{_+_, _-_, _≤_}
 use lib.ListN.{length}
 use Rattle.paint.specs.Paint.{state}
-use Rattle.host.specs.Host.{valueOf}
 use Rattle.host.specs.Draw.{drawn}
 use Rattle.plain.specs.Plain.{plainInk, stretch}
-use Rattle.host.proofs.Places.{column-held}
-use Rattle.plain.proofs.Parts.{stretch-turn, stretch-done}
+use Rattle.plain.proofs.Stretch.{within-part}
+use Rattle.plain.proofs.Parts.{stretch-part, stretch-done}
 use Rattle.plain.proofs.mono_row.Statement.{statement}
 use Rattle.plain.proofs.mono_row.Tie as tie
 
@@ -26,63 +25,41 @@ abbrev μ-loop : tie.MeasureT-loop
 loop-holds : tie.Need-loop-holds Inv-loop μ-loop
 loop-holds c = (refl, refl, omega arith, c .before .pre .1 .0 .first, omega arith)
 
-last-column-requires : tie.Need-last-column-requires Inv-loop μ-loop
-last-column-requires c κs = let b = c .before .before .before in (b .pre .0 .rows .sizes .bytes, omega (arith, b .pre .0 .rows .sizes .width, b .pre .1 .0 .past))
+sub-least : tie.Need-sub-least Inv-loop μ-loop
+sub-least c = omega arith
 
-add-value-of : tie.Need-add-value-of Inv-loop μ-loop
-add-value-of c =
-    let i = c .before .before .loop .i in
-    let b = c .before .before .before .before in
-    let w = b .pre .1 .0 in
-    let u = c .before .loop-test .taken in
-    let held = column-held (b .args .feed) i (omega (arith, w .past)) in
-    omega (arith, c .last-column .ensures, held, w .low i (omega arith) u, w .high i (omega arith) u, b .pre .0 .rows .held, b .pre .0 .rows .sizes .step)
+sub-least-2 : tie.Need-sub-least-2 Inv-loop μ-loop
+sub-least-2 c = omega (arith, c .loop-test .taken)
 
-sub-value-of : tie.Need-sub-value-of Inv-loop μ-loop
-sub-value-of c =
-    let i = c .before .before .loop .i in
-    let w = c .before .before .before .before .pre .1 .0 in
-    omega (arith, c .last-column .ensures, w .low i (omega arith) (c .before .loop-test .taken))
+least-requires : tie.Need-least-requires Inv-loop μ-loop
+least-requires c κs = search needs
 
-value-of-requires : tie.Need-value-of-requires Inv-loop μ-loop
-value-of-requires c κs =
-    let i = c .before .before .loop .i in
-    let b = c .before .before .before .before in
-    (b .pre .0 .rows .sizes .bytes, omega (arith, c .last-column .ensures, b .pre .1 .0 .high i (omega arith) (c .before .loop-test .taken)))
-
-plain-bit-requires : tie.Need-plain-bit-requires Inv-loop μ-loop
-plain-bit-requires c κs = c .before .before .before .before .before .pre .1 .1
-
-plain-pixel-requires : tie.Need-plain-pixel-requires Inv-loop μ-loop
-plain-pixel-requires c κs =
-    let l = c .before .before .before .before .before in
-    let b = l .before .before in
-    let w = b .pre .1 .0 in
-    rw (l .loop .inv .1)
-    (b .pre .0, (omega (arith, c .before .before .before .before .loop-test .taken, w .past), (w .row, (omega (arith, w .room), c .before .plain-bit .ensures))))
+mono-part-requires : tie.Need-mono-part-requires Inv-loop μ-loop
+mono-part-requires c κs =
+    let k = c .before .before .before .loop in
+    let b = c .before .before .before .before .before in
+    let m = c .before .least .ensures in
+    let u = c .before .before .loop-test .taken in
+    rw (k .inv .1) (b .pre .0, (within-part (b .pre .1 .0) (k .i) _ (k .r) (omega arith) (omega (arith, m, u)) (omega arith), (b .pre .1 .1, (omega (arith, m, u), omega (arith, m)))))
 
 add-i : tie.Need-add-i Inv-loop μ-loop
-add-i c = omega (arith, c .before .before .before .before .before .before .before .before .before .before .pre .0 .rows .sizes .width)
+add-i c = omega (arith, c .before .before .before .before .least .ensures, c .before .before .before .before .before .loop-test .taken, c .before .before .before .before .before .before .before .before .pre .0 .rows .sizes .width, c .before .before .before .before .before .before .before .before .pre .1 .0 .past)
 
 loop-less : tie.Need-loop-less Inv-loop μ-loop
-loop-less c = omega (arith, c .before .before .before .before .before .before .before .loop-test .taken)
+loop-less c = omega (arith, c .before .before .before .before .least .ensures, c .before .before .before .before .before .loop-test .taken)
 
 loop-again : tie.Need-loop-again Inv-loop μ-loop
 loop-again c =
-    let l = c .before .before .before .before .before .before .before .before in
-    let a = l .before .before .args in
-    let w = l .before .before .pre .1 .0 in
-    let k = l .loop in
-    let u = c .before .before .before .before .before .before .before .loop-test .taken in
-    let e = c .before .before .before .before .before .before .last-column .ensures in
-    let v = c .before .before .before .before .before .value-of in (
-      stretch-turn (plainInk (a .p)) [] (a .c) (a .feed) (a .last) (a .word) (a .j) (k .i) (a .end) (v .result) (state (k .mem) (k .r)) _ u
-          (v .ensures ∙ ap (λ (b : ℕ). valueOf (a .feed) (a .last) (a .word) b (k .i)) (ap (λ (q : ℕ). a .t + q - a .column) e ∙ w .byte (k .i) (omega arith) u))
-          (c .before .before .plain-pixel .ensures .0) ∙ k .inv .0,
-      c .before .before .plain-pixel .kept .0 ∙ k .inv .1,
+    let a = c .before .before .before .before .before .before .before .before .args in
+    let w = c .before .before .before .before .before .before .before .before .pre .1 .0 in
+    let k = c .before .before .before .before .before .before .loop in
+    let m = c .before .before .before .before .least in
+    let u = c .before .before .before .before .before .loop-test .taken in (
+      stretch-part (plainInk (a .p)) [] (a .c) (a .feed) (a .last) (a .word) (a .j) (k .i) (a .end) (m .result) (state (k .mem) (k .r)) _ (omega (arith, m .ensures, u)) (c .before .before .mono-part .ensures .0) ∙ k .inv .0,
+      c .before .before .mono-part .kept .0 ∙ k .inv .1,
       omega arith,
-      omega (arith, w .past),
-      omega (arith, c .before .before .plain-pixel .ensures .1),
+      omega (arith, m .ensures, u, w .past),
+      omega (arith, c .before .before .mono-part .ensures .1),
     )
 
 same-length : tie.Need-same-length Inv-loop μ-loop
@@ -98,19 +75,4 @@ returns c =
 
 pub mono-row-spec : {M : Type 1} → statement M
 mono-row-spec =
-    tie.close
-    (tie.spec
-    Inv-loop
-    μ-loop
-    loop-holds
-    last-column-requires
-    add-value-of
-    sub-value-of
-    value-of-requires
-    plain-bit-requires
-    plain-pixel-requires
-    add-i
-    loop-less
-    loop-again
-    same-length
-    returns)
+    tie.close (tie.spec Inv-loop μ-loop loop-holds sub-least sub-least-2 least-requires mono-part-requires add-i loop-less loop-again same-length returns)

@@ -1,4 +1,4 @@
--- `strokes::paint_each` meets its contract: what the points that are left do from now on is what all of them do from the start.
+-- `points::paint_each` meets its contract: what the points that are left do from now on is what all of them do from the start.
 -- Assumes nothing.
 use borrow.Author.Needs.{needs}
 use native.Mathlib.Omega.{arith}

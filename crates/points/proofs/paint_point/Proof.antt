@@ -1,4 +1,4 @@
--- `strokes::paint_point` meets its contract: a point outside the clip is passed, one inside it is put there.
+-- `points::paint_point` meets its contract: a point outside the clip is passed, one inside it is put there.
 -- Assumes nothing.
 use borrow.Author.Needs.{needs}
 use native.Mathlib.Omega.{arith}

@@ -1,4 +1,4 @@
--- `strokes::put_plain` meets its contract: the pixel is left, or put.
+-- `points::put_plain` meets its contract: the pixel is left, or put.
 -- Assumes nothing.
 use borrow.Author.Needs.{needs}
 use native.Mathlib.Omega.{arith}

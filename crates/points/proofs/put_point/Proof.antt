@@ -1,4 +1,4 @@
--- `strokes::put_point` meets its contract: a pixel that gets its source needs neither the pattern nor what stands there.
+-- `points::put_point` meets its contract: a pixel that gets its source needs neither the pattern nor what stands there.
 -- Assumes nothing.
 use borrow.Author.Needs.{needs}
 use native.Mathlib.Omega.{arith}

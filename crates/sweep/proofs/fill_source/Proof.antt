@@ -1,4 +1,4 @@
--- `rect::fill_source` meets its contract.
+-- `sweep::fill_source` meets its contract.
 -- Assumes nothing.
 use mathlib.Core.Path.{refl}
 use Rattle.paint.specs.Mix.{fillSource}

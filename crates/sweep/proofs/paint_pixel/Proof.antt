@@ -1,4 +1,4 @@
--- `rect::paint_pixel` meets its contract: the source is read before the store.
+-- `sweep::paint_pixel` meets its contract: the source is read before the store.
 -- Assumes nothing.
 use borrow.Author.Needs.{needs}
 use Rattle.sweep.proofs.paint_pixel.Statement.{statement}

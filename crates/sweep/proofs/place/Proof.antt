@@ -1,4 +1,4 @@
--- `rect::place` meets its contract: by the direction.
+-- `sweep::place` meets its contract: by the direction.
 -- Assumes nothing.
 use borrow.Author.Needs.{needs}
 use Rattle.sweep.proofs.place.Statement.{statement}

@@ -1,4 +1,4 @@
--- `rect::source_at` meets its contract: by the tests for a fill and for mono.
+-- `sweep::source_at` meets its contract: by the tests for a fill and for mono.
 -- Assumes nothing.
 use borrow.Author.Needs.{needs}
 use native.Mathlib.Omega.{arith}

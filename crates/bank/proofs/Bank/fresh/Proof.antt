@@ -1,4 +1,4 @@
--- `Bank::fresh` meets its contract, by that of `Regs::zero`.
+-- `bank::fresh` meets its contract, by that of `Regs::zero`.
 -- Assumes nothing.
 use borrow.Author.Needs.{needs}
 use Rattle.bank.specs.Bank.{freshBank}

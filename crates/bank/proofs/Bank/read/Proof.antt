@@ -1,4 +1,4 @@
--- `Bank::read` meets its contract: at each return the place of the offset is known.
+-- `bank::read` meets its contract: at each return the place of the offset is known.
 -- Assumes nothing.
 use borrow.Author.Needs.{needs}
 use mathlib.Core.Path.{sym, ap, _∙_}

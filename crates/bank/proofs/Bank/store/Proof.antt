@@ -1,4 +1,4 @@
--- `Bank::store` meets its contract, by those of `kept_bits` and `Regs::put`.
+-- `bank::store` meets its contract, by those of `kept_bits` and `Regs::put`.
 -- Assumes nothing.
 use borrow.Author.Needs.{needs}
 use Rattle.bank.specs.Bank.{stored}

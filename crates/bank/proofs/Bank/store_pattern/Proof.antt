@@ -1,4 +1,4 @@
--- `Bank::store_pattern` meets its contract, by that of `put_word`.
+-- `bank::store_pattern` meets its contract, by that of `put_word`.
 -- Assumes nothing.
 use borrow.Author.Needs.{needs}
 use Rattle.bank.specs.Bank.{patterned}

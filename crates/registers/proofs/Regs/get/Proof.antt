@@ -1,4 +1,4 @@
--- `Regs::get` meets its contract: in an arm the offset is that arm's number, and `getReg` computes there.
+-- `registers::get` meets its contract: in an arm the offset is that arm's number, and `getReg` computes there.
 -- Assumes nothing.
 use mathlib.Core.Path.{sym}
 use Rattle.registers.specs.Regs.{getReg}

@@ -1,4 +1,4 @@
--- `Regs::put` meets its contract: in an arm the offset is that arm's number, and `putReg` computes there.
+-- `registers::put` meets its contract: in an arm the offset is that arm's number, and `putReg` computes there.
 -- Assumes nothing.
 use mathlib.Core.Path.{sym}
 use Rattle.registers.specs.Regs.{putReg}
