@@ -103,9 +103,9 @@ fn least(a: u32, b: u32) -> u32
     if a < b { a } else { b }
 }
 
-// Row j of a mono rectangle, a byte of its source at a time.
-fn mono_row(mem: &mut [u8], t: Mono, w: u32, j: u32, count: u32) -> u32
-    requires { ⌜ RowMono t w j (length (now mem)) count ⌝ }
+// Row j of a mono rectangle, a byte of its source at a time; n is the target's bytes per pixel.
+fn mono_run(mem: &mut [u8], t: Mono, n: u32, w: u32, j: u32, count: u32) -> u32
+    requires { ⌜ RowMono t w j (length (now mem)) count × (n ≡ t .plain .target .bytes) ⌝ }
     ensures { λ r. ⌜ (state (now (mem .exit)) r ≡ paint (t .plain .target) (monoly t (across false (t .x) w (t .y + j))) (state (now (mem .entry)) count)) × (r ≤ count + w) ⌝ }
 {
     let p = t.plain;
@@ -117,10 +117,28 @@ fn mono_row(mem: &mut [u8], t: Mono, w: u32, j: u32, count: u32) -> u32
         let k = column % 8;
         let m = least(8 - k, w - i);
         let byte = surface::mono_byte(mem, t.from, column, t.sy + j);
-        r = put_bits(mem, p, byte, k, t.x + i, y, m, r);
+        r = put_run(mem, p, n, byte, k, t.x + i, y, m, r);
         i += m;
     }
     r
+}
+
+// The same, with a loop for each number of bytes.
+fn mono_row(mem: &mut [u8], t: Mono, w: u32, j: u32, count: u32) -> u32
+    requires { ⌜ RowMono t w j (length (now mem)) count ⌝ }
+    ensures { λ r. ⌜ (state (now (mem .exit)) r ≡ paint (t .plain .target) (monoly t (across false (t .x) w (t .y + j))) (state (now (mem .entry)) count)) × (r ≤ count + w) ⌝ }
+{
+    let n = t.plain.target.bytes;
+    if n == 1 {
+        return mono_run(mem, t, 1, w, j, count);
+    }
+    if n == 2 {
+        return mono_run(mem, t, 2, w, j, count);
+    }
+    if n == 3 {
+        return mono_run(mem, t, 3, w, j, count);
+    }
+    mono_run(mem, t, 4, w, j, count)
 }
 
 // A mono rectangle, row by row.

@@ -1,4 +1,4 @@
--- `bits::mono_row` meets its contract: what remains of the row, painted on the memory now, is the row painted on the memory at the start.
+-- `bits::mono_run` meets its contract: what remains of the row, painted on the memory now, is the row painted on the memory at the start.
 -- Assumes nothing.
 use borrow.Author.Needs.{needs}
 use native.Mathlib.Omega.{arith}
@@ -12,19 +12,19 @@ use Rattle.paint.specs.Paint.{state, touch, paint}
 use Rattle.paint.proofs.Turns.{row-left, row-whole, row-ends, part-again}
 use Rattle.bits.specs.Bits.{monoGiving, monoly}
 use Rattle.bits.proofs.BitLaws.{byte-once}
-use Rattle.bits.proofs.mono_row.Statement.{statement}
-use Rattle.bits.proofs.mono_row.Tie as tie
+use Rattle.bits.proofs.mono_run.Statement.{statement}
+use Rattle.bits.proofs.mono_run.Tie as tie
 
 abbrev Inv-loop : tie.InvT-loop
-Inv-loop mem₀ t w j count p y r₀ i₀ mem r i =
+Inv-loop mem₀ t n w j count p y r₀ i₀ mem r i =
     (paint (t .plain .target) (monoly t (row-left false (t .x) w i (t .y + j))) (state mem r) ≡ paint (t .plain .target) (monoly t (across false (t .x) w (t .y + j))) (state mem₀ count))
     × (length mem ≡ length mem₀) × (i ≤ w) × (r ≤ count + i)
 
 abbrev μ-loop : tie.MeasureT-loop
-μ-loop mem₀ t w j count p y r₀ i₀ mem r i = w - i
+μ-loop mem₀ t n w j count p y r₀ i₀ mem r i = w - i
 
 add-y : tie.Need-add-y Inv-loop μ-loop
-add-y c = omega (arith, c .before .before .before .pre .down)
+add-y c = omega (arith, c .before .before .before .pre .0 .down)
 
 loop-holds : tie.Need-loop-holds Inv-loop μ-loop
 loop-holds c =
@@ -36,7 +36,7 @@ loop-holds c =
     )
 
 add-column : tie.Need-add-column Inv-loop μ-loop
-add-column c = omega (arith, c .before .loop-test .taken, c .before .before .before .before .before .before .pre .wide)
+add-column c = omega (arith, c .before .loop-test .taken, c .before .before .before .before .before .before .pre .0 .wide)
 
 sub-least : tie.Need-sub-least Inv-loop μ-loop
 sub-least c = omega arith
@@ -48,20 +48,20 @@ least-requires : tie.Need-least-requires Inv-loop μ-loop
 least-requires c κs = search needs
 
 add-mono-byte : tie.Need-add-mono-byte Inv-loop μ-loop
-add-mono-byte c = omega (arith, c .before .before .before .before .before .before .before .before .before .pre .high)
+add-mono-byte c = omega (arith, c .before .before .before .before .before .before .before .before .before .pre .0 .high)
 
 mono-byte-requires : tie.Need-mono-byte-requires Inv-loop μ-loop
 mono-byte-requires c κs =
-    let row = c .before .before .before .before .before .before .before .before .before .pre in
+    let row = c .before .before .before .before .before .before .before .before .before .pre .0 in
     let k = c .before .before .before .before .before .loop in
     rw (k .inv .1) (record { small = row .small; mono = row .mono; on = row .source (k .i) (c .before .before .before .before .loop-test .taken) })
 
-add-put-bits : tie.Need-add-put-bits Inv-loop μ-loop
-add-put-bits c = omega (arith, c .before .before .before .before .before .before .before .loop-test .taken, c .before .before .before .before .before .before .before .before .before .before .before .before .pre .target .wide)
+add-put-run : tie.Need-add-put-run Inv-loop μ-loop
+add-put-run c = omega (arith, c .before .before .before .before .before .before .before .loop-test .taken, c .before .before .before .before .before .before .before .before .before .before .before .before .pre .0 .target .wide)
 
-put-bits-requires : tie.Need-put-bits-requires Inv-loop μ-loop
-put-bits-requires c κs =
-    let row = c .before .before .before .before .before .before .before .before .before .before .before .before .pre in
+put-run-requires : tie.Need-put-run-requires Inv-loop μ-loop
+put-run-requires c κs =
+    let row = c .before .before .before .before .before .before .before .before .before .before .before .before .pre .0 in
     let k = c .before .before .before .before .before .before .before .before .loop in
     let m = c .before .before .before .before .before .least .ensures in
     let u = c .before .before .before .before .before .before .before .loop-test .taken in
@@ -74,11 +74,11 @@ put-bits-requires c κs =
           on = λ q l h. row .target .on q (omega arith) (omega (arith, m, u));
         },
       ),
-      omega (arith, m),
+      (omega (arith, m), c .before .before .before .before .before .before .before .before .before .before .before .before .pre .1),
     )
 
 add-i : tie.Need-add-i Inv-loop μ-loop
-add-i c = omega (arith, c .before .before .before .before .before .before .before .before .least .ensures, c .before .before .before .before .before .before .before .before .before .before .loop-test .taken, c .before .before .before .before .before .before .before .before .before .before .before .before .before .before .before .pre .wide)
+add-i c = omega (arith, c .before .before .before .before .before .before .before .before .least .ensures, c .before .before .before .before .before .before .before .before .before .before .loop-test .taken, c .before .before .before .before .before .before .before .before .before .before .before .before .before .before .before .pre .0 .wide)
 
 loop-less : tie.Need-loop-less Inv-loop μ-loop
 loop-less c = omega (arith, c .before .before .before .before .before .before .before .before .least .ensures, c .before .before .before .before .before .before .before .before .before .before .loop-test .taken)
@@ -86,17 +86,17 @@ loop-less c = omega (arith, c .before .before .before .before .before .before .b
 loop-again : tie.Need-loop-again Inv-loop μ-loop
 loop-again c =
     let a = c .before .before .before .before .before .before .before .before .before .before .before .before .before .before .before .args in
-    let row = c .before .before .before .before .before .before .before .before .before .before .before .before .before .before .before .pre in
+    let row = c .before .before .before .before .before .before .before .before .before .before .before .before .before .before .before .pre .0 in
     let k = c .before .before .before .before .before .before .before .before .before .before .before .loop in
     let m = c .before .before .before .before .before .before .before .before .least in
     let u = c .before .before .before .before .before .before .before .before .before .before .loop-test .taken in (
       part-again (a .t .plain .target) (λ q. touch q (λ now. monoGiving (a .t) now q)) (a .t .x) (a .w) (k .i) (m .result) (a .t .y + a .j) (state (k .mem) (k .r)) _
           (omega (arith, m .ensures, u))
-          (c .before .before .put-bits .ensures .0
+          (c .before .before .put-run .ensures .0
           ∙ byte-once (a .t) (a .w) (a .j) (length (a .mem .now)) (a .count) row (k .i) (m .result) _ (state (k .mem) (k .r)) u (omega (arith, m .ensures, u)) (omega (arith, m .ensures)) (sym (c .before .before .before .before .before .mono-byte .ensures .0))) ∙ k .inv .0,
-      c .before .before .put-bits .kept .0 ∙ k .inv .1,
+      c .before .before .put-run .kept .0 ∙ k .inv .1,
       omega (arith, m .ensures, u),
-      omega (arith, c .before .before .put-bits .ensures .1),
+      omega (arith, c .before .before .put-run .ensures .1),
     )
 
 same-length : tie.Need-same-length Inv-loop μ-loop
@@ -110,8 +110,8 @@ returns c =
       omega arith,
     )
 
-pub mono-row-spec : {M : Type 1} → statement M
-mono-row-spec =
+pub mono-run-spec : {M : Type 1} → statement M
+mono-run-spec =
     tie.close
     (tie.spec
     Inv-loop
@@ -124,8 +124,8 @@ mono-row-spec =
     least-requires
     add-mono-byte
     mono-byte-requires
-    add-put-bits
-    put-bits-requires
+    add-put-run
+    put-run-requires
     add-i
     loop-less
     loop-again
