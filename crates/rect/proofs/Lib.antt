@@ -1,5 +1,6 @@
 pub mod Solid
 pub mod Order
+pub mod Sources
 pub mod Mono
 pub mod Straight
 pub mod Plain

@@ -9,7 +9,7 @@ use Prim.Native.Nat.{ℕ, _+_, _-_, _/_, _^_, _<_}
 use native.Mathlib.Nat.{add-zero}
 use native.Mathlib.Omega.{arith}
 use lib.Dec.{eqb}
-use borrow.Author.Tests.{eq-eqb, eqb-true}
+use borrow.Author.Tests.{eqb-true}
 use Rattle.surface.specs.declared.Surface.{Surface}
 use Rattle.surface.specs.Place.{byteAt, byteOf, readPx, monoBit}
 use Rattle.surface.specs.Pixels.{Px, px, rect, Inside}
@@ -17,16 +17,17 @@ use Rattle.surface.proofs.OnLaws.{and-left, and-right, mono-first, some-byte}
 use Rattle.spans.specs.Span.{spanOf, meet}
 use Rattle.spans.proofs.Spans.{IsByte}
 use Rattle.paint.specs.declared.Source.{Source}
-use Rattle.paint.specs.Mix.{source, bitSource, fillSource, colourSource, mixed, direct}
+use Rattle.paint.specs.Mix.{source, bitSource, mixed, direct}
 use Rattle.ink.specs.Pattern.{patternColumn, patternRow, patternBit, patternValue}
 use Rattle.paint.proofs.MixLaws.{direct-mixed}
 use Rattle.paint.proofs.Owners.{byte-of}
 use Rattle.bits.proofs.BitLaws.{bit-given}
 use Rattle.bits.specs.Bits.{coloured, monoGiving, CanMono}
 use Rattle.sweep.specs.declared.Task.{Task}
-use Rattle.sweep.specs.Copy.{sourcePlace, sourceBy, giving, CanPaint, Orderly}
+use Rattle.sweep.specs.Copy.{sourcePlace, giving, CanPaint, Orderly}
 use Rattle.rect.specs.Fast.{bitwise, monoOf}
 use Rattle.sweep.proofs.TaskLaws.{can-pixel}
+use Rattle.rect.proofs.Sources.{mono-source}
 use Rattle.rect.proofs.Order.{between}
 
 bit-small : (m : List ℕ) (s : Surface) (x y : ℕ) → monoBit m s x y < 2
@@ -40,21 +41,13 @@ module _ (t : Task) (e : bitwise t ≡ true) where
   pub is-mono : t .from .bytes ≡ 0
   is-mono = eqb-true (t .from .bytes) 0 (and-right (t .copies) (eqb (t .from .bytes) 0) (and-left (t .copies && eqb (t .from .bytes) 0) (direct (t .ink)) e))
 
-  mono-source : (bit : ℕ) (now : List ℕ) (p : Px) → sourceBy t bit now p ≡ bitSource (t .ink) (monoBit now (t .from) (sourcePlace t p .x) (sourcePlace t p .y))
-  unfolding sourceBy
-  mono-source bit now p =
-      let mono = bitSource (t .ink) (monoBit now (t .from) (sourcePlace t p .x) (sourcePlace t p .y)) in
-      let deep = colourSource (t .ink) (t .from .bytes) (readPx now (t .from) (sourcePlace t p .x) (sourcePlace t p .y)) in
-      ap (λ (c : Bool). cond c (cond (eqb (t .from .bytes) 0) mono deep) (fillSource (t .ink) bit)) copied
-      ∙ ap (λ (z : Bool). cond z mono deep) (eq-eqb (t .from .bytes) 0 is-mono)
-
   pub mono-gives : t .ink .fore < 2 ^ 32 → t .ink .back < 2 ^ 32 → (pattern now : List ℕ) (p : Px) → giving t pattern now now p ≡ monoGiving (monoOf t) now p
   unfolding giving sourcePlace bitSource monoGiving monoOf coloured
   mono-gives fore back pattern now p =
       let bit = monoBit now (t .from) (t .sx + (p .x - t .x)) (t .sy + (p .y - t .y)) in
       let pv = patternValue (t .ink) pattern (p .x) (p .y) in
       let old = readPx now (t .ink .target) (p .x) (p .y) in
-      ap (λ (s : Source). mixed (t .ink) pv s old) (mono-source (patternBit pattern (patternColumn (t .ink) (p .x)) (patternRow (t .ink) (p .y))) now p)
+      ap (λ (s : Source). mixed (t .ink) pv s old) (mono-source t copied (patternBit pattern (patternColumn (t .ink) (p .x)) (patternRow (t .ink) (p .y))) now p is-mono)
       ∙ direct-mixed (t .ink) pv (cond (eqb bit 1) (t .ink .fore) (t .ink .back)) old (t .ink .clear && eqb bit 0)
       (and-right (t .copies && eqb (t .from .bytes) 0) (direct (t .ink)) e) (small (eqb bit 1) fore back)
       ∙ bit-given bit (t .ink .fore) (t .ink .back) (t .ink .clear) (bit-small now (t .from) (t .sx + (p .x - t .x)) (t .sy + (p .y - t .y)))

@@ -1,14 +1,14 @@
 -- The plain copy: raster operation CC, the same format, no keys. It moves the bytes of a rectangle exactly, and counts every pixel.
 -- Assumes nothing.
 use mathlib.Core.Path.{_≡_, refl, sym, ap, ap₂, subst, _∙_}
-use mathlib.Core.Bool.{Bool, true, false, cond, not, _&&_}
+use mathlib.Core.Bool.{Bool, true, false, not, _&&_}
 use mathlib.Core.List.{List, [], _∷_}
 use mathlib.Core.Option.{Option, some}
 use Prim.Native.Nat.{ℕ, zero, suc, _+_, _*_, _/_, _%_, _^_, _<_, _≤_}
 use native.Mathlib.Nat.{pow-le-pow-right, lt-of-lt-of-le, zero-add}
 use native.Mathlib.Omega.{arith}
 use native.Mathlib.Decide.{ℕ-discrete}
-use borrow.Author.Tests.{ne-eqb, eqb-true}
+use borrow.Author.Tests.{eqb-true}
 use lib.Dec.{eqb}
 use lib.ListN.{length, getD, set}
 use lib.Seq.{getD-set-same, lt-length-set}
@@ -17,7 +17,7 @@ use Rattle.colour.proofs.ConvertLaws.{converted-same}
 use Rattle.colour.specs.Convert.{converted}
 use Rattle.keys.specs.Key.{keyMatch}
 use Rattle.surface.specs.declared.Surface.{Surface}
-use Rattle.surface.specs.Place.{byteOf, readBytes, writeBytes, readPx, writePx, monoBit, OnColour}
+use Rattle.surface.specs.Place.{byteOf, readBytes, writeBytes, readPx, writePx, OnColour}
 use Rattle.surface.specs.Pixels.{Px, rect}
 use Rattle.surface.proofs.Bytes.{written-other}
 use Rattle.surface.proofs.OnLaws.{and-left, and-right, colour-byte, on-column}
@@ -27,7 +27,7 @@ use Rattle.surface.proofs.Rects.{in-rect, rect-in, rect-distinct, rect-length}
 use Rattle.sweep.specs.declared.Task.{Task}
 use Rattle.paint.specs.Paint.{State, state, dab, paint}
 use Rattle.paint.specs.declared.Source.{Source}
-use Rattle.paint.specs.Mix.{source, mixed, bitSource, colourSource, fillSource, direct}
+use Rattle.paint.specs.Mix.{source, mixed, colourSource, direct}
 use Rattle.ink.specs.Pattern.{patternColumn, patternRow, patternBit, patternValue}
 use Rattle.sweep.specs.Copy.{sourcePlace, sourceBy, giving, asBefore, CanPaint}
 use Rattle.rect.specs.Fast.{sourceByte, plainly}
@@ -37,6 +37,7 @@ use Rattle.paint.proofs.Settle.{Settled, settled, tally, counted}
 use Rattle.paint.proofs.Frame.{Bytes}
 use Rattle.sweep.proofs.TaskLaws.{can-pixel}
 use Rattle.paint.proofs.MixLaws.{not-true, direct-mixed}
+use Rattle.rect.proofs.Sources.{colour-source}
 use Rattle.rect.proofs.Order.{Reads, giving-local}
 
 pub record PlainCopy (t : Task) : Type 0 where
@@ -69,12 +70,9 @@ plainly-plain t e =
 module _ (t : Task) (plain : PlainCopy t) where
   plain-source : (bit v : ℕ) (m : List ℕ) (p : Px) → 0 < t .from .bytes → v ≡ readPx m (t .from) (sourcePlace t p .x) (sourcePlace t p .y)
       → sourceBy t bit m p ≡ source v false false
-  unfolding sourceBy colourSource
+  unfolding colourSource
   plain-source bit v m p colour e =
-      let mono = bitSource (t .ink) (monoBit m (t .from) (sourcePlace t p .x) (sourcePlace t p .y)) in
-      let deep = colourSource (t .ink) (t .from .bytes) (readPx m (t .from) (sourcePlace t p .x) (sourcePlace t p .y)) in
-      ap (λ (c : Bool). cond c (cond (eqb (t .from .bytes) 0) mono deep) (fillSource (t .ink) bit)) (plain .copies)
-      ∙ ap (λ (z : Bool). cond z mono deep) (ne-eqb (t .from .bytes) 0 (λ z. omega arith))
+      colour-source t (plain .copies) bit m p (λ z. omega arith)
       ∙ ap (λ (u : ℕ). colourSource (t .ink) (t .from .bytes) u) (sym e)
       ∙ ap (λ (k : Bool). source (converted (t .from .bytes) (t .ink .target .bytes) v) (k && keyMatch (t .from .bytes) (t .ink .srcMin) (t .ink .srcMax) v) false) (plain .sourceKey)
       ∙ ap (λ (b : ℕ). source (converted (t .from .bytes) b v) false false) (sym (plain .format))

@@ -7,24 +7,25 @@ use mathlib.Core.Option.{Option, some}
 use Prim.Native.Nat.{ℕ, _+_, _-_, _%_, _^_, _<_}
 use native.Mathlib.Omega.{arith}
 use lib.Dec.{eqb}
-use borrow.Author.Tests.{ne-eqb, eqb-true, eqb-false}
+use borrow.Author.Tests.{eqb-true, eqb-false}
 use Rattle.colour.specs.Convert.{converted}
 use Rattle.keys.specs.Key.{keyMatch}
 use Rattle.raster.specs.Rop.{ropBits}
 use Rattle.raster.proofs.RopLaws.{leaves}
-use Rattle.surface.specs.Place.{readPx, monoBit, Colour}
+use Rattle.surface.specs.Place.{readPx, Colour}
 use Rattle.surface.specs.Pixels.{Px, px, Inside}
 use Rattle.surface.proofs.OnLaws.{and-left, and-right, pos-of-ne}
 use Rattle.ink.specs.declared.Ink.{Ink}
 use Rattle.paint.specs.declared.Source.{Source}
-use Rattle.paint.specs.Mix.{source, bitSource, fillSource, colourSource, chosen, mixed, direct}
+use Rattle.paint.specs.Mix.{source, colourSource, chosen, mixed, direct}
 use Rattle.ink.specs.Pattern.{patternColumn, patternRow, patternBit, patternValue}
 use Rattle.paint.proofs.MixLaws.{not-true, direct-low}
 use Rattle.straight.specs.Straight.{straightGiving, CanCopy}
 use Rattle.sweep.specs.declared.Task.{Task}
-use Rattle.sweep.specs.Copy.{sourcePlace, sourceBy, giving, CanPaint}
+use Rattle.sweep.specs.Copy.{sourcePlace, giving, CanPaint}
 use Rattle.rect.specs.Fast.{straight, straightOf}
 use Rattle.sweep.proofs.TaskLaws.{can-pixel}
+use Rattle.rect.proofs.Sources.{colour-source}
 
 -- the source, or what stands there by AA
 by-key : (ink : Ink) (p v old : ℕ) (k : Bool) → direct ink ≡ true → (k ≡ true → ink .rop2 ≡ 0xaa) → mixed ink p (source v k false) old ≡ some (cond k old v % 2 ^ 32)
@@ -55,14 +56,6 @@ module _ (t : Task) (e : straight t ≡ true) where
   coloured : t .from .bytes ≡ 0 → ⊥
   coloured = eqb-false (t .from .bytes) 0 (not-true (eqb (t .from .bytes) 0) (and-right (t .copies) (not (eqb (t .from .bytes) 0)) first))
 
-  colour-source : (bit : ℕ) (now : List ℕ) (p : Px) → sourceBy t bit now p ≡ colourSource (t .ink) (t .from .bytes) (readPx now (t .from) (sourcePlace t p .x) (sourcePlace t p .y))
-  unfolding sourceBy
-  colour-source bit now p =
-      let mono = bitSource (t .ink) (monoBit now (t .from) (sourcePlace t p .x) (sourcePlace t p .y)) in
-      let deep = colourSource (t .ink) (t .from .bytes) (readPx now (t .from) (sourcePlace t p .x) (sourcePlace t p .y)) in
-      ap (λ (c : Bool). cond c (cond (eqb (t .from .bytes) 0) mono deep) (fillSource (t .ink) bit)) copied
-      ∙ ap (λ (z : Bool). cond z mono deep) (ne-eqb (t .from .bytes) 0 coloured)
-
   pub straight-gives : (pattern now : List ℕ) (p : Px) → giving t pattern now now p ≡ straightGiving (straightOf t) now p
   unfolding giving sourcePlace colourSource straightGiving straightOf
   straight-gives pattern now p =
@@ -70,7 +63,7 @@ module _ (t : Task) (e : straight t ≡ true) where
       let pv = patternValue (t .ink) pattern (p .x) (p .y) in
       let old = readPx now (t .ink .target) (p .x) (p .y) in
       let match = keyMatch (t .from .bytes) (t .ink .srcMin) (t .ink .srcMax) v in
-      ap (λ (s : Source). mixed (t .ink) pv s old) (colour-source (patternBit pattern (patternColumn (t .ink) (p .x)) (patternRow (t .ink) (p .y))) now p)
+      ap (λ (s : Source). mixed (t .ink) pv s old) (colour-source t copied (patternBit pattern (patternColumn (t .ink) (p .x)) (patternRow (t .ink) (p .y))) now p coloured)
       ∙ by-key (t .ink) pv (converted (t .from .bytes) (t .ink .target .bytes) v) old (t .ink .srcKey && match)
       (and-right two (direct (t .ink)) (and-left three (not (t .ink .srcKey) || eqb (t .ink .rop2) 0xaa) e))
       (λ f. eqb-true (t .ink .rop2) 0xaa (matched (t .ink .srcKey) match (eqb (t .ink .rop2) 0xaa) (and-right three (not (t .ink .srcKey) || eqb (t .ink .rop2) 0xaa) e) f))
