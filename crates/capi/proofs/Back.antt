@@ -15,7 +15,7 @@ use Rattle.registers.specs.Regs.{getReg}
 use Rattle.registers.specs.Kept.{oneOf}
 use Rattle.registers.proofs.Arms.{Each, each-map, of-each}
 use Rattle.engine.specs.declared.Engine.{Engine}
-use Rattle.engine.proofs.Cases.{by-test, picked}
+use Rattle.acts.proofs.Cases.{by-test, picked}
 use Rattle.state.specs.Layout.{stateSize, patternAt, mark, wordAt, byteOf, slot, byteIn, encoded, regsIn, patternIn, decoded, isState, Bytes}
 use Rattle.capi.specs.Promises.{BytesBack, Fits, EngineBack, StaysState}
 use Rattle.state.proofs.Places.{Word, same-bytes, encoded-length, encoded-byte}

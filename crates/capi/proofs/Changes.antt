@@ -21,10 +21,11 @@ use Rattle.host.specs.Host.{wordsOf}
 use Rattle.command.specs.Decode.{feedOf}
 use Rattle.cuts.specs.Cut.{bit, number}
 use Rattle.table.specs.Table.{fillVerdict, copyVerdict, hostVerdict, lineVerdict}
-use Rattle.engine.specs.declared.Blit.{Blit}
+use Rattle.acts.specs.declared.Blit.{Blit}
+use Rattle.acts.specs.Deed.{rectEnded, lineEnded, Made, Deed, carrying, starting}
 use Rattle.engine.specs.declared.Engine.{Engine}
-use Rattle.engine.specs.Step.{Step, regs, withBlit, idle, storedIn, afterRect, afterLine, filled, copied, lined, begun, fed, carried, launched, commanded, toRegister, toPlace, written}
-use Rattle.engine.proofs.Cases.{by-test, picked, by-number}
+use Rattle.engine.specs.Step.{Step, making, judging, regs, withBlit, idle, storedIn, afterRect, afterLine, filled, copied, lined, begun, fed, carried, launched, commanded, toRegister, toPlace, written}
+use Rattle.acts.proofs.Cases.{by-test, picked, by-number}
 use Rattle.state.specs.Layout.{slot, byteIn, encoded, withSlots, commandSlots}
 use Rattle.capi.specs.Calls.{Draws}
 use Rattle.state.proofs.Places.{Word, encoded-length, encoded-byte, slots-laid}
@@ -91,11 +92,11 @@ led-blit : (e : Engine) (b : Blit) → Led e (withBlit e b)
 led-blit e b = record { pattern = refl; slots = λ a f. blit-slot e b a (none-of a commandSlots f) }
 
 led-rect : (e : Engine) → Led e (afterRect e)
-unfolding afterRect
+unfolding rectEnded storedIn
 led-rect e = like-stored commandSlots e 0x6c _ refl
 
 led-line : (e : Engine) (style : ℕ) → Led e (afterLine e style)
-unfolding afterLine
+unfolding lineEnded storedIn
 led-line e style = like-then (like-stored commandSlots e 0x40 style refl) (like-stored commandSlots (storedIn e 0x40 style) 0x5c _ refl)
 
 -- ---- every command
@@ -112,45 +113,40 @@ module _ (b : Engine) where
   blit-led e x h = like-then h (led-blit e x)
 
   filled-led : (old e : Engine) (m : List ℕ) → Led b old → Led b e → Leaves b (filled old e m)
-  unfolding filled
   filled-led old e m g h = picked (Leaves b) (eqb (fillVerdict (regs e) (length m)) 0) _ _ (λ _. rect-led e h) (λ _. g)
 
   copied-led : (old e : Engine) (m : List ℕ) → Led b old → Led b e → Leaves b (copied old e m)
-  unfolding copied
   copied-led old e m g h = picked (Leaves b) (eqb (copyVerdict (regs e) (length m)) 0) _ _ (λ _. rect-led e h) (λ _. g)
 
   lined-led : (old e : Engine) (m : List ℕ) → Led b old → Led b e → Leaves b (lined old e m)
-  unfolding lined
   lined-led old e m g h = picked (Leaves b) (eqb (lineVerdict (regs e) (length m)) 0) _ _ (λ _. like-then h (led-line e _)) (λ _. g)
 
   begun-led : (old e : Engine) (m : List ℕ) → Led b old → Led b e → Leaves b (begun old e m)
-  unfolding begun
   begun-led old e m g h =
       picked (Leaves b) (eqb (hostVerdict (regs e) (length m)) 0) _ _
-      (λ _. picked (Leaves b) (ltb 0 (wordsOf (feedOf (regs e)))) _ _ (λ _. blit-led e _ h) (λ _. rect-led (idle e) (blit-led e _ h))) (λ _. g)
+      (λ _. picked (λ (k : Made). Leaves b (making e k)) (ltb 0 (wordsOf (feedOf (regs e)))) _ _ (λ _. blit-led e _ h) (λ _. rect-led (idle e) (blit-led e _ h))) (λ _. g)
 
   fed-led : (e : Engine) (m : List ℕ) (d : ℕ) → Led b e → Leaves b (fed e m d)
-  unfolding fed
   fed-led e m d h =
       picked (Leaves b) (eqb (hostVerdict (regs e) (length m)) 0) _ _
-      (λ _. picked (Leaves b) (ltb (e .blit .taken) (wordsOf (feedOf (regs e)))) _ _
-      (λ _. picked (Leaves b) (ltb (e .blit .taken + 1) (wordsOf (feedOf (regs e)))) _ _ (λ _. blit-led e _ h) (λ _. rect-led (idle e) (blit-led e _ h)))
+      (λ _. picked (λ (k : Made). Leaves b (making e k)) (ltb (e .blit .taken) (wordsOf (feedOf (regs e)))) _ _
+      (λ _. picked (λ (k : Made). Leaves b (making e k)) (ltb (e .blit .taken + 1) (wordsOf (feedOf (regs e)))) _ _ (λ _. blit-led e _ h) (λ _. rect-led (idle e) (blit-led e _ h)))
       (λ _. rect-led (idle e) (blit-led e _ h)))
       (λ _. h)
 
   carried-led : (old e : Engine) (m : List ℕ) → Led b old → Led b e → Leaves b (carried old e m)
-  unfolding carried
+  unfolding carried carrying
   carried-led old e m g h =
-      by-number (Leaves b) (number (regs e)) _ _ _ _ _ _ (λ _. h) (λ _. copied-led old e m g h) (λ _. begun-led old e m g h) (λ _. filled-led old e m g h)
+      by-number (λ (d : Deed). Leaves b (judging old e m d)) (number (regs e)) _ _ _ _ _ _ (λ _. h) (λ _. copied-led old e m g h) (λ _. begun-led old e m g h) (λ _. filled-led old e m g h)
       (λ _ _. lined-led old e m g h) (λ _. g)
 
 led-stored : (e : Engine) (o d : ℕ) → oneOf o commandSlots ≡ true → Led e (storedIn e o d)
 led-stored = like-stored commandSlots
 
 launched-led : (e : Engine) (m : List ℕ) (d : ℕ) → Leaves e (launched e m d)
-unfolding launched
+unfolding launched starting storedIn
 launched-led e m d =
-    by-number (Leaves e) (number (regs e)) _ _ _ _ _ _ (λ _. like-same e) (λ _. copied-led e e (storedIn e 0x5c d) m (like-same e) (led-stored e 0x5c d refl))
+    by-number (λ (k : Deed). Leaves e (judging e e m k)) (number (regs e)) _ _ _ _ _ _ (λ _. like-same e) (λ _. copied-led e e (storedIn e 0x5c d) m (like-same e) (led-stored e 0x5c d refl))
     (λ _. fed-led e e m d (like-same e)) (λ _. filled-led e e (storedIn e 0x6c d) m (like-same e) (led-stored e 0x6c d refl))
     (λ _ _. lined-led e e (storedIn e 0x6c d) m (like-same e) (led-stored e 0x6c d refl)) (λ _. like-same e)
 

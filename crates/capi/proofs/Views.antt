@@ -12,7 +12,7 @@ use Rattle.surface.specs.Place.{byteOf, Colour}
 use Rattle.formats.specs.Format.{targetOf}
 use Rattle.views.specs.View.{viewAnswer, viewed}
 use Rattle.views.proofs.ViewLaws.{given-zero, view-given, view-refused}
-use Rattle.engine.proofs.Cases.{by-test}
+use Rattle.acts.proofs.Cases.{by-test}
 use Rattle.capi.specs.Calls.{Part, part, partOf}
 use Rattle.capi.specs.Promises.{PartViewed}
 

@@ -40,10 +40,11 @@ use Rattle.table.specs.Table.{targetFine, bothFine, allOnAt, pixels, sameSurfac
 use Rattle.table.proofs.Verdicts.{fill-can, copy-can, line-can, host-can}
 use Rattle.engine.specs.declared.Engine.{Engine}
 use Rattle.engine.specs.declared.Answer.the-variants.{Taken, Memory, Waiting, NotBuilt}
-use Rattle.engine.specs.Step.{Step, step, done, painted, numberOf, countOf, refusal, regs, idle, withBank, withBlit, storedIn, afterRect, afterLine, byNumber, fillTouches, copyTouches, drawTouches, wordTouches, filled, copied, lined, begun, fed, carried, launched, commanded, toRegister, toPattern, toPlace, written}
-use Rattle.engine.specs.Orders.{launching, orderAt, order, coveredBy, carriedTouches, launchedTouches, touchesAt, touchesOf}
+use Rattle.acts.specs.Deed.{noBlit, rectEnded, Made, made, paintedBy, idling, unbuilt, filling, copying, lining, opening, feeding, carrying, starting, byNumber}
+use Rattle.engine.specs.Step.{Step, step, done, making, judging, numberOf, countOf, refusal, regs, idle, withBank, storedIn, afterRect, afterLine, filled, copied, lined, begun, fed, carried, launched, commanded, toRegister, toPattern, toPlace, written}
+use Rattle.engine.specs.Orders.{fillTouches, copyTouches, drawTouches, wordTouches, launching, orderAt, order, coveredBy, carriedTouches, launchedTouches, touchesAt, touchesOf}
 use Rattle.engine.specs.Promises.{row1, row2, row3, row4, row5, row6, row7, row8, ordered}
-use Rattle.engine.proofs.Cases.{by-test, picked, Unbuilt, pick, by-tests}
+use Rattle.acts.proofs.Cases.{by-test, picked, Unbuilt, pick, by-tests}
 
 -- ---- the first of the rows from number k on
 unfoldable pub firstOf : ℕ → List Bool → ℕ
@@ -175,7 +176,7 @@ pub rect-pixels : (k : Task) (pattern m : List ℕ) (ps : List Px) → map (λ t
 rect-pixels k pattern m ps = pixels-of (λ (q : Px) (now : List ℕ). giving k pattern m now q) ps
 
 filled-carried : (old e : Engine) (m : List ℕ) → number (regs e) ≡ 5 → Carried (regs e) (fillTouches e m) m (filled old e m)
-unfolding filled fillVerdict fillTask inkOf
+unfolding fillVerdict fillTask inkOf
 filled-carried old e m n =
     let r = regs e in
     judged old _ (not (targetFine r)) false (not (allOn (target r) (length m) (covered (fillCut r)))) false (row-fill r (length m) n) refl
@@ -183,7 +184,7 @@ filled-carried old e m n =
     (λ p i. subst (In p) (rect-pixels (fillTask r) (e .bank .pattern) m (covered (fillCut r))) i))
 
 copied-carried : (old e : Engine) (m : List ℕ) → number (regs e) ≡ 1 → Carried (regs e) (copyTouches e m) m (copied old e m)
-unfolding copied copyVerdict copyTask inkOf
+unfolding copyVerdict copyTask inkOf
 copied-carried old e m n =
     let r = regs e in
     judged old _ (not (bothFine r)) false
@@ -197,7 +198,7 @@ pub line-pixels : (e : Engine) → map (λ t. t .at) (drawTouches e) ≡ covered
 line-pixels e = touches-covered (inkOf (regs e)) (e .bank .pattern) (clipOf (regs e)) (penOf (regs e)) (regs e .lineStyle) (points (lineOf (regs e)))
 
 lined-carried : (old e : Engine) (m : List ℕ) → 6 ≤ number (regs e) → number (regs e) < 8 → Carried (regs e) (drawTouches e) m (lined old e m)
-unfolding lined lineVerdict
+unfolding lineVerdict
 lined-carried old e m low high =
     let r = regs e in
     let after = afterLine e (styleAfter (penOf r) (pointCount (lineOf r)) (r .lineStyle)) in
@@ -205,16 +206,13 @@ lined-carried old e m low high =
     (λ v. painting r after m (drawTouches e) (coveredPoints (clipOf r) (points (lineOf r))) (covered-line r low high) (line-can r (length m) v .surface .some)
     (λ p i. subst (In p) (line-pixels e) i))
 
-both-taken : (t : Bool) (a b : Step) → numberOf (a .answer) ≡ 0 → numberOf (b .answer) ≡ 0 → numberOf (cond t a b .answer) ≡ 0
-both-taken t a b p q = picked (λ (s : Step). numberOf (s .answer) ≡ 0) t a b (λ _. p) (λ _. q)
-
 begun-carried : (old e : Engine) (m : List ℕ) → number (regs e) ≡ 3 → Carried (regs e) [] m (begun old e m)
-unfolding begun hostVerdict
+unfolding hostVerdict
 begun-carried old e m n =
     let r = regs e in
     judged old _ (not (bothFine r)) (hostFault r) (not (allOn (target r) (length m) (covered (fillCut r)))) false (row-host r (length m) n)
-    (both-taken (ltb 0 (wordsOf (feedOf r))) _ _ refl refl)
-    (λ v. picked (Painting r [] m) (ltb 0 (wordsOf (feedOf r))) _ _ (λ _. nothing r _ m) (λ _. nothing r _ m))
+    refl
+    (λ v. picked (λ (k : Made). Painting r [] m (making e k)) (ltb 0 (wordsOf (feedOf r))) _ _ (λ _. nothing r _ m) (λ _. nothing r _ m))
 
 -- ---- a word of data
 
@@ -238,25 +236,26 @@ word-covered e len word v words u i =
 
 fed-carried : (e : Engine) (m : List ℕ) (d : ℕ) → number (regs e) ≡ 3
     → Carried (regs e) (cond (ltb (e .blit .taken) (wordsOf (feedOf (regs e)))) (wordTouches e d) []) m (fed e m d)
-unfolding fed hostVerdict inkOf
+unfolding hostVerdict inkOf
 fed-carried e m d n =
     let r = regs e in
     let more = wordsOf (feedOf r) in
     judged e _ (not (bothFine r)) (hostFault r) (not (allOn (target r) (length m) (covered (fillCut r)))) false (row-host r (length m) n)
-    (both-taken (ltb (e .blit .taken) more) _ _ (both-taken (ltb (e .blit .taken + 1) more) _ _ refl refl) refl)
+    refl
     (λ v. by-test
     (λ t. Painting r (cond t (wordTouches e d) []) m
+    (making e
     (cond t
-    (cond (ltb (e .blit .taken + 1) more) (done (withBlit e (record { waiting = true; taken = e .blit .taken + 1; last = d })) (painted e (wordTouches e d) m))
-    (done (afterRect (idle e)) (painted e (wordTouches e d) m)))
-    (step (afterRect (idle e)) m (Taken 0))))
+    (cond (ltb (e .blit .taken + 1) more) (made (e .bank) (record { waiting = true; taken = e .blit .taken + 1; last = d }) (paintedBy (e .bank) (wordTouches e d) m))
+    (made (rectEnded (e .bank)) noBlit (paintedBy (e .bank) (wordTouches e d) m)))
+    (made (rectEnded (e .bank)) noBlit (state m 0)))))
     (ltb (e .blit .taken) more)
     (λ t.
     let few = ltb-true (e .blit .taken) more t in
     let words : 0 < more = omega arith in
     let inside = each-pixel (λ (p : Px). In p (covered (fillCut r))) (wordTouches e d) (word-covered e (length m) d v words) in
     let colour = host-can r (length m) v words .colour .some in
-    picked (Painting r (wordTouches e d) m) (ltb (e .blit .taken + 1) more) _ _
+    picked (λ (k : Made). Painting r (wordTouches e d) m (making e k)) (ltb (e .blit .taken + 1) more) _ _
     (λ _. painting r _ m (wordTouches e d) (covered (fillCut r)) (covered-host r n) colour inside)
     (λ _. painting r _ m (wordTouches e d) (covered (fillCut r)) (covered-host r n) colour inside))
     (λ t. nothing r (afterRect (idle e)) m))
@@ -272,23 +271,28 @@ unbuilt-carried r e m u = record {
 }
 
 carried-carried : (old e : Engine) (m : List ℕ) → Carried (regs e) (carriedTouches e m) m (carried old e m)
-unfolding carried carriedTouches
+unfolding carried carrying carriedTouches refusal
 carried-carried old e m =
     by-tests
     (λ a b c d f. Carried (regs e) (pick a b c d f [] (copyTouches e m) [] (fillTouches e m) (drawTouches e) []) m
-    (pick a b c d f (step e m (Taken 0)) (copied old e m) (begun old e m) (filled old e m) (lined old e m) (step old m NotBuilt)))
+    (judging old e m
+    (pick a b c d f (idling (e .bank) (e .blit) m) (copying (e .bank) (e .blit) m) (opening (e .bank) m) (filling (e .bank) (e .blit) m) (lining (e .bank) (e .blit) m)
+    (unbuilt (e .bank) (e .blit) m))))
     (number (regs e)) (idle-carried (regs e) e m) (copied-carried old e m) (begun-carried old e m) (filled-carried old e m) (lined-carried old e m)
     (unbuilt-carried (regs e) old m)
 
 launched-carried : (e : Engine) (m : List ℕ) (d : ℕ) → Carried (launching e d) (launchedTouches e m d) m (launched e m d)
-unfolding launched launching launchedTouches storedIn stored putReg
+unfolding launched starting launching launchedTouches storedIn stored putReg refusal
 launched-carried e m d =
     let toSource = storedIn e 0x5c d in
     let toTarget = storedIn e 0x6c d in
     by-tests
     (λ a b c f g. Carried (pick a b c f g (regs e) (regs toSource) (regs e) (regs toTarget) (regs toTarget) (regs e))
     (pick a b c f g [] (copyTouches toSource m) (cond (ltb (e .blit .taken) (wordsOf (feedOf (regs e)))) (wordTouches e d) []) (fillTouches toTarget m) (drawTouches toTarget) [])
-    m (pick a b c f g (step e m (Taken 0)) (copied e toSource m) (fed e m d) (filled e toTarget m) (lined e toTarget m) (step e m NotBuilt)))
+    m
+    (judging e e m
+    (pick a b c f g (idling (e .bank) (e .blit) m) (copying (toSource .bank) (e .blit) m) (feeding (e .bank) (e .blit) m d) (filling (toTarget .bank) (e .blit) m)
+    (lining (toTarget .bank) (e .blit) m) (unbuilt (e .bank) (e .blit) m))))
     (number (regs e)) (idle-carried (regs e) e m) (copied-carried e toSource m) (fed-carried e m d) (filled-carried e toTarget m) (lined-carried e toTarget m)
     (unbuilt-carried (regs e) e m)
 

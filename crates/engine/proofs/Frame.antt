@@ -27,7 +27,7 @@ use Rattle.engine.specs.declared.Engine.{Engine}
 use Rattle.engine.specs.Step.{Step, numberOf, written}
 use Rattle.engine.specs.Orders.{order, coveredBy, touchesOf}
 use Rattle.engine.specs.Promises.{OnlyCovered}
-use Rattle.engine.proofs.Cases.{by-number}
+use Rattle.acts.proofs.Cases.{by-number}
 use Rattle.engine.proofs.Commands.{PaintingOf, write-written}
 use Rattle.engine.proofs.Undone.{refused-undone}
 

@@ -1,123 +1,47 @@
--- How a method's outcome is the definition's: a refusal, a command carried out, and the painters' conditions from the verdict.
+-- How a method's outcome is the definition's: what a command left, and whether a blit waits.
 -- Assumes nothing.
-use mathlib.Core.Path.{_≡_, refl, sym, ap, ap₂, subst⁻¹, _∙_}
-use mathlib.Core.Bool.{Bool, true, false, cond, _&&_, false≢true}
-use mathlib.Core.List.{List, []}
-use Prim.Native.Nat.{ℕ, _<_, _≤_}
-use native.Mathlib.Omega.{arith}
-use lib.Dec.{eqb, leb, ltb}
-use borrow.Author.Tests.{eq-eqb, ne-eqb, lt-ltb, le-ltb, le-leb, lt-leb}
-use Rattle.surface.specs.Pixels.{rect}
-use Rattle.sweep.specs.declared.Task.{Task}
-use Rattle.ink.specs.declared.Ink.{Ink}
-use Rattle.paint.specs.declared.Clip.{Clip}
-use Rattle.paint.specs.Paint.{State, state, paint}
-use Rattle.sweep.specs.Copy.{asBefore, CanPaint, Orderly}
-use Rattle.line.specs.declared.Line.{Line}
-use Rattle.line.specs.Draw.{Drawable}
-use Rattle.host.specs.declared.Feed.{Feed}
-use Rattle.bits.specs.declared.Plain.{Plain}
-use Rattle.host.specs.Host.{wordsOf, byWord, Sizes}
-use Rattle.host.specs.Draw.{hostTouches, drawn, Opened, Waits}
-use Rattle.plain.specs.Plain.{plainInk}
-use Rattle.plain.proofs.PlainLaws.{plain-drawn, plain-waits}
-use Rattle.registers.specs.declared.Regs.{Regs}
-use Rattle.cuts.specs.declared.Cut.{Cut}
-use Rattle.command.specs.Decode.{target, inkOf, plainBlit, plainOf, fillTask, copyTask, lineOf, feedOf}
-use Rattle.cuts.specs.Cut.{clipOf, fillCut, copyCut, covered}
-use Rattle.table.specs.Table.{fillVerdict, copyVerdict, lineVerdict, hostVerdict}
-use Rattle.table.proofs.Verdicts.{fill-can, copy-can, copy-orderly, line-can, host-can, feed-sizes, words-few, plain-ink}
+use mathlib.Core.Path.{_≡_, refl, sym, ap, _∙_}
+use mathlib.Core.Bool.{Bool, true, false, cond}
+use mathlib.Core.List.{List}
+use Prim.Native.Nat.{ℕ}
+use lib.Dec.{eqb}
+use Rattle.bank.specs.declared.Bank.{Bank}
+use Rattle.paint.specs.Paint.{state}
+use Rattle.acts.specs.declared.Blit.{Blit}
+use Rattle.acts.specs.declared.Act.{Act}
+use Rattle.acts.specs.Deed.{made, Deed, deed, judged}
+use Rattle.acts.proofs.Cases.{by-test}
 use Rattle.engine.specs.declared.Engine.{Engine}
-use Rattle.engine.specs.declared.Answer.{Answer}
 use Rattle.engine.specs.declared.Answer.the-variants.{Taken}
-use Rattle.engine.specs.Step.{Step, step, done, refusal}
+use Rattle.engine.specs.declared.Outcome.{Outcome}
+use Rattle.engine.specs.Step.{Step, step, refusal, making, judging, settled}
 
--- ---- a verdict, and what follows from it
-pub judged-no : (v u : ℕ) (taken : Step) (old : Engine) (m : List ℕ) {a : Answer} → u ≡ v → (u ≡ 0 → ⊥) → a ≡ refusal u
-    → step old m a ≡ cond (eqb v 0) taken (step old m (refusal v))
-judged-no v u taken old m e n r = rw (← e, ne-eqb u 0 n, r)
+-- ---- what a command left, settled
+abbrev pub outcome : Outcome → List ℕ → Step
+outcome r m = step (r .engine) m (r .answer)
 
-pub judged-yes : (v u : ℕ) (result taken other : Step) → u ≡ v → u ≡ 0 → result ≡ taken → result ≡ cond (eqb v 0) taken other
-judged-yes v u result taken other e z r = rw (← e, eq-eqb u 0 z) r
+-- the same from a deed, whose memory is the one that it left
+abbrev settling : Engine → Deed → Step
+settling e d = cond (eqb (d .verdict) 0) (making e (d .makes)) (step e (d .makes .left .mem) (refusal (d .verdict)))
 
-pub carried-out : {e e′ : Engine} {st : State} {m : List ℕ} {n : ℕ} → e′ ≡ e → state m n ≡ st → step e′ m (Taken n) ≡ done e st
-carried-out p q = ap₂ (λ (k : Engine) (st : State). step k (st .mem) (Taken (st .count))) p q
+settled-deed : (e : Engine) (a : Act) (m : List ℕ) → outcome (settled e a) m ≡ settling e (deed a m)
+unfolding settled
+settled-deed e a m =
+    by-test
+    (λ t. outcome (cond t (record { engine = record { bank = a .bank; blit = a .blit; opened = e .opened }; answer = Taken (a .count) }) (record { engine = e; answer = refusal (a .number) })) m ≡ cond t (making e (deed a m .makes)) (step e m (refusal (a .number)))) (eqb (a .number) 0)
+    (λ _. refl) (λ _. refl)
 
--- ---- rectangles
-pub painted-as : {t T : Task} {c C : Cut} (pattern m : List ℕ) {st : State} → t ≡ T → c ≡ C → T .x ≡ C .x → T .y ≡ C .y
-    → st ≡ paint (t .ink .target) (asBefore t pattern m (rect false false (t .x) (t .y) (c .w) (c .h))) (state m 0)
-    → st ≡ paint (T .ink .target) (asBefore T pattern m (covered C)) (state m 0)
-painted-as {t} {T} {c} {C} pattern m e f x y p =
-    p ∙ ap₂ (λ (t : Task) (c : Cut). paint (t .ink .target) (asBefore t pattern m (rect false false (t .x) (t .y) (c .w) (c .h))) (state m 0)) e f
-    ∙ ap₂ (λ (i j : ℕ). paint (T .ink .target) (asBefore T pattern m (rect false false i j (C .w) (C .h))) (state m 0)) x y
+judged-settling : (e : Engine) (d : Deed) (b : Bank) (k : Blit) (m : List ℕ) → settling e (judged d b k m) ≡ judging e e m d
+unfolding judged
+judged-settling e d b k m =
+    by-test
+    (λ t. eqb (d .verdict) 0 ≡ t → settling e (cond t d (record { verdict = d .verdict; makes = made b k (state m 0) })) ≡ cond t (making e (d .makes)) (step e m (refusal (d .verdict))))
+    (eqb (d .verdict) 0) (λ _ h. rw h) (λ _ h. rw h) refl
 
-abbrev pub CanRect : Task → Cut → ℕ → Type 0
-CanRect t c len = CanPaint t (c .w) (c .h) len × (t .copies ≡ true → Orderly t (c .w) (c .h))
-
-rect-ready : {t T : Task} {c C : Cut} {len : ℕ} → t ≡ T → c ≡ C → CanRect T C len → CanRect t c len
-rect-ready {t} {T} {c} {C} {len} e f h = subst⁻¹ (λ (t : Task). CanRect t c len) e (subst⁻¹ (λ (c : Cut). CanRect T c len) f h)
-
-pub fill-ready : (r : Regs) (len : ℕ) {t : Task} {c : Cut} {v : ℕ} → t ≡ fillTask r → c ≡ fillCut r → v ≡ fillVerdict r len → v ≡ 0 → CanRect t c len
-unfolding fillTask
-fill-ready r len e f g z = rect-ready e f (fill-can r len (sym g ∙ z), λ c. absurd (false≢true c))
-
-pub copy-ready : (r : Regs) (len : ℕ) {t : Task} {c : Cut} {v : ℕ} → t ≡ copyTask r → c ≡ copyCut r → v ≡ copyVerdict r len → v ≡ 0 → CanRect t c len
-copy-ready r len e f g z = rect-ready e f (copy-can r len (sym g ∙ z), λ c. copy-orderly r len (sym g ∙ z))
-
--- ---- lines
-pub line-ready : (r : Regs) (len : ℕ) {i : Ink} {c : Clip} {l : Line} {v : ℕ} → i ≡ inkOf r → c ≡ clipOf r → l ≡ lineOf r → v ≡ lineVerdict r len → v ≡ 0
-    → Drawable (i .target) len c l
-unfolding inkOf
-line-ready r len {i} {c} {l} e f g h z =
-    subst⁻¹ (λ (i : Ink). Drawable (i .target) len c l) e
-    (subst⁻¹ (λ (c : Clip). Drawable (target r) len c l) f (subst⁻¹ (λ (l : Line). Drawable (target r) len (clipOf r) l) g (line-can r len (sym h ∙ z))))
-
--- ---- host blits
-pub feed-ready : (r : Regs) {f : Feed} → f ≡ feedOf r → Sizes f
-feed-ready r e = subst⁻¹ Sizes e (feed-sizes r)
-
-module _ (r : Regs) (len : ℕ) {c : Clip} {f : Feed} {taken : ℕ} (q : c ≡ clipOf r) (e : f ≡ feedOf r) (fine : hostVerdict r len ≡ 0) (more : taken < wordsOf (feedOf r)) where
-  pub word-ready : {i : Ink} → i ≡ inkOf r → Waits i c f len taken
-  word-ready {i} p =
-      let open′ = host-can r len fine (omega arith) in
-      record {
-        opened = subst⁻¹ (λ (i : Ink). Opened i c f len) p (subst⁻¹ (λ (c : Clip). Opened (inkOf r) c f len) q (subst⁻¹ (λ (f : Feed). Opened (inkOf r) (clipOf r) f len) e open′));
-        few = omega (arith, words-few r);
-      }
-
-  pub plain-ready : {b : Bool} {p : Plain} → b ≡ plainBlit r → b ≡ true → p ≡ plainOf r → Waits (plainInk p) c f len taken
-  plain-ready g t h = subst⁻¹ (λ (p : Plain). Waits (plainInk p) c f len taken) h (plain-waits (plain-ink r (sym g ∙ t)) (word-ready refl))
-
--- the pixels of a word, drawn by what was decoded
-module _ (r : Regs) (pattern m : List ℕ) {c : Clip} {f : Feed} (last word taken : ℕ) (st : State) (q : c ≡ clipOf r) (e : f ≡ feedOf r) where
-  pub word-drawn : {i : Ink} → i ≡ inkOf r → st ≡ drawn i pattern c f (byWord f last word taken) (state m 0)
-      → st ≡ paint (target r) (hostTouches (inkOf r) pattern (clipOf r) (feedOf r) (byWord (feedOf r) last word taken)) (state m 0)
-  unfolding inkOf
-  word-drawn p d =
-      d ∙ ap₂ (λ (i : Ink) (k : Clip). drawn i pattern k f (byWord f last word taken) (state m 0)) p q
-      ∙ ap (λ (f : Feed). drawn (inkOf r) pattern (clipOf r) f (byWord f last word taken) (state m 0)) e
-
-  pub plain-word-drawn : {b : Bool} {p : Plain} → b ≡ plainBlit r → b ≡ true → p ≡ plainOf r → st ≡ drawn (plainInk p) [] c f (byWord f last word taken) (state m 0)
-      → st ≡ paint (target r) (hostTouches (inkOf r) pattern (clipOf r) (feedOf r) (byWord (feedOf r) last word taken)) (state m 0)
-  plain-word-drawn g t h d =
-      word-drawn refl
-      (d ∙ ap (λ (p : Plain). drawn (plainInk p) [] c f (byWord f last word taken) (state m 0)) h
-      ∙ plain-drawn (inkOf r) (plainOf r) (plain-ink r (sym g ∙ t)) pattern c f (byWord f last word taken) (state m 0))
-
--- ---- by the number of the command
-abbrev pub picked : ℕ → Step → Step → Step → Step → Step → Step → Step
-picked n nop copy host fill line other =
-    cond (eqb n 0) nop (cond (eqb n 1) copy (cond (eqb n 3) host (cond (eqb n 5) fill (cond (leb 6 n && ltb n 8) line other))))
-
-module _ (n : ℕ) (nop copy host fill line other : Step) (a : n ≡ 0 → ⊥) (b : n ≡ 1 → ⊥) (c : n ≡ 3 → ⊥) (d : n ≡ 5 → ⊥) where
-  pub pick-line : 5 ≤ n → n < 8 → line ≡ picked n nop copy host fill line other
-  pick-line l h = rw (ne-eqb n 0 a, ne-eqb n 1 b, ne-eqb n 3 c, ne-eqb n 5 d, le-leb 6 n (omega arith), lt-ltb n 8 h)
-
-  pub pick-low : n < 5 → other ≡ picked n nop copy host fill line other
-  pick-low h = rw (ne-eqb n 0 a, ne-eqb n 1 b, ne-eqb n 3 c, ne-eqb n 5 d, lt-leb 6 n (omega arith))
-
-  pub pick-high : 8 ≤ n → other ≡ picked n nop copy host fill line other
-  pick-high h = rw (ne-eqb n 0 a, ne-eqb n 1 b, ne-eqb n 3 c, ne-eqb n 5 d, le-leb 6 n (omega arith), le-ltb n 8 h)
+pub settled-as : (e : Engine) (a : Act) (left : List ℕ) (d : Deed) (b : Bank) (k : Blit) (m : List ℕ) {r : Outcome} → r ≡ settled e a → deed a left ≡ judged d b k m
+    → outcome r left ≡ judging e e m d
+settled-as e a left d b k m p q =
+    ap (λ (r : Outcome). outcome r left) p ∙ settled-deed e a left ∙ ap (settling e) q ∙ judged-settling e d b k m
 
 -- ---- by whether a blit waits
 pub waits : (t : Bool) (yes′ no′ : Step) → t ≡ true → yes′ ≡ cond t yes′ no′

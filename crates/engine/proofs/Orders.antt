@@ -11,7 +11,7 @@ use Rattle.cuts.specs.Cut.{number}
 use Rattle.engine.specs.declared.Engine.{Engine}
 use Rattle.engine.specs.Step.{regs, storedIn}
 use Rattle.engine.specs.Orders.{launching}
-use Rattle.engine.proofs.Cases.{by-number}
+use Rattle.acts.proofs.Cases.{by-number}
 
 module _ (e : Engine) (d : ℕ) where
   pub launch-number : number (launching e d) ≡ number (regs e)

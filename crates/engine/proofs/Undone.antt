@@ -3,22 +3,20 @@
 use mathlib.Core.Path.{_≡_, refl}
 use mathlib.Core.Bool.{Bool, true, false, cond}
 use mathlib.Core.List.{List}
-use Prim.Native.Nat.{ℕ, _+_, _^_}
+use Prim.Native.Nat.{ℕ, _^_}
 use lib.Dec.{eqb, ltb}
 use lib.ListN.{length}
 use Rattle.registers.specs.declared.Place.{Place}
 use Rattle.registers.specs.declared.Place.the-variants.{Register, Pattern, Launch, Nowhere}
 use Rattle.registers.specs.Offsets.{placeOf}
-use Rattle.host.specs.Host.{wordsOf}
-use Rattle.command.specs.Decode.{feedOf}
-use Rattle.cuts.specs.Cut.{bit, number}
-use Rattle.table.specs.Table.{fillVerdict, copyVerdict, hostVerdict, lineVerdict}
+use Rattle.cuts.specs.Cut.{bit}
+use Rattle.acts.specs.Deed.{Deed, carrying, starting}
 use Rattle.engine.specs.declared.Engine.{Engine}
 use Rattle.engine.specs.declared.Answer.{Answer}
 use Rattle.engine.specs.declared.Answer.the-variants.{Taken, Memory, Offset, Waiting, NotBuilt, Format, Host, Off, Meet}
-use Rattle.engine.specs.Step.{Step, step, numberOf, countOf, refusal, regs, idle, storedIn, filled, copied, lined, begun, fed, carried, launched, commanded, toRegister, toPattern, toPlace, written}
+use Rattle.engine.specs.Step.{Step, step, numberOf, countOf, refusal, idle, storedIn, judging, carried, launched, commanded, toRegister, toPattern, toPlace, written}
 use Rattle.engine.specs.Promises.{RefusedUndone}
-use Rattle.engine.proofs.Cases.{picked, by-number}
+use Rattle.acts.proofs.Cases.{picked}
 
 record Kept (e : Engine) (m : List ℕ) (s : Step) : Type 0 where
   undone : (numberOf (s .answer) ≡ 0 → ⊥) → (s .engine ≡ e) × (s .memory ≡ m) × (countOf (s .answer) ≡ 0)
@@ -32,53 +30,26 @@ same-back e m a z = record { undone = λ _. (refl, refl, z) }
 
 refused-count : (n : ℕ) → countOf (refusal n) ≡ 0
 unfolding refusal
-refused-count n = cases (eqb n 5) (eqb n 6) (eqb n 7)
+refused-count n = cases (eqb n 4) (eqb n 5) (eqb n 6) (eqb n 7)
   where
-    cases : (a b c : Bool) → countOf (cond a Format (cond b Host (cond c Off Meet))) ≡ 0
-    cases true b c = refl
-    cases false true c = refl
-    cases false false true = refl
-    cases false false false = refl
+    cases : (a b c d : Bool) → countOf (cond a NotBuilt (cond b Format (cond c Host (cond d Off Meet)))) ≡ 0
+    cases true b c d = refl
+    cases false true c d = refl
+    cases false false true d = refl
+    cases false false false true = refl
+    cases false false false false = refl
 
--- a command that its verdict v refuses, or carries out
-judged-kept : {old : Engine} {m : List ℕ} (v : ℕ) (s : Step) → Kept old m s → Kept old m (cond (eqb v 0) s (step old m (refusal v)))
-judged-kept {old} {m} v s k = picked (Kept old m) (eqb v 0) _ _ (λ _. k) (λ _. same-back old m (refusal v) (refused-count v))
-
-filled-kept : (old e : Engine) (m : List ℕ) → Kept old m (filled old e m)
-unfolding filled
-filled-kept old e m = judged-kept (fillVerdict (regs e) (length m)) _ (taken _ _ _)
-
-copied-kept : (old e : Engine) (m : List ℕ) → Kept old m (copied old e m)
-unfolding copied
-copied-kept old e m = judged-kept (copyVerdict (regs e) (length m)) _ (taken _ _ _)
-
-lined-kept : (old e : Engine) (m : List ℕ) → Kept old m (lined old e m)
-unfolding lined
-lined-kept old e m = judged-kept (lineVerdict (regs e) (length m)) _ (taken _ _ _)
-
-begun-kept : (old e : Engine) (m : List ℕ) → Kept old m (begun old e m)
-unfolding begun
-begun-kept old e m =
-    judged-kept (hostVerdict (regs e) (length m)) _ (picked (Kept old m) (ltb 0 (wordsOf (feedOf (regs e)))) _ _ (λ _. taken _ _ _) (λ _. taken _ _ _))
-
-fed-kept : (e : Engine) (m : List ℕ) (d : ℕ) → Kept e m (fed e m d)
-unfolding fed
-fed-kept e m d =
-    judged-kept (hostVerdict (regs e) (length m)) _
-    (picked (Kept e m) (ltb (e .blit .taken) (wordsOf (feedOf (regs e)))) _ _
-    (λ _. picked (Kept e m) (ltb (e .blit .taken + 1) (wordsOf (feedOf (regs e)))) _ _ (λ _. taken _ _ _) (λ _. taken _ _ _)) (λ _. taken _ _ _))
+-- a command that its verdict refuses, or carries out
+judged-kept : (old e : Engine) (m : List ℕ) (d : Deed) → Kept old m (judging old e m d)
+judged-kept old e m d = picked (Kept old m) (eqb (d .verdict) 0) _ _ (λ _. taken _ _ _) (λ _. same-back old m (refusal (d .verdict)) (refused-count (d .verdict)))
 
 carried-kept : (old e : Engine) (m : List ℕ) → Kept old m (carried old e m)
 unfolding carried
-carried-kept old e m =
-    by-number (Kept old m) (number (regs e)) _ _ _ _ _ _ (λ _. taken _ _ _) (λ _. copied-kept old e m) (λ _. begun-kept old e m) (λ _. filled-kept old e m)
-    (λ _ _. lined-kept old e m) (λ _. same-back old m NotBuilt refl)
+carried-kept old e m = judged-kept old e m (carrying (e .bank) (e .blit) m)
 
 launched-kept : (e : Engine) (m : List ℕ) (d : ℕ) → Kept e m (launched e m d)
 unfolding launched
-launched-kept e m d =
-    by-number (Kept e m) (number (regs e)) _ _ _ _ _ _ (λ _. taken _ _ _) (λ _. copied-kept e (storedIn e 0x5c d) m) (λ _. fed-kept e m d)
-    (λ _. filled-kept e (storedIn e 0x6c d) m) (λ _ _. lined-kept e (storedIn e 0x6c d) m) (λ _. same-back e m NotBuilt refl)
+launched-kept e m d = judged-kept e e m (starting (e .bank) (e .blit) m d)
 
 place-kept : (p : Place) (e : Engine) (m : List ℕ) (o d : ℕ) → Kept e m (toPlace p e m o d)
 unfolding toRegister toPattern commanded

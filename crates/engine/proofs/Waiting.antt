@@ -19,12 +19,13 @@ use Rattle.host.specs.Host.{wordsOf}
 use Rattle.command.specs.Decode.{lineOf, penOf, feedOf}
 use Rattle.cuts.specs.Cut.{bit, number}
 use Rattle.table.specs.Table.{fillVerdict, copyVerdict, hostVerdict, lineVerdict}
-use Rattle.engine.specs.declared.Blit.{Blit}
+use Rattle.acts.specs.declared.Blit.{Blit}
+use Rattle.acts.specs.Deed.{noBlit, Made, Deed, carrying, starting}
 use Rattle.engine.specs.declared.Engine.{Engine}
-use Rattle.engine.specs.Step.{Step, noBlit, freshEngine, withBank, withBlit, afterRect, afterLine, regs, idle, storedIn, filled, copied, lined, begun, fed, carried, launched, commanded, toRegister, toPattern, toPlace, written}
+use Rattle.engine.specs.Step.{Step, making, judging, freshEngine, withBank, withBlit, afterRect, afterLine, regs, idle, storedIn, filled, copied, lined, begun, fed, carried, launched, commanded, toRegister, toPattern, toPlace, written}
 use Rattle.engine.specs.Orders.{orderAt, order}
 use Rattle.engine.specs.Promises.{row1, row2, row3, Sound, SoundFresh, SoundKept, WordsTaken}
-use Rattle.engine.proofs.Cases.{picked, by-number}
+use Rattle.acts.proofs.Cases.{picked, by-number}
 use Rattle.engine.proofs.Orders.{launch-host}
 use Rattle.engine.proofs.Commands.{firstOf, laterRows, commandRow, row-host, write-written}
 
@@ -42,16 +43,16 @@ quiet e s other = by (e .blit .waiting) refl
 abbrev SoundAfter : Step → Type 0
 SoundAfter s = Sound (s .engine)
 
+abbrev SoundMade : Engine → Made → Type 0
+SoundMade e k = Sound (making e k .engine)
+
 filled-sound : (old e : Engine) (m : List ℕ) → Sound old → e .blit ≡ noBlit → Sound (filled old e m .engine)
-unfolding filled afterRect storedIn
 filled-sound old e m s h = picked SoundAfter (eqb (fillVerdict (regs e) (length m)) 0) _ _ (λ _. resting (afterRect e) h) (λ _. s)
 
 copied-sound : (old e : Engine) (m : List ℕ) → Sound old → e .blit ≡ noBlit → Sound (copied old e m .engine)
-unfolding copied afterRect storedIn
 copied-sound old e m s h = picked SoundAfter (eqb (copyVerdict (regs e) (length m)) 0) _ _ (λ _. resting (afterRect e) h) (λ _. s)
 
 lined-sound : (old e : Engine) (m : List ℕ) → Sound old → e .blit ≡ noBlit → Sound (lined old e m .engine)
-unfolding lined afterLine storedIn
 lined-sound old e m s h =
     picked SoundAfter (eqb (lineVerdict (regs e) (length m)) 0) _ _
     (λ _. resting (afterLine e (styleAfter (penOf (regs e)) (pointCount (lineOf (regs e))) (regs e .lineStyle))) h) (λ _. s)
@@ -65,32 +66,30 @@ waiting-sound e len n last three fits fine more = record {
 }
 
 begun-sound : (old e : Engine) (m : List ℕ) → Sound old → number (regs e) ≡ 3 → length m ≡ e .opened → Sound (begun old e m .engine)
-unfolding begun afterRect storedIn
 begun-sound old e m s three fits =
     picked SoundAfter (eqb (hostVerdict (regs e) (length m)) 0) _ _
-    (λ fine. picked SoundAfter (ltb 0 (wordsOf (feedOf (regs e)))) _ _ (λ more. waiting-sound e (length m) 0 0 three fits fine more) (λ _. resting (afterRect (idle e)) refl))
+    (λ fine. picked (SoundMade e) (ltb 0 (wordsOf (feedOf (regs e)))) _ _ (λ more. waiting-sound e (length m) 0 0 three fits fine more) (λ _. resting (afterRect (idle e)) refl))
     (λ _. s)
 
 fed-sound : (e : Engine) (m : List ℕ) (d : ℕ) → Sound e → number (regs e) ≡ 3 → length m ≡ e .opened → Sound (fed e m d .engine)
-unfolding fed afterRect storedIn
 fed-sound e m d s three fits =
     picked SoundAfter (eqb (hostVerdict (regs e) (length m)) 0) _ _
-    (λ fine. picked SoundAfter (ltb (e .blit .taken) (wordsOf (feedOf (regs e)))) _ _
-    (λ _. picked SoundAfter (ltb (e .blit .taken + 1) (wordsOf (feedOf (regs e)))) _ _
+    (λ fine. picked (SoundMade e) (ltb (e .blit .taken) (wordsOf (feedOf (regs e)))) _ _
+    (λ _. picked (SoundMade e) (ltb (e .blit .taken + 1) (wordsOf (feedOf (regs e)))) _ _
     (λ more. waiting-sound e (length m) (e .blit .taken + 1) d three fits fine more) (λ _. resting (afterRect (idle e)) refl))
     (λ _. resting (afterRect (idle e)) refl))
     (λ _. s)
 
 carried-sound : (old e : Engine) (m : List ℕ) → Sound old → e .blit ≡ noBlit → length m ≡ e .opened → Sound (carried old e m .engine)
-unfolding carried
+unfolding carried carrying
 carried-sound old e m s h fits =
-    by-number SoundAfter (number (regs e)) _ _ _ _ _ _ (λ _. resting e h) (λ _. copied-sound old e m s h) (λ three. begun-sound old e m s three fits)
+    by-number (λ (d : Deed). SoundAfter (judging old e m d)) (number (regs e)) _ _ _ _ _ _ (λ _. resting e h) (λ _. copied-sound old e m s h) (λ three. begun-sound old e m s three fits)
     (λ _. filled-sound old e m s h) (λ _ _. lined-sound old e m s h) (λ _. s)
 
 launched-sound : (e : Engine) (m : List ℕ) (d : ℕ) → Sound e → length m ≡ e .opened → Sound (launched e m d .engine)
-unfolding launched storedIn
+unfolding launched starting storedIn
 launched-sound e m d s fits =
-    by-number SoundAfter (number (regs e)) _ _ _ _ _ _ (λ _. s)
+    by-number (λ (k : Deed). SoundAfter (judging e e m k)) (number (regs e)) _ _ _ _ _ _ (λ _. s)
     (λ n. copied-sound e (storedIn e 0x5c d) m s (quiet e s (λ q. omega arith)))
     (λ three. fed-sound e m d s three fits)
     (λ n. filled-sound e (storedIn e 0x6c d) m s (quiet e s (λ q. omega arith)))

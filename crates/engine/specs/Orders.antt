@@ -17,7 +17,8 @@ use Rattle.registers.specs.Offsets.{placeOf}
 use Rattle.command.specs.Decode.{lineOf, feedOf}
 use Rattle.cuts.specs.Cut.{bit, number, clipOf, fillCut, copyCut, covered}
 use Rattle.engine.specs.declared.Engine.{Engine}
-use Rattle.engine.specs.Step.{regs, storedIn, byNumber, fillTouches, copyTouches, drawTouches, wordTouches}
+use Rattle.acts.specs.Deed.{touchedByFill, touchedByCopy, touchedByLine, touchedByWord, byNumber}
+use Rattle.engine.specs.Step.{regs, storedIn}
 
 -- ---- the registers with which it is carried out: those of a write to command with bit 8; of a launch write, which puts its data into srcXY or dstXY first
 unfoldable pub launching : Engine → ℕ → Regs
@@ -36,6 +37,19 @@ order e o d = orderAt (placeOf o) e o d
 unfoldable pub coveredBy : Regs → List Px
 coveredBy r =
     byNumber (number r) [] (covered (copyCut r)) (covered (fillCut r)) (covered (fillCut r)) (coveredPoints (clipOf r) (points (lineOf r))) []
+
+-- ---- what each command touches
+abbrev pub fillTouches : Engine → List ℕ → List Touch
+fillTouches e m = touchedByFill (e .bank) m
+
+abbrev pub copyTouches : Engine → List ℕ → List Touch
+copyTouches e m = touchedByCopy (e .bank) m
+
+abbrev pub drawTouches : Engine → List Touch
+drawTouches e = touchedByLine (e .bank)
+
+abbrev pub wordTouches : Engine → ℕ → List Touch
+wordTouches e word = touchedByWord (e .bank) (e .blit) word
 
 -- ---- what a write touches, if it is taken: a host blit touches with each word of data, and not when it is opened
 unfoldable pub carriedTouches : Engine → List ℕ → List Touch

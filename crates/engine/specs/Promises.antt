@@ -23,8 +23,9 @@ use Rattle.host.specs.Host.{wordsOf}
 use Rattle.command.specs.Decode.{target, origins, feedOf}
 use Rattle.cuts.specs.Cut.{number, clipOf, copyCut, covered, needed}
 use Rattle.table.specs.Table.{targetFine, bothFine, allOnAt, pixels, sameSurface, hostFault, hostVerdict}
+use Rattle.acts.specs.Deed.{noBlit, byNumber}
 use Rattle.engine.specs.declared.Engine.{Engine}
-use Rattle.engine.specs.Step.{Step, written, numberOf, countOf, regs, noBlit, freshEngine, readFrom, byNumber}
+use Rattle.engine.specs.Step.{Step, written, numberOf, countOf, regs, freshEngine, readFrom}
 use Rattle.engine.specs.Orders.{order, coveredBy, touchesOf}
 
 -- ---- Undone. Demand 1: a refused write, one whose number is not 0, leaves engine and memory as they were, and counts nothing

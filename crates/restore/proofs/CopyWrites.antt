@@ -20,15 +20,17 @@ use Rattle.registers.specs.Offsets.{placeOf}
 use Rattle.command.specs.Decode.{target, copyTask}
 use Rattle.cuts.specs.Cut.{bit, number, width, height, copyCut, covered}
 use Rattle.table.specs.Table.{copyVerdict}
+use Rattle.acts.specs.Deed.{starting}
+use Rattle.acts.proofs.Numbers.{carry-copy}
 use Rattle.engine.specs.declared.Engine.{Engine}
 use Rattle.engine.specs.declared.Answer.{Answer}
 use Rattle.engine.specs.declared.Answer.the-variants.{Taken, Waiting}
-use Rattle.engine.specs.Step.{Step, step, regs, idle, storedIn, afterRect, copied, carried, launched, commanded, toRegister, toPlace, written}
+use Rattle.engine.specs.Step.{Step, step, judging, regs, idle, storedIn, copied, carried, launched, commanded, toRegister, toPlace, written}
 use Rattle.engine.specs.Orders.{launching}
 use Rattle.restore.specs.Rectangles.{sourceRect, targetRect, Apart}
 use Rattle.restore.specs.Writes.{Write, by, startAt, starts}
 use Rattle.restore.specs.Restore.{Plain}
-use Rattle.engine.proofs.Cases.{picked}
+use Rattle.acts.proofs.Cases.{picked}
 use Rattle.engine.proofs.Orders.{launch-number, launch-copy, the-same, nothing-ordered}
 use Rattle.restore.proofs.Copies.{Came, taken, plain-copied}
 
@@ -42,10 +44,10 @@ pub record Issued (e : Engine) (m : List ℕ) (r : Regs) (s : Step) : Type 0 whe
 
 carried-copy : (old e : Engine) (m : List ℕ) → number (regs e) ≡ 1 → carried old e m ≡ copied old e m
 unfolding carried
-carried-copy old e m n = rw (ne-eqb (number (regs e)) 0 (λ z. omega arith), eq-eqb (number (regs e)) 1 n)
+carried-copy old e m n = ap (judging old e m) (carry-copy (e .bank) (e .blit) m n)
 
 launched-copy : (e : Engine) (m : List ℕ) (d : ℕ) → number (regs e) ≡ 1 → launched e m d ≡ copied e (storedIn e 0x5c d) m
-unfolding launched
+unfolding launched starting storedIn
 launched-copy e m d n = rw (ne-eqb (number (regs e)) 0 (λ z. omega arith), eq-eqb (number (regs e)) 1 n)
 
 module _ (e : Engine) (m : List ℕ) (w : Write) (r : Regs) (copy : number r ≡ 1) where
@@ -111,7 +113,6 @@ pub record Made (e : Engine) (m : List ℕ) (r : Regs) (s : Step) : Type 0 where
 
 copied-made : (e next : Engine) (m : List ℕ) → next .opened ≡ e .opened → next .blit .waiting ≡ false → Bytes m
     → Plain (length m) (regs next) → Apart (targetRect (regs next)) (sourceRect (regs next)) → Made e m (regs next) (copied e next m)
-unfolding copied afterRect storedIn
 copied-made e next m o rests bytes plain apart =
     let r = regs next in
     let touches = asBefore (copyTask r) (next .bank .pattern) m (covered (copyCut r)) in

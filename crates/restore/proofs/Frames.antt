@@ -19,7 +19,7 @@ use Rattle.cuts.specs.Cut.{number}
 use Rattle.engine.specs.declared.Engine.{Engine}
 use Rattle.engine.specs.Step.{Step, numberOf}
 use Rattle.engine.specs.Orders.{launching, orderAt, order}
-use Rattle.engine.proofs.Cases.{by-test}
+use Rattle.acts.proofs.Cases.{by-test}
 use Rattle.engine.proofs.Orders.{launch-host, the-same, nothing-ordered}
 use Rattle.engine.proofs.Commands.{covered-none}
 use Rattle.engine.proofs.Undone.{refused-undone}

@@ -28,7 +28,8 @@ use Rattle.command.specs.Decode.{inkOf, fillTask, copyTask}
 use Rattle.cuts.specs.Cut.{clipOf, cutAt, fillCut, copyCut}
 use Rattle.table.specs.Table.{allOnAt, fillVerdict, copyVerdict}
 use Rattle.engine.specs.declared.Engine.{Engine}
-use Rattle.engine.specs.Step.{freshEngine, storedIn, afterRect, filled, copied, launched, toRegister, commanded, written}
+use Rattle.acts.specs.Deed.{rectEnded, carrying, starting}
+use Rattle.engine.specs.Step.{freshEngine, storedIn, carried, launched, toRegister, commanded, written}
 use Rattle.engine.specs.Orders.{launching}
 use Rattle.restore.specs.Rectangles.{sourceRect}
 use Rattle.restore.specs.Writes.{Write, played}
@@ -75,7 +76,7 @@ small (suc (suc (suc zero))) = omega arith
 small (suc (suc (suc (suc a)))) = omega arith
 
 pub met : Saves start memory first middle last aside back
-unfolding played written toRegister commanded storedIn stored putReg kept freshEngine freshBank placeOf launching clipOf targetOf sourceOf stepOf allowed across rect allOnAt Place.onSurface Place.rowPixels Place.rowBytes Place.inMemory Place.firstByte Place.byteCount Place.byteAt launched copied copyVerdict copyCut cutAt copyTask afterRect steppedXY filled fillVerdict fillCut fillTask inkOf allOn paint dab giving sourceBy sourcePlace colourSource fillSource converted mixed chosen Rop.ropBits Rop.ropBit Place.readPx Place.writePx Place.readBytes Place.writeBytes Place.byteOf patternIn patternPixel patternBit
+unfolding played written toRegister commanded storedIn stored putReg kept freshEngine freshBank placeOf launching clipOf targetOf sourceOf stepOf allowed across rect allOnAt Place.onSurface Place.rowPixels Place.rowBytes Place.inMemory Place.firstByte Place.byteCount Place.byteAt launched starting carried carrying copyVerdict copyCut cutAt copyTask rectEnded steppedXY fillVerdict fillCut fillTask inkOf allOn paint dab giving sourceBy sourcePlace colourSource fillSource converted mixed chosen Rop.ropBits Rop.ropBit Place.readPx Place.writePx Place.readBytes Place.writeBytes Place.byteOf patternIn patternPixel patternBit
 met = record {
   limit = omega arith;
   opened = refl;

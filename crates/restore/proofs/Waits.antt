@@ -19,10 +19,11 @@ use Rattle.bank.specs.Bank.{patterned}
 use Rattle.command.specs.Decode.{lineOf, penOf, feedOf}
 use Rattle.cuts.specs.Cut.{bit, number}
 use Rattle.table.specs.Table.{fillVerdict, copyVerdict, hostVerdict, lineVerdict}
+use Rattle.acts.specs.Deed.{Made, Deed, carrying, starting}
 use Rattle.engine.specs.declared.Engine.{Engine}
 use Rattle.engine.specs.declared.Answer.{Answer}
-use Rattle.engine.specs.Step.{Step, step, numberOf, regs, idle, withBank, withBlit, storedIn, afterRect, afterLine, filled, copied, lined, begun, fed, carried, launched, commanded, toRegister, toPattern, toPlace, written}
-use Rattle.engine.proofs.Cases.{by-test, picked, by-number}
+use Rattle.engine.specs.Step.{Step, step, making, judging, numberOf, regs, idle, withBank, withBlit, storedIn, afterRect, afterLine, filled, copied, lined, begun, fed, carried, launched, commanded, toRegister, toPattern, toPlace, written}
+use Rattle.acts.proofs.Cases.{by-test, picked, by-number}
 use Rattle.engine.proofs.Orders.{launch-host}
 use Rattle.restore.specs.Rectangles.{Rectangle}
 use Rattle.restore.specs.Writes.{Write, by, startAt, starts}
@@ -55,45 +56,40 @@ module _ {t : Rectangle} (old e : Engine) (m : List ℕ) (o : e .opened ≡ old 
   r = regs e
 
   filled-next : Next t old (filled old e m)
-  unfolding filled afterRect storedIn
   filled-next = picked (Next t old) (eqb (fillVerdict r (length m)) 0) _ _ (λ _. goes old (afterRect e) o (not-waiting (afterRect e) rests)) (λ _. goes old old refl before)
 
   copied-next : Next t old (copied old e m)
-  unfolding copied afterRect storedIn
   copied-next = picked (Next t old) (eqb (copyVerdict r (length m)) 0) _ _ (λ _. goes old (afterRect e) o (not-waiting (afterRect e) rests)) (λ _. goes old old refl before)
 
   lined-next : Next t old (lined old e m)
-  unfolding lined afterLine storedIn
   lined-next =
       let after = afterLine e (styleAfter (penOf r) (pointCount (lineOf r)) (r .lineStyle)) in
       picked (Next t old) (eqb (lineVerdict r (length m)) 0) _ _ (λ _. goes old after o (not-waiting after rests)) (λ _. goes old old refl before)
 
   begun-next : number r ≡ 3 → Asked t r (begun old e m) → Next t old (begun old e m)
-  unfolding begun afterRect storedIn
   begun-next host =
       picked (λ (s : Step). Asked t r s → Next t old s) (eqb (hostVerdict r (length m)) 0) _ _
-      (λ _. picked (λ (s : Step). Asked t r s → Next t old s) (ltb 0 (wordsOf (feedOf r))) _ _
+      (λ _. picked (λ (k : Made). Asked t r (making e k) → Next t old (making e k)) (ltb 0 (wordsOf (feedOf r))) _ _
       (λ _ asked. goes old (withBlit e (record { waiting = true; taken = 0; last = 0 })) o (λ w. (host, asked refl (λ z. omega arith))))
       (λ _ asked. goes old (afterRect (idle e)) o (not-waiting (afterRect (idle e)) refl)))
       (λ _ asked. goes old old refl before)
 
   pub carried-next : Asked t r (carried old e m) → Next t old (carried old e m)
-  unfolding carried
+  unfolding carried carrying
   carried-next =
-      by-number (λ (s : Step). Asked t r s → Next t old s) (number r) _ _ _ _ _ _ (λ _ _. goes old e o (not-waiting e rests)) (λ _ _. copied-next) begun-next
+      by-number (λ (d : Deed). Asked t r (judging old e m d) → Next t old (judging old e m d)) (number r) _ _ _ _ _ _ (λ _ _. goes old e o (not-waiting e rests)) (λ _ _. copied-next) begun-next
       (λ _ _. filled-next) (λ _ _ _. lined-next) (λ _ _. goes old old refl before)
 
 -- ---- a launch write
 module _ {t : Rectangle} (e : Engine) (m : List ℕ) (d : ℕ) (held : Held t e) where
   fed-next : number (regs e) ≡ 3 → (numberOf (fed e m d .answer) ≡ 0 → Framed t (regs e)) → Next t e (fed e m d)
-  unfolding fed afterRect storedIn
   fed-next host =
       let P : Step → Type 0 = (λ s. (numberOf (s .answer) ≡ 0 → Framed t (regs e)) → Next t e s) in
       let last = afterRect (idle e) in
       let next = withBlit e (record { waiting = true; taken = e .blit .taken + 1; last = d }) in
       picked P (eqb (hostVerdict (regs e) (length m)) 0) _ _
-      (λ _. picked P (ltb (e .blit .taken) (wordsOf (feedOf (regs e)))) _ _
-      (λ _. picked P (ltb (e .blit .taken + 1) (wordsOf (feedOf (regs e)))) _ _ (λ _ framed. goes e next refl (λ _. (host, framed refl)))
+      (λ _. picked (λ (k : Made). P (making e k)) (ltb (e .blit .taken) (wordsOf (feedOf (regs e)))) _ _
+      (λ _. picked (λ (k : Made). P (making e k)) (ltb (e .blit .taken + 1) (wordsOf (feedOf (regs e)))) _ _ (λ _ framed. goes e next refl (λ _. (host, framed refl)))
       (λ _ framed. goes e last refl (not-waiting last refl)))
       (λ _ framed. goes e last refl (not-waiting last refl)))
       (λ _ framed. goes e e refl held)
@@ -103,10 +99,10 @@ module _ {t : Rectangle} (e : Engine) (m : List ℕ) (d : ℕ) (held : Held t e)
   no-host n = by-test (λ b. (b ≡ true → number (regs e) ≡ 3) → b ≡ false) (e .blit .waiting) (λ _ h. absurd (n (h refl))) (λ _ h. refl) (λ w. held w .0)
 
   launched-next : (numberOf (launched e m d .answer) ≡ 0 → number (regs e) ≡ 3 → Framed t (regs e)) → Next t e (launched e m d)
-  unfolding launched storedIn
+  unfolding launched starting storedIn
   launched-next =
       let P : Step → Type 0 = (λ s. (numberOf (s .answer) ≡ 0 → number (regs e) ≡ 3 → Framed t (regs e)) → Next t e s) in
-      by-number P (number (regs e)) _ _ _ _ _ _ (λ _ _. goes e e refl held)
+      by-number (λ (k : Deed). P (judging e e m k)) (number (regs e)) _ _ _ _ _ _ (λ _ _. goes e e refl held)
       (λ n _. copied-next e (storedIn e 0x5c d) m refl held (no-host (λ z. omega arith)))
       (λ n asked. fed-next n (λ z. asked z n))
       (λ n _. filled-next e (storedIn e 0x6c d) m refl held (no-host (λ z. omega arith)))

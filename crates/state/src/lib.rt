@@ -1,6 +1,6 @@
 // The state of an engine as bytes, laid out as specs/Layout.antt says.
+use acts::Blit;
 use bank::Bank;
-use engine::Blit;
 use engine::Engine;
 use registers::Regs;
 ghost use mathlib.Core.Path.{_≡_};

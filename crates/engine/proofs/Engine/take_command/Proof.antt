@@ -1,35 +1,57 @@
 -- `engine::Engine::take_command` meets its contract: by bit 8.
 -- Assumes nothing.
 use borrow.Author.Needs.{needs}
-use mathlib.Core.Path.{ap, _∙_}
+use mathlib.Core.Path.{ap₂, _∙_}
 use borrow.Author.Tests.{eq-eqb, ne-eqb}
-use Rattle.engine.specs.declared.Engine.{Engine}
-use Rattle.engine.specs.Step.{commanded, carried, step, idle}
+use Rattle.bank.specs.declared.Bank.{Bank}
+use Rattle.acts.specs.declared.Blit.{Blit}
+use Rattle.acts.specs.Deed.{carrying}
 use Rattle.engine.specs.declared.Answer.the-variants.{Taken}
+use Rattle.engine.specs.Step.{storedIn, step, judging, carried, commanded}
+use Rattle.engine.proofs.Laws.{settled-as}
 use Rattle.engine.proofs.Engine.take_command.Statement.{statement}
 use Rattle.engine.proofs.Engine.take_command.Tie as tie
 
 store-requires : tie.Need-store-requires
 store-requires c κs = search needs
 
-set-blit-requires : tie.Need-set-blit-requires
-set-blit-requires c κs = search needs
+no-blit-requires : tie.Need-no-blit-requires
+no-blit-requires c κs = search needs
 
 carry-requires : tie.Need-carry-requires
 carry-requires c κs = search needs
+
+settle-requires : tie.Need-settle-requires
+settle-requires c κs = search needs
 
 same-length : tie.Need-same-length
 same-length c = search needs
 
 returns : tie.Need-returns
-unfolding commanded
-returns c = rw (eq-eqb _ _ (c .before .before .before .before .if1 .taken)) (c .before .before .carry .ensures ∙ ap (λ (e : Engine). carried (c .before .before .before .before .before .before .before .before .args .self) e (c .before .before .before .before .before .before .before .before .args .mem .now)) (c .before .before .before .before .before .set-blit .ensures ∙ ap idle (c .before .before .before .before .before .before .store .ensures)))
+unfolding commanded carried storedIn
+returns c =
+    let a = (c .before .before .before .before .before .before .before .before .before .before .args) in
+    let next = (c .before .before .before .before .before .before .before .store .result) in
+    let resting = (c .before .before .before .before .before .before .no-blit .result) in
+    rw (eq-eqb _ _ (c .before .before .before .before .before .if1 .taken))
+    (settled-as (a .self) (c .before .before .before .carry .result) _ (carrying next resting (a .mem .now)) next resting (a .mem .now) (c .settle .ensures) (c .before .before .before .carry .ensures)
+    ∙ ap₂ (λ (b : Bank) (k : Blit). judging (a .self) (a .self) (a .mem .now) (carrying b k (a .mem .now))) (c .before .before .before .before .before .before .before .store .ensures) (c .before .before .before .before .before .before .no-blit .ensures))
 
 returns-2 : tie.Need-returns-2
-unfolding commanded
-returns-2 c = rw (ne-eqb _ _ (c .if1 .left)) (ap (λ (e : Engine). step e (c .before .before .before .before .args .mem .now) (Taken 0)) (c .before .set-blit .ensures ∙ ap idle (c .before .before .store .ensures)))
+unfolding commanded storedIn
+returns-2 c =
+    let a = (c .before .before .before .before .before .args) in
+    rw (ne-eqb _ _ (c .if1 .left))
+    (ap₂ (λ (b : Bank) (k : Blit). step (record { bank = b; blit = k; opened = a .self .opened }) (a .mem .now) (Taken 0)) (c .before .before .store .ensures) (c .before .no-blit .ensures))
 
 pub take-command-spec : {M : Type 1} → statement M
 take-command-spec =
     tie.close
-    (tie.spec store-requires set-blit-requires carry-requires same-length returns returns-2)
+    (tie.spec
+    store-requires
+    no-blit-requires
+    carry-requires
+    settle-requires
+    same-length
+    returns
+    returns-2)

@@ -3,10 +3,10 @@
 use borrow.Author.Needs.{needs}
 use mathlib.Core.Path.{ap, _∙_}
 use borrow.Author.Tests.{eq-eqb, ne-eqb}
-use Rattle.engine.proofs.Laws.{waits, rests}
-use Rattle.engine.specs.declared.Engine.{Engine}
-use Rattle.engine.specs.Step.{toRegister, step}
+use Rattle.bank.specs.declared.Bank.{Bank}
 use Rattle.engine.specs.declared.Answer.the-variants.{Taken}
+use Rattle.engine.specs.Step.{toRegister, storedIn, step, withBank}
+use Rattle.engine.proofs.Laws.{waits, rests}
 use Rattle.engine.proofs.Engine.take_register.Statement.{statement}
 use Rattle.engine.proofs.Engine.take_register.Tie as tie
 
@@ -28,8 +28,11 @@ store-requires : tie.Need-store-requires
 store-requires c κs = search needs
 
 returns-3 : tie.Need-returns-3
-unfolding toRegister
-returns-3 c = rw (ne-eqb _ _ (c .before .before .if1 .left)) (ap (λ (e : Engine). step e (c .before .before .before .before .args .mem .now) (Taken 0)) (c .store .ensures) ∙ rests (c .before .before .before .before .args .self .blit .waiting) _ _ (c .before .if2 .left))
+unfolding toRegister storedIn
+returns-3 c =
+    let a = (c .before .before .before .before .before .args) in
+    rw (ne-eqb _ _ (c .before .before .before .if1 .left))
+    (ap (λ (b : Bank). step (withBank (a .self) b) (a .mem .now) (Taken 0)) (c .store .ensures) ∙ rests (a .self .blit .waiting) _ _ (c .before .before .if2 .left))
 
 pub take-register-spec : {M : Type 1} → statement M
 take-register-spec =

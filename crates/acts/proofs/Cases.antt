@@ -3,10 +3,11 @@
 use mathlib.Core.Path.{_≡_, refl}
 use mathlib.Core.Bool.{Bool, true, false, cond, _&&_}
 use Prim.Native.Nat.{ℕ, _<_, _≤_}
+use native.Mathlib.Omega.{arith}
 use lib.Dec.{eqb, leb, ltb}
-use borrow.Author.Tests.{eqb-true, leb-true, ltb-true}
+use borrow.Author.Tests.{eqb-true, leb-true, ltb-true, ne-eqb, lt-leb, le-leb, le-ltb}
 use Rattle.surface.proofs.OnLaws.{and-left, and-right}
-use Rattle.engine.specs.Step.{byNumber}
+use Rattle.acts.specs.Deed.{byNumber}
 
 pub by-test : (Q : Bool → Type 0) (t : Bool) → (t ≡ true → Q true) → (t ≡ false → Q false) → Q t
 by-test Q true yes′ no′ = yes′ refl
@@ -22,6 +23,13 @@ pub record Unbuilt (n : ℕ) : Type 0 where
   pub not3 : eqb n 3 ≡ false
   pub not5 : eqb n 5 ≡ false
   pub not6 : (leb 6 n && ltb n 8) ≡ false
+
+module _ (n : ℕ) (a : n ≡ 0 → ⊥) (b : n ≡ 1 → ⊥) (c : n ≡ 3 → ⊥) (d : n ≡ 5 → ⊥) where
+  pub unbuilt-low : n < 5 → Unbuilt n
+  unbuilt-low h = record { not0 = ne-eqb n 0 a; not1 = ne-eqb n 1 b; not3 = ne-eqb n 3 c; not5 = ne-eqb n 5 d; not6 = rw (lt-leb 6 n (omega arith)) }
+
+  pub unbuilt-high : 8 ≤ n → Unbuilt n
+  unbuilt-high h = record { not0 = ne-eqb n 0 a; not1 = ne-eqb n 1 b; not3 = ne-eqb n 3 c; not5 = ne-eqb n 5 d; not6 = rw (le-leb 6 n (omega arith), le-ltb n 8 h) }
 
 abbrev pub pick : {A : Type 0} → Bool → Bool → Bool → Bool → Bool → A → A → A → A → A → A → A
 pick t0 t1 t3 t5 t6 nop copy host fill line other = cond t0 nop (cond t1 copy (cond t3 host (cond t5 fill (cond t6 line other))))

@@ -1,10 +1,10 @@
--- `engine::Engine::paint_word` meets its contract: by whether the blit is plain.
+-- `acts::paint_word` meets its contract: by whether the blit is plain.
 -- Assumes nothing.
 use borrow.Author.Needs.{needs}
 use lib.ListN.{length}
-use Rattle.engine.proofs.Laws.{word-ready, plain-ready, word-drawn, plain-word-drawn}
-use Rattle.engine.proofs.Engine.paint_word.Statement.{statement}
-use Rattle.engine.proofs.Engine.paint_word.Tie as tie
+use Rattle.acts.proofs.Laws.{word-ready, plain-ready, word-drawn, plain-word-drawn}
+use Rattle.acts.proofs.paint_word.Statement.{statement}
+use Rattle.acts.proofs.paint_word.Tie as tie
 
 decode-feed-requires : tie.Need-decode-feed-requires
 decode-feed-requires c κs = search needs
@@ -21,8 +21,8 @@ decode-plain-requires c κs = search needs
 plain-word-requires : tie.Need-plain-word-requires
 plain-word-requires c κs =
     let k = c .before .before .before .before in
-    let b = k .before .before .before .before .before in
-    plain-ready (b .args .self .bank .regs) (length (b .args .mem .now)) (k .decode-clip .ensures) (k .before .decode-feed .ensures) (b .pre .fine) (b .pre .more)
+    let b = k .before .before .before .before in
+    plain-ready (b .args .bank .regs) (length (b .args .mem .now)) (k .decode-clip .ensures) (k .before .decode-feed .ensures) (b .pre .fine) (b .pre .more)
     (c .before .before .before .is-plain .ensures) (c .before .before .if1 .taken) (c .before .decode-plain .ensures)
 
 same-length : tie.Need-same-length
@@ -31,8 +31,8 @@ same-length c = search needs
 returns : tie.Need-returns
 returns c =
     let k = c .before .before .before .before .before .before .before in
-    let a = k .before .before .before .before .before .args in
-    plain-word-drawn (a .self .bank .regs) (a .self .bank .pattern) (a .mem .now) (a .self .blit .last) (a .word) (a .self .blit .taken) _ (k .decode-clip .ensures) (k .before .decode-feed .ensures)
+    let a = k .before .before .before .before .args in
+    plain-word-drawn (a .bank .regs) (a .bank .pattern) (a .mem .now) (a .blit .last) (a .word) (a .blit .taken) _ (k .decode-clip .ensures) (k .before .decode-feed .ensures)
     (c .before .before .before .before .before .before .is-plain .ensures) (c .before .before .before .before .before .if1 .taken) (c .before .before .before .before .decode-plain .ensures)
     (c .before .before .plain-word .ensures)
 
@@ -42,8 +42,8 @@ decode-ink-requires c κs = search needs
 host-word-requires : tie.Need-host-word-requires
 host-word-requires c κs =
     let k = c .before .before .before .before .before in
-    let b = k .before .before .before .before .before in
-    word-ready (b .args .self .bank .regs) (length (b .args .mem .now)) (k .decode-clip .ensures) (k .before .decode-feed .ensures) (b .pre .fine) (b .pre .more)
+    let b = k .before .before .before .before in
+    word-ready (b .args .bank .regs) (length (b .args .mem .now)) (k .decode-clip .ensures) (k .before .decode-feed .ensures) (b .pre .fine) (b .pre .more)
     (c .before .before .decode-ink .ensures)
 
 same-length-2 : tie.Need-same-length-2
@@ -52,8 +52,8 @@ same-length-2 c = search needs
 returns-2 : tie.Need-returns-2
 returns-2 c =
     let k = c .before .before .before .before .before .before .before .before in
-    let a = k .before .before .before .before .before .args in
-    word-drawn (a .self .bank .regs) (a .self .bank .pattern) (a .mem .now) (a .self .blit .last) (a .word) (a .self .blit .taken) _ (k .decode-clip .ensures) (k .before .decode-feed .ensures)
+    let a = k .before .before .before .before .args in
+    word-drawn (a .bank .regs) (a .bank .pattern) (a .mem .now) (a .blit .last) (a .word) (a .blit .taken) _ (k .decode-clip .ensures) (k .before .decode-feed .ensures)
     (c .before .before .before .before .before .decode-ink .ensures) (c .before .before .host-word .ensures)
 
 pub paint-word-spec : {M : Type 1} → statement M

@@ -1,0 +1,105 @@
+-- How a function's outcome is the definition's: a refusal, a command carried out, and the painters' conditions from the verdict.
+-- Assumes nothing.
+use mathlib.Core.Path.{_≡_, refl, sym, ap, ap₂, subst⁻¹, _∙_}
+use mathlib.Core.Bool.{Bool, true, false, false≢true}
+use mathlib.Core.List.{List, []}
+use Prim.Native.Nat.{ℕ, _<_}
+use native.Mathlib.Omega.{arith}
+use borrow.Author.Tests.{ne-eqb}
+use Rattle.surface.specs.Pixels.{rect}
+use Rattle.sweep.specs.declared.Task.{Task}
+use Rattle.ink.specs.declared.Ink.{Ink}
+use Rattle.paint.specs.declared.Clip.{Clip}
+use Rattle.paint.specs.Paint.{State, state, paint}
+use Rattle.sweep.specs.Copy.{asBefore, CanPaint, Orderly}
+use Rattle.line.specs.declared.Line.{Line}
+use Rattle.line.specs.Draw.{Drawable}
+use Rattle.host.specs.declared.Feed.{Feed}
+use Rattle.bits.specs.declared.Plain.{Plain}
+use Rattle.host.specs.Host.{wordsOf, byWord, Sizes}
+use Rattle.host.specs.Draw.{hostTouches, drawn, Opened, Waits}
+use Rattle.plain.specs.Plain.{plainInk}
+use Rattle.plain.proofs.PlainLaws.{plain-drawn, plain-waits}
+use Rattle.registers.specs.declared.Regs.{Regs}
+use Rattle.bank.specs.declared.Bank.{Bank}
+use Rattle.cuts.specs.declared.Cut.{Cut}
+use Rattle.command.specs.Decode.{target, inkOf, plainBlit, plainOf, fillTask, copyTask, lineOf, feedOf}
+use Rattle.cuts.specs.Cut.{clipOf, fillCut, copyCut, covered}
+use Rattle.table.specs.Table.{fillVerdict, copyVerdict, lineVerdict, hostVerdict}
+use Rattle.table.proofs.Verdicts.{fill-can, copy-can, copy-orderly, line-can, host-can, feed-sizes, words-few, plain-ink}
+use Rattle.acts.specs.declared.Blit.{Blit}
+use Rattle.acts.specs.Deed.{Made, made, Deed, judged}
+
+-- ---- a verdict, and what follows from it
+module _ (d : Deed) (b : Bank) (k : Blit) (m : List ℕ) (u : ℕ) (e : u ≡ d .verdict) where
+  pub judged-no : (u ≡ 0 → ⊥) → record { verdict = u; makes = made b k (state m 0) } ≡ judged d b k m
+  unfolding judged
+  judged-no n = rw (← e, ne-eqb u 0 n)
+
+  pub judged-yes : (x : Made) → u ≡ 0 → x ≡ d .makes → record { verdict = 0; makes = x } ≡ judged d b k m
+  unfolding judged
+  judged-yes x z h = rw (← e, z, h)
+
+pub carried-out : {b b′ : Bank} {st : State} {m : List ℕ} {n : ℕ} (k : Blit) → b′ ≡ b → state m n ≡ st → made b′ k (state m n) ≡ made b k st
+carried-out k p q = ap₂ (λ (b : Bank) (st : State). made b k st) p q
+
+-- ---- rectangles
+pub painted-as : {t T : Task} {c C : Cut} (pattern m : List ℕ) {st : State} → t ≡ T → c ≡ C → T .x ≡ C .x → T .y ≡ C .y
+    → st ≡ paint (t .ink .target) (asBefore t pattern m (rect false false (t .x) (t .y) (c .w) (c .h))) (state m 0)
+    → st ≡ paint (T .ink .target) (asBefore T pattern m (covered C)) (state m 0)
+painted-as {t} {T} {c} {C} pattern m e f x y p =
+    p ∙ ap₂ (λ (t : Task) (c : Cut). paint (t .ink .target) (asBefore t pattern m (rect false false (t .x) (t .y) (c .w) (c .h))) (state m 0)) e f
+    ∙ ap₂ (λ (i j : ℕ). paint (T .ink .target) (asBefore T pattern m (rect false false i j (C .w) (C .h))) (state m 0)) x y
+
+abbrev pub CanRect : Task → Cut → ℕ → Type 0
+CanRect t c len = CanPaint t (c .w) (c .h) len × (t .copies ≡ true → Orderly t (c .w) (c .h))
+
+rect-ready : {t T : Task} {c C : Cut} {len : ℕ} → t ≡ T → c ≡ C → CanRect T C len → CanRect t c len
+rect-ready {t} {T} {c} {C} {len} e f h = subst⁻¹ (λ (t : Task). CanRect t c len) e (subst⁻¹ (λ (c : Cut). CanRect T c len) f h)
+
+pub fill-ready : (r : Regs) (len : ℕ) {t : Task} {c : Cut} {v : ℕ} → t ≡ fillTask r → c ≡ fillCut r → v ≡ fillVerdict r len → v ≡ 0 → CanRect t c len
+unfolding fillTask
+fill-ready r len e f g z = rect-ready e f (fill-can r len (sym g ∙ z), λ c. absurd (false≢true c))
+
+pub copy-ready : (r : Regs) (len : ℕ) {t : Task} {c : Cut} {v : ℕ} → t ≡ copyTask r → c ≡ copyCut r → v ≡ copyVerdict r len → v ≡ 0 → CanRect t c len
+copy-ready r len e f g z = rect-ready e f (copy-can r len (sym g ∙ z), λ c. copy-orderly r len (sym g ∙ z))
+
+-- ---- lines
+pub line-ready : (r : Regs) (len : ℕ) {i : Ink} {c : Clip} {l : Line} {v : ℕ} → i ≡ inkOf r → c ≡ clipOf r → l ≡ lineOf r → v ≡ lineVerdict r len → v ≡ 0
+    → Drawable (i .target) len c l
+unfolding inkOf
+line-ready r len {i} {c} {l} e f g h z =
+    subst⁻¹ (λ (i : Ink). Drawable (i .target) len c l) e
+    (subst⁻¹ (λ (c : Clip). Drawable (target r) len c l) f (subst⁻¹ (λ (l : Line). Drawable (target r) len (clipOf r) l) g (line-can r len (sym h ∙ z))))
+
+-- ---- host blits
+pub feed-ready : (r : Regs) {f : Feed} → f ≡ feedOf r → Sizes f
+feed-ready r e = subst⁻¹ Sizes e (feed-sizes r)
+
+module _ (r : Regs) (len : ℕ) {c : Clip} {f : Feed} {taken : ℕ} (q : c ≡ clipOf r) (e : f ≡ feedOf r) (fine : hostVerdict r len ≡ 0) (more : taken < wordsOf (feedOf r)) where
+  pub word-ready : {i : Ink} → i ≡ inkOf r → Waits i c f len taken
+  word-ready {i} p =
+      let open′ = host-can r len fine (omega arith) in
+      record {
+        opened = subst⁻¹ (λ (i : Ink). Opened i c f len) p (subst⁻¹ (λ (c : Clip). Opened (inkOf r) c f len) q (subst⁻¹ (λ (f : Feed). Opened (inkOf r) (clipOf r) f len) e open′));
+        few = omega (arith, words-few r);
+      }
+
+  pub plain-ready : {b : Bool} {p : Plain} → b ≡ plainBlit r → b ≡ true → p ≡ plainOf r → Waits (plainInk p) c f len taken
+  plain-ready g t h = subst⁻¹ (λ (p : Plain). Waits (plainInk p) c f len taken) h (plain-waits (plain-ink r (sym g ∙ t)) (word-ready refl))
+
+-- the pixels of a word, drawn by what was decoded
+module _ (r : Regs) (pattern m : List ℕ) {c : Clip} {f : Feed} (last word taken : ℕ) (st : State) (q : c ≡ clipOf r) (e : f ≡ feedOf r) where
+  pub word-drawn : {i : Ink} → i ≡ inkOf r → st ≡ drawn i pattern c f (byWord f last word taken) (state m 0)
+      → st ≡ paint (target r) (hostTouches (inkOf r) pattern (clipOf r) (feedOf r) (byWord (feedOf r) last word taken)) (state m 0)
+  unfolding inkOf
+  word-drawn p d =
+      d ∙ ap₂ (λ (i : Ink) (k : Clip). drawn i pattern k f (byWord f last word taken) (state m 0)) p q
+      ∙ ap (λ (f : Feed). drawn (inkOf r) pattern (clipOf r) f (byWord f last word taken) (state m 0)) e
+
+  pub plain-word-drawn : {b : Bool} {p : Plain} → b ≡ plainBlit r → b ≡ true → p ≡ plainOf r → st ≡ drawn (plainInk p) [] c f (byWord f last word taken) (state m 0)
+      → st ≡ paint (target r) (hostTouches (inkOf r) pattern (clipOf r) (feedOf r) (byWord (feedOf r) last word taken)) (state m 0)
+  plain-word-drawn g t h d =
+      word-drawn refl
+      (d ∙ ap (λ (p : Plain). drawn (plainInk p) [] c f (byWord f last word taken) (state m 0)) h
+      ∙ plain-drawn (inkOf r) (plainOf r) (plain-ink r (sym g ∙ t)) pattern c f (byWord f last word taken) (state m 0))

@@ -1,0 +1,54 @@
+-- `acts::copy` meets its contract: refused by the verdict, or painted.
+-- Assumes nothing.
+use borrow.Author.Needs.{needs}
+use mathlib.Core.Path.{refl}
+use lib.ListN.{length}
+use Rattle.command.specs.Decode.{inkOf, copyTask}
+use Rattle.acts.proofs.Laws.{judged-no, judged-yes, carried-out, painted-as, copy-ready}
+use Rattle.acts.proofs.copy.Statement.{statement}
+use Rattle.acts.proofs.copy.Tie as tie
+
+copy-verdict-requires : tie.Need-copy-verdict-requires
+copy-verdict-requires c κs = search needs
+
+returns : tie.Need-returns
+returns c =
+    let a = (c .before .before .before .before .args) in
+    judged-no _ (a .bank) (a .blit) (a .mem .now) (c .before .copy-verdict .result) (c .before .copy-verdict .ensures) (c .if1 .taken)
+
+copy-cut-requires : tie.Need-copy-cut-requires
+copy-cut-requires c κs = search needs
+
+copy-task-requires : tie.Need-copy-task-requires
+copy-task-requires c κs = search needs
+
+paint-rect-requires : tie.Need-paint-rect-requires
+paint-rect-requires c κs =
+    let a = (c .before .before .before .before .before .before .before .before .args) in
+    copy-ready (a .bank .regs) (length (a .mem .now)) (c .before .before .copy-task .ensures) (c .before .before .before .copy-cut .ensures) (c .before .before .before .before .before .copy-verdict .ensures) (c .before .before .before .before .if1 .left)
+
+end-rect-requires : tie.Need-end-rect-requires
+end-rect-requires c κs = search needs
+
+same-length : tie.Need-same-length
+same-length c = search needs
+
+returns-2 : tie.Need-returns-2
+unfolding copyTask inkOf
+returns-2 c =
+    let a = (c .before .before .before .before .before .before .before .before .before .before .before .before .args) in
+    judged-yes _ (a .bank) (a .blit) (a .mem .now) (c .before .before .before .before .before .before .before .before .before .copy-verdict .result) (c .before .before .before .before .before .before .before .before .before .copy-verdict .ensures) _ (c .before .before .before .before .before .before .before .before .if1 .left)
+    (carried-out (a .blit) (c .end-rect .ensures) (painted-as (a .bank .pattern) (a .mem .now) (c .before .before .before .before .before .before .copy-task .ensures) (c .before .before .before .before .before .before .before .copy-cut .ensures) refl refl (c .before .before .before .paint-rect .ensures)))
+
+pub copy-spec : {M : Type 1} → statement M
+copy-spec =
+    tie.close
+    (tie.spec
+    copy-verdict-requires
+    returns
+    copy-cut-requires
+    copy-task-requires
+    paint-rect-requires
+    end-rect-requires
+    same-length
+    returns-2)

@@ -1,0 +1,94 @@
+-- `acts::feed` meets its contract: refused by the verdict, past the last word, or painted.
+-- Assumes nothing.
+use borrow.Author.Needs.{needs}
+use mathlib.Core.Path.{sym, ap, _∙_}
+use native.Mathlib.Omega.{arith}
+use borrow.Author.Tests.{lt-ltb, le-ltb}
+use Rattle.host.specs.Host.{wordsOf}
+use Rattle.acts.proofs.Laws.{judged-no, judged-yes, feed-ready}
+use Rattle.acts.proofs.feed.Statement.{statement}
+use Rattle.acts.proofs.feed.Tie as tie
+
+host-verdict-requires : tie.Need-host-verdict-requires
+host-verdict-requires c κs = search needs
+
+returns : tie.Need-returns
+returns c =
+    let a = (c .before .before .before .before .args) in
+    judged-no _ (a .bank) (a .blit) (a .mem .now) (c .before .host-verdict .result) (c .before .host-verdict .ensures) (c .if1 .taken)
+
+decode-feed-requires : tie.Need-decode-feed-requires
+decode-feed-requires c κs = search needs
+
+words-needed-requires : tie.Need-words-needed-requires
+words-needed-requires c κs = feed-ready (c .before .before .before .before .before .args .bank .regs) (c .decode-feed .ensures)
+
+end-rect-requires : tie.Need-end-rect-requires
+end-rect-requires c κs = search needs
+
+no-blit-requires : tie.Need-no-blit-requires
+no-blit-requires c κs = search needs
+
+returns-2 : tie.Need-returns-2
+returns-2 c =
+    let a = (c .before .before .before .before .before .before .before .before .before .args) in
+    judged-yes _ (a .bank) (a .blit) (a .mem .now) (c .before .before .before .before .before .before .host-verdict .result) (c .before .before .before .before .before .before .host-verdict .ensures) _ (c .before .before .before .before .before .if1 .left)
+    (rw (← (c .before .before .before .before .decode-feed .ensures), ← (c .before .before .before .words-needed .ensures), le-ltb _ _ (c .before .before .if2 .taken), (c .before .end-rect .ensures), (c .no-blit .ensures)))
+
+paint-word-requires : tie.Need-paint-word-requires
+paint-word-requires c κs =
+    record {
+      fine = sym (c .before .before .before .before .before .host-verdict .ensures) ∙ (c .before .before .before .before .if1 .left);
+      more = omega (arith, (c .before .before .words-needed .ensures) ∙ ap wordsOf (c .before .before .before .decode-feed .ensures), (c .before .if2 .left));
+    }
+
+add-if3 : tie.Need-add-if3
+add-if3 c = search needs
+
+add-t18 : tie.Need-add-t18
+add-t18 c = search needs
+
+same-length : tie.Need-same-length
+same-length c = search needs
+
+returns-3 : tie.Need-returns-3
+returns-3 c =
+    let a = (c .before .before .before .before .before .before .before .before .before .before .before .before .args) in
+    judged-yes _ (a .bank) (a .blit) (a .mem .now) (c .before .before .before .before .before .before .before .before .before .host-verdict .result) (c .before .before .before .before .before .before .before .before .before .host-verdict .ensures) _ (c .before .before .before .before .before .before .before .before .if1 .left)
+    (rw ((c .before .before .before .paint-word .ensures), ← (c .before .before .before .before .before .before .before .decode-feed .ensures), ← (c .before .before .before .before .before .before .words-needed .ensures), lt-ltb _ _ (c .before .before .before .before .before .if2 .left), lt-ltb _ _ (c .if3 .taken)))
+
+end-rect-requires-2 : tie.Need-end-rect-requires-2
+end-rect-requires-2 c κs = search needs
+
+no-blit-requires-2 : tie.Need-no-blit-requires-2
+no-blit-requires-2 c κs = search needs
+
+same-length-2 : tie.Need-same-length-2
+same-length-2 c = search needs
+
+returns-4 : tie.Need-returns-4
+returns-4 c =
+    let a = (c .before .before .before .before .before .before .before .before .before .before .before .before .before .before .args) in
+    judged-yes _ (a .bank) (a .blit) (a .mem .now) (c .before .before .before .before .before .before .before .before .before .before .before .host-verdict .result) (c .before .before .before .before .before .before .before .before .before .before .before .host-verdict .ensures) _ (c .before .before .before .before .before .before .before .before .before .before .if1 .left)
+    (rw ((c .before .before .before .before .before .paint-word .ensures), ← (c .before .before .before .before .before .before .before .before .before .decode-feed .ensures), ← (c .before .before .before .before .before .before .before .before .words-needed .ensures), lt-ltb _ _ (c .before .before .before .before .before .before .before .if2 .left), le-ltb _ _ (c .before .before .if3 .left), (c .before .end-rect2 .ensures), (c .no-blit2 .ensures)))
+
+pub feed-spec : {M : Type 1} → statement M
+feed-spec =
+    tie.close
+    (tie.spec
+    host-verdict-requires
+    returns
+    decode-feed-requires
+    words-needed-requires
+    end-rect-requires
+    no-blit-requires
+    returns-2
+    paint-word-requires
+    add-if3
+    add-t18
+    same-length
+    returns-3
+    end-rect-requires-2
+    no-blit-requires-2
+    same-length-2
+    returns-4)

@@ -1,0 +1,54 @@
+-- `acts::fill` meets its contract: refused by the verdict, or painted.
+-- Assumes nothing.
+use borrow.Author.Needs.{needs}
+use mathlib.Core.Path.{refl}
+use lib.ListN.{length}
+use Rattle.command.specs.Decode.{inkOf, fillTask}
+use Rattle.acts.proofs.Laws.{judged-no, judged-yes, carried-out, painted-as, fill-ready}
+use Rattle.acts.proofs.fill.Statement.{statement}
+use Rattle.acts.proofs.fill.Tie as tie
+
+fill-verdict-requires : tie.Need-fill-verdict-requires
+fill-verdict-requires c κs = search needs
+
+returns : tie.Need-returns
+returns c =
+    let a = (c .before .before .before .before .args) in
+    judged-no _ (a .bank) (a .blit) (a .mem .now) (c .before .fill-verdict .result) (c .before .fill-verdict .ensures) (c .if1 .taken)
+
+fill-cut-requires : tie.Need-fill-cut-requires
+fill-cut-requires c κs = search needs
+
+fill-task-requires : tie.Need-fill-task-requires
+fill-task-requires c κs = search needs
+
+paint-rect-requires : tie.Need-paint-rect-requires
+paint-rect-requires c κs =
+    let a = (c .before .before .before .before .before .before .before .before .args) in
+    fill-ready (a .bank .regs) (length (a .mem .now)) (c .before .before .fill-task .ensures) (c .before .before .before .fill-cut .ensures) (c .before .before .before .before .before .fill-verdict .ensures) (c .before .before .before .before .if1 .left)
+
+end-rect-requires : tie.Need-end-rect-requires
+end-rect-requires c κs = search needs
+
+same-length : tie.Need-same-length
+same-length c = search needs
+
+returns-2 : tie.Need-returns-2
+unfolding fillTask inkOf
+returns-2 c =
+    let a = (c .before .before .before .before .before .before .before .before .before .before .before .before .args) in
+    judged-yes _ (a .bank) (a .blit) (a .mem .now) (c .before .before .before .before .before .before .before .before .before .fill-verdict .result) (c .before .before .before .before .before .before .before .before .before .fill-verdict .ensures) _ (c .before .before .before .before .before .before .before .before .if1 .left)
+    (carried-out (a .blit) (c .end-rect .ensures) (painted-as (a .bank .pattern) (a .mem .now) (c .before .before .before .before .before .before .fill-task .ensures) (c .before .before .before .before .before .before .before .fill-cut .ensures) refl refl (c .before .before .before .paint-rect .ensures)))
+
+pub fill-spec : {M : Type 1} → statement M
+fill-spec =
+    tie.close
+    (tie.spec
+    fill-verdict-requires
+    returns
+    fill-cut-requires
+    fill-task-requires
+    paint-rect-requires
+    end-rect-requires
+    same-length
+    returns-2)
