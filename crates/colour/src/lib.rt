@@ -127,13 +127,39 @@ fn widen6(n: u32) -> u32
     wide(WIDEN6[(n % 64) as usize])
 }
 
-// A pixel of 2 bytes as one of 3.
+// A pixel of 2 bytes as one of 3, by the tables.
 pub fn widen(v: u32) -> u32
     ensures { λ r. ⌜ r ≡ widened v ⌝ }
 {
     let red = widen5(v / 2048);
     let green = widen6(v / 32);
     let blue = widen5(v);
+    red * 65536 + green * 256 + blue
+}
+
+// The low five bits of n, widened to eight with no table.
+fn repeat5(n: u32) -> u32
+    ensures { λ r. ⌜ r ≡ repeated 5 (n % 32) ⌝ }
+{
+    let bits = n % 32;
+    bits * 8 + bits / 4
+}
+
+// The low six bits of n, widened to eight with no table.
+fn repeat6(n: u32) -> u32
+    ensures { λ r. ⌜ r ≡ repeated 6 (n % 64) ⌝ }
+{
+    let bits = n % 64;
+    bits * 4 + bits / 16
+}
+
+// A pixel of 2 bytes as one of 3, with no table: an array is put on the stack at each call, which takes longer than the rule.
+fn widen_by_rule(v: u32) -> u32
+    ensures { λ r. ⌜ r ≡ widened v ⌝ }
+{
+    let red = repeat5(v / 2048);
+    let green = repeat6(v / 32);
+    let blue = repeat5(v);
     red * 65536 + green * 256 + blue
 }
 
@@ -152,7 +178,7 @@ pub fn convert(from: u32, to: u32, v: u32) -> u32
         return v;
     }
     if from == 2 {
-        return widen(v);
+        return widen_by_rule(v);
     }
     if to == 2 {
         return narrow(v);

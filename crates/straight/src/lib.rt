@@ -4,7 +4,6 @@ ghost use mathlib.Core.Path.{_≡_};
 ghost use mathlib.Core.Bool.{true, false};
 ghost use Prim.Native.Nat.{_+_, _*_, _%_, _^_, _<_};
 ghost use lib.ListN.{length};
-ghost use Rattle.colour.specs.Convert.{repeated, widened, narrowed, converted};
 ghost use Rattle.surface.specs.Pixels.{rect};
 ghost use Rattle.paint.specs.Paint.{state, paint, nth};
 ghost use Rattle.straight.specs.Straight.{keyed, straightly, copied, CanCopy, RowCopies, RunAt, PixelCopies, RowCopied};
@@ -20,55 +19,6 @@ pub struct Straight {
     pub y: u32,
     pub sx: u32,
     pub sy: u32,
-}
-
-// The low five bits of n, widened to eight.
-fn repeat5(n: u32) -> u32
-    ensures { λ r. ⌜ r ≡ repeated 5 (n % 32) ⌝ }
-{
-    let bits = n % 32;
-    bits * 8 + bits / 4
-}
-
-// The low six bits of n, widened to eight.
-fn repeat6(n: u32) -> u32
-    ensures { λ r. ⌜ r ≡ repeated 6 (n % 64) ⌝ }
-{
-    let bits = n % 64;
-    bits * 4 + bits / 16
-}
-
-// A pixel of 2 bytes as one of 3.
-fn widen_by_rule(v: u32) -> u32
-    ensures { λ r. ⌜ r ≡ widened v ⌝ }
-{
-    let red = repeat5(v / 2048);
-    let green = repeat6(v / 32);
-    let blue = repeat5(v);
-    red * 65536 + green * 256 + blue
-}
-
-// A pixel of 3 or 4 bytes as one of 2.
-fn narrow_by_rule(v: u32) -> u32
-    ensures { λ r. ⌜ r ≡ narrowed v ⌝ }
-{
-    v / 65536 % 256 / 8 * 2048 + v / 256 % 256 / 4 * 32 + v % 256 / 8
-}
-
-// A pixel's value in another format, with no table.
-fn convert_by_rule(from: u32, to: u32, v: u32) -> u32
-    ensures { λ r. ⌜ r ≡ converted from to v ⌝ }
-{
-    if from == to {
-        return v;
-    }
-    if from == 2 {
-        return widen_by_rule(v);
-    }
-    if to == 2 {
-        return narrow_by_rule(v);
-    }
-    v % 16777216
 }
 
 // Whether a source value matches the key, if there is one.
@@ -99,7 +49,7 @@ fn straight_pixel(mem: &mut [u8], t: Straight, from: u32, to: u32, d: usize, s: 
     if is_keyed(t, from, v) {
         return;
     }
-    surface::put_bytes(mem, d, to, convert_by_rule(from, to, v));
+    surface::put_bytes(mem, d, to, colour::convert(from, to, v));
 }
 
 // The w pixels of row j, of `to` bytes each from d on, and their sources, of `from` bytes each from s on, after n that were written: from the left.
