@@ -1,11 +1,10 @@
 -- Laws of pixels from bits: one pixel, a turn of each loop, and a byte read once for all its pixels.
 -- Assumes nothing.
-use mathlib.Core.Path.{_≡_, refl, sym, ap, ap₂, _∙_}
+use mathlib.Core.Path.{_≡_, refl, sym, ap, _∙_}
 use mathlib.Core.Bool.{Bool, true, false, cond, _&&_}
 use mathlib.Core.List.{List}
 use mathlib.Core.Option.{Option, none, some}
 use Prim.Native.Nat.{ℕ, _+_, _-_, _*_, _/_, _%_, _^_, _<_, _≤_}
-use native.Mathlib.Nat.{add-mul}
 use native.Mathlib.Decide.{ℕ-discrete}
 use native.Mathlib.Omega.{arith}
 use lib.Dec.{eqb}
@@ -14,8 +13,7 @@ use borrow.Author.Tests.{eq-eqb, ne-eqb}
 use Rattle.surface.specs.declared.Surface.{Surface}
 use Rattle.surface.specs.Place.{byteAt, byteOf, monoBit, writeBytes, Held}
 use Rattle.surface.specs.Pixels.{Px, px, across}
-use Rattle.surface.proofs.Rows.{byteAt-run}
-use Rattle.surface.proofs.Run.{pixel-held}
+use Rattle.surface.proofs.Run.{pixel-held, run-pixel}
 use Rattle.surface.proofs.Rects.{same-px, in-across}
 use Rattle.surface.proofs.Lists.{In, by-cases}
 use Rattle.spans.proofs.Spans.{IsByte}
@@ -54,23 +52,17 @@ bit-given bit fore back clear h = by-cases (ℕ-discrete bit 1) (λ e. rw e (one
     none-of true = refl
     none-of false = refl
 
--- ---- where a pixel of the row begins
-pub pixel-place : (s : Surface) (x y i : ℕ) → byteOf s x y 0 + i * s .bytes ≡ byteOf s (x + i) y 0
-unfolding byteOf
-pixel-place s x y i =
-    let p : x * s .bytes + 0 + i * s .bytes ≡ (x + i) * s .bytes + 0 = rw (add-mul x i (s .bytes)) (omega arith) in
-    sym (byteAt-run s (x * s .bytes + 0) (i * s .bytes) y) ∙ ap (λ (c : ℕ). byteAt s c y) p
-
+-- ---- a pixel of the row, by where it begins
 pub run-held : (s : Surface) (len x y m count i n at : ℕ) → RowOn s len x m y count → i < m → n ≡ s .bytes → at ≡ byteOf s x y 0 → Held (at + i * n) n len
 run-held s len x y m count i n at row h e a =
-    rw (e, a) (pixel-held (row .on (x + i) (omega arith) (omega arith)) (byteOf s x y 0 + i * s .bytes) (pixel-place s x y i))
+    rw e (pixel-held (row .on (x + i) (omega arith) (omega arith)) (at + i * s .bytes) (run-pixel s x y at a i))
 
 pub bit-turn : (p : Plain) (byte k x y i n at : ℕ) (st st′ : State) → n ≡ p .target .bytes → at ≡ byteOf (p .target) x y 0
     → st′ ≡ dabAt (at + i * n) n (coloured p (bitOf byte (k + i))) st → st′ ≡ dab (p .target) (px (x + i) y) (coloured p (bitOf byte (k + (x + i - x)))) st
 bit-turn p byte k x y i n at st st′ e a d =
     let z : x + i - x ≡ i = omega arith in
-    d ∙ ap₂ (λ (b c : ℕ). dabAt (c + i * b) b (coloured p (bitOf byte (k + i))) st) e a
-    ∙ dab-at (p .target) (px (x + i) y) (byteOf (p .target) x y 0 + i * p .target .bytes) (coloured p (bitOf byte (k + i))) st (pixel-place (p .target) x y i)
+    d ∙ ap (λ (b : ℕ). dabAt (at + i * b) b (coloured p (bitOf byte (k + i))) st) e
+    ∙ dab-at (p .target) (px (x + i) y) (at + i * p .target .bytes) (coloured p (bitOf byte (k + i))) st (run-pixel (p .target) x y at a i)
     ∙ ap (λ (c : ℕ). dab (p .target) (px (x + i) y) (coloured p (bitOf byte (k + c))) st) (sym z)
 
 -- ---- a byte read once

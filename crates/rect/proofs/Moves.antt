@@ -14,6 +14,7 @@ use Rattle.surface.specs.Pixels.{Px, px, Inside}
 use Rattle.surface.proofs.Lists.{by-cases}
 use Rattle.surface.proofs.OnLaws.{colour-byte, on-column}
 use Rattle.surface.proofs.Rects.{Past}
+use Rattle.surface.proofs.Run.{run-byte}
 use Rattle.spans.proofs.Spans.{IsByte}
 use Rattle.sweep.specs.declared.Task.{Task}
 use Rattle.sweep.specs.Copy.{sourcePlace, backward}
@@ -24,7 +25,7 @@ use Rattle.paint.proofs.Owners.{byte-of}
 use Rattle.sweep.proofs.TaskLaws.{can-pixel}
 use Rattle.rect.proofs.Order.{not-read, own-byte}
 use Rattle.rect.proofs.Plain.{PlainCopy, plainly-plain}
-use Rattle.runs.proofs.Runs.{run-byte, run-column, run-place, given-row}
+use Rattle.runs.proofs.Runs.{run-column, run-place, given-row}
 
 -- ---- the rows that are done after j turns, j of them
 abbrev pub doneTop : Bool → ℕ → ℕ → ℕ → ℕ
@@ -155,7 +156,7 @@ module _ {t : Task} {w h len : ℕ} {back : Bool} (mv : Moves t w h len back) wh
       values c k lc lk =
           let q = px (t .x + c) y in
           let at : fromRow t y + (c * t .ink .target .bytes + k) ≡ byteOf (t .from) (sourcePlace t q .x) (sourcePlace t q .y) k =
-          ap (λ (b : ℕ). fromRow t y + (c * b + k)) (sym same-bytes) ∙ run-byte (t .from) (source-colour .some) (t .sx) (t .sy + (y - t .y)) c k
+          ap (λ (b : ℕ). fromRow t y + (c * b + k)) (sym same-bytes) ∙ run-byte (t .from) (t .sx) (t .sy + (y - t .y)) (fromRow t y) refl c k
           ∙ ap (λ (r : Px). byteOf (t .from) (r .x) (r .y) k) (sym (source-of y c)) in
           ap (λ (a : ℕ). getD m a 0) at
           ∙ given .others (byteOf (t .from) (sourcePlace t q .x) (sourcePlace t q .y) k) (λ p i k′ l′ f.

@@ -13,10 +13,11 @@ use Rattle.surface.specs.Place.{byteOf, rowPixels, OnColour}
 use Rattle.surface.specs.Pixels.{Px, px, across, rect}
 use Rattle.surface.proofs.OnLaws.{colour-byte, on-column}
 use Rattle.surface.proofs.Pixels.{same-byte}
+use Rattle.surface.proofs.Run.{run-byte}
 use Rattle.paint.specs.Paint.{State, state, paint}
 use Rattle.runs.specs.Runs.{Shifted, Given, evenly, RectOn, Run, Up}
 use Rattle.runs.proofs.Even.{byteNumber, even-given, even-counts}
-use Rattle.runs.proofs.Runs.{run-byte, run-column, run-place, given-row, given-once}
+use Rattle.runs.proofs.Runs.{run-column, run-place, given-row, given-once}
 
 module _ {s : Surface} {len x y w h : ℕ} (on : RectOn s len x y w h) where
   abbrev colour : 0 < s .bytes
@@ -58,7 +59,7 @@ module _ {s : Surface} {len x y w h : ℕ} (on : RectOn s len x y w h) where
         → Shifted (byteOf s x (y + j) 0) (byteOf s x y 0) 0 (w * s .bytes) m m₁ → Given s (byteNumber v) x y w (j + 1) m₀ m₁
     one-row-more j m₀ m m₁ some l given run =
         given-row s colour (byteNumber v) x w (λ c lc. column c j lc l) y j y (y + j) (byteOf s x y 0) m₀ m m₁ (inl (refl, refl)) given run
-        (λ c k lc lk. ap (λ (a : ℕ). getD m a 0) (run-byte s colour x y c k) ∙ given .inside (px (x + c) y) (omega arith) k lk)
+        (λ c k lc lk. ap (λ (a : ℕ). getD m a 0) (run-byte s x y (byteOf s x y 0) refl c k) ∙ given .inside (px (x + c) y) (omega arith) k lk)
 
 -- ---- the first row, and the whole
 module _ (s : Surface) (v x y w h : ℕ) (m : List ℕ) (on : RectOn s (length m) x y w h) (some : 0 < h) where

@@ -10,10 +10,11 @@ use native.Mathlib.Decide.{ℕ-discrete, decLt, decLe}
 use lib.ListN.{length, getD, set, length-set}
 use lib.Seq.{getD-set-same, getD-set-other, ext-getD}
 use Rattle.surface.specs.declared.Surface.{Surface}
-use Rattle.surface.specs.Place.{byteAt, byteOf, rowPixels}
+use Rattle.surface.specs.Place.{byteOf, rowPixels}
 use Rattle.surface.specs.Pixels.{Px, px, Inside}
 use Rattle.surface.proofs.Lists.{by-cases}
 use Rattle.surface.proofs.Pixels.{same-byte}
+use Rattle.surface.proofs.Run.{run-byte}
 use Rattle.surface.proofs.Rects.{same-px}
 use Rattle.runs.specs.Runs.{Shifted, Given}
 
@@ -66,10 +67,6 @@ module _ (d s lo hi i : ℕ) {m₀ m : List ℕ} (k : Shifted d s lo hi m₀ m) 
 
 -- ---- the bytes of a row's pixels are a run
 module _ (s : Surface) (colour : 0 < s .bytes) (x y : ℕ) where
-  pub run-byte : (c k : ℕ) → byteOf s x y 0 + (c * s .bytes + k) ≡ byteOf s (x + c) y k
-  unfolding byteOf byteAt
-  run-byte c k = let e = add-mul x c (s .bytes) in omega (arith, e)
-
   pub run-inside : (w c k : ℕ) → c < w → k < s .bytes → c * s .bytes + k < w * s .bytes
   run-inside w c k h l =
       let e : (c + 1) * s .bytes ≡ c * s .bytes + 1 * s .bytes = add-mul c 1 (s .bytes) in
@@ -81,7 +78,7 @@ module _ (s : Surface) (colour : 0 < s .bytes) (x y : ℕ) where
   run-column w i h = div-lt-iff-lt-mul colour .1 h
 
   pub run-place : (i : ℕ) → byteOf s x y 0 + i ≡ byteOf s (x + i / s .bytes) y (i % s .bytes)
-  run-place i = ap (λ (n : ℕ). byteOf s x y 0 + n) (sym (div-add-mod' i (s .bytes))) ∙ run-byte (i / s .bytes) (i % s .bytes)
+  run-place i = ap (λ (n : ℕ). byteOf s x y 0 + n) (sym (div-add-mod' i (s .bytes))) ∙ run-byte s x y (byteOf s x y 0) refl (i / s .bytes) (i % s .bytes)
 
 -- ---- a rectangle given
 pub given-none : (s : Surface) (byte : Px → ℕ → ℕ) (x y w : ℕ) (m : List ℕ) → Given s byte x y w 0 m m
@@ -106,7 +103,7 @@ module _ (s : Surface) (colour : 0 < s .bytes) (byte : Px → ℕ → ℕ) (x w 
         (λ e. let c = p .x - x in
         let same : px (x + c) y ≡ p = same-px (px (x + c) y) p (omega arith) (sym e) in
         subst (λ (q : Px). getD m₁ (byteOf s (q .x) (q .y) k) 0 ≡ byte q k) same
-        (ap (λ (a : ℕ). getD m₁ a 0) (sym (run-byte s colour x y c k))
+        (ap (λ (a : ℕ). getD m₁ a 0) (sym (run-byte s x y (byteOf s x y 0) refl c k))
         ∙ run .came (c * s .bytes + k) (omega arith) (run-inside s colour x y w c k (omega arith) l) ∙ values c k (omega arith) l))
         (λ n. let old : Inside x top w h p = ⊎-elim (λ r. omega arith) (λ r. omega arith) rows in
         untouched run (byteOf s (p .x) (p .y) k) (λ j _ r e. n (elsewhere p i k l j r e)) ∙ given .inside p old k l);

@@ -9,15 +9,13 @@ use native.Mathlib.Omega.{arith}
 use lib.ListN.{length, getD}
 use lib.Seq.{set-getD}
 use Rattle.colour.specs.Convert.{converted}
-use Rattle.surface.specs.declared.Surface.{Surface}
 use Rattle.surface.specs.Place.{byteOf, readBytes, writeBytes, readPx, writePx, Held}
 use Rattle.surface.specs.Pixels.{Px, px, across}
 use Rattle.surface.proofs.Bytes.{read-fits}
-use Rattle.surface.proofs.Run.{pixel-held, read-run, write-run}
+use Rattle.surface.proofs.Run.{pixel-held, run-pixel, read-run, write-run}
 use Rattle.paint.specs.Paint.{state, touch, dab, paint, nth}
 use Rattle.paint.proofs.Frame.{Bytes}
 use Rattle.paint.proofs.Turns.{row-left, row-whole, row-again, row-ends}
-use Rattle.runs.proofs.Runs.{run-byte}
 use Rattle.straight.specs.declared.Straight.{Straight}
 use Rattle.straight.specs.Straight.{keyed, straightValue, straightGiving, straightly, copied, CanCopy, RowCopies, Formats, PixelCopies, RunAt, RowCopied}
 
@@ -64,10 +62,7 @@ module _ (t : Straight) (from to d s v : ℕ) (m : List ℕ) (formats : Formats 
       p ∙ ap₂ (λ (n i : ℕ). writeBytes (λ k. d + k) 0 n i m) (formats .target)
       (low ∙ ap (λ (i : ℕ). i % 2 ^ 32) (c ∙ ap₂ (λ (f g : ℕ). converted f g v) (formats .source) (formats .target)) ∙ by-key false e)
 
--- ---- where a pixel of a row is
-pub run-at : (s : Surface) (x y a k : ℕ) → 0 < s .bytes → a ≡ byteOf s x y 0 → a + k * s .bytes ≡ byteOf s (x + k) y 0
-run-at s x y a k some e = omega (arith, run-byte s some x y k 0, e)
-
+-- ---- the same, of pixels whose bytes begin there
 copied-px : (t : Straight) (d s x y x′ y′ : ℕ) (m : List ℕ) → d ≡ byteOf (t .target) x y 0 → s ≡ byteOf (t .from) x′ y′ 0
     → copied t d s m ≡ writePx m (t .target) x y (straightValue t (readPx m (t .target) x y) (readPx m (t .from) x′ y′))
 unfolding copied
@@ -83,10 +78,10 @@ nth-from true at n i = omega arith
 -- ---- pixel number k of row j
 module _ {t : Straight} {w j len n from to d s : ℕ} (row : RowCopies t w j len n) (run : RunAt t from to d s j) (k : ℕ) where
   target-at : d + k * to ≡ byteOf (t .target) (t .x + k) (t .y + j) 0
-  target-at = ap (λ (b : ℕ). d + k * b) (run .formats .target) ∙ run-at (t .target) (t .x) (t .y + j) d k (row .target .some) (run .first)
+  target-at = ap (λ (b : ℕ). d + k * b) (run .formats .target) ∙ run-pixel (t .target) (t .x) (t .y + j) d (run .first) k
 
   source-at : s + k * from ≡ byteOf (t .from) (t .sx + k) (t .sy + j) 0
-  source-at = ap (λ (b : ℕ). s + k * b) (run .formats .source) ∙ run-at (t .from) (t .sx) (t .sy + j) s k (row .from .some) (run .sourceFirst)
+  source-at = ap (λ (b : ℕ). s + k * b) (run .formats .source) ∙ run-pixel (t .from) (t .sx) (t .sy + j) s (run .sourceFirst) k
 
   -- its bytes, and its source's, are in memory
   pub pixel-copies : k < w → PixelCopies t from to (d + k * to) (s + k * from) len

@@ -3,7 +3,7 @@
 use mathlib.Core.Path.{_≡_, refl, sym, ap, _∙_}
 use mathlib.Core.Bool.{Bool, true, false}
 use Prim.Native.Nat.{ℕ, zero, suc, _+_, _-_, _*_, _/_, _%_, _^_, _<_, _≤_}
-use native.Mathlib.Nat.{add-mul, mul-le-mul-left, div-add-mod', mod-lt, mod-eq-of-lt}
+use native.Mathlib.Nat.{add-mul, one-mul, mul-le-mul-left, div-add-mod', mod-lt, mod-eq-of-lt}
 use native.Mathlib.Omega.{arith}
 use borrow.Author.Tests.{ltb-true, ltb-false, leb-false}
 use lib.Arith.{digits-div, digits-mod}
@@ -11,6 +11,7 @@ use lib.Dec.{leb, ltb}
 use Rattle.surface.specs.declared.Surface.{Surface}
 use Rattle.surface.specs.Place.{byteAt, byteOf, Small}
 use Rattle.surface.proofs.Rows.{byteAt-small}
+use Rattle.surface.proofs.Run.{run-pixel}
 use Rattle.paint.specs.Clip.{origin}
 use Rattle.line.specs.declared.Point.{Point}
 use Rattle.line.specs.declared.Line.{Line}
@@ -75,8 +76,9 @@ both-sum a d e = omega arith
 
 -- ---- the address of a pixel
 step-right : (s : Surface) (x x′ y : ℕ) → x′ ≡ x + 1 → byteOf s x′ y 0 ≡ byteOf s x y 0 + s .bytes
-unfolding byteOf byteAt
-step-right s x x′ y e = rw e (omega (arith, add-mul x 1 (s .bytes)))
+step-right s x x′ y e =
+    let first = byteOf s x y 0 in
+    ap (λ (c : ℕ). byteOf s c y 0) e ∙ sym (run-pixel s x y first refl 1) ∙ ap (λ (n : ℕ). first + n) (one-mul (s .bytes))
 
 step-down : (s : Surface) (x y y′ : ℕ) → y′ ≡ y + 1 → byteOf s x y′ 0 ≡ byteOf s x y 0 + s .stride
 unfolding byteOf byteAt

@@ -1,5 +1,5 @@
--- What is known elsewhere of the layout: laws of `byteAt` and `rowBytes`. Beside this file and the proof of `byte_at` only the fast paths open them, which
--- need rows that lie in one piece: `Runs` of paint and `WalkLaws` of line; and `Fits` of picture, for the length of a picture.
+-- What is known elsewhere of the layout: laws of `byteAt` and `rowBytes`. Beside this file and the proofs of `byte_at` and `row_pixels` these open them:
+-- `WalkLaws` of strokes, for the step from row to row, and `Fits` of picture, for the length of a picture; and the examples that are worked out.
 -- Assumes nothing.
 use mathlib.Core.Path.{_≡_, sym, ap, _∙_}
 use Prim.Native.Nat.{ℕ, _+_, _*_, _/_, _%_, _^_, _<_, _≤_}

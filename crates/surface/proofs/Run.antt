@@ -1,9 +1,9 @@
--- A pixel's bytes lie one after the other from an address on: read and written at one to four bytes.
+-- A pixel's bytes lie one after the other from an address on, and so do the pixels of a row: read and written at one to four bytes.
 -- Assumes nothing.
 use mathlib.Core.Path.{_≡_, sym, ap, _∙_}
 use mathlib.Core.List.{List}
 use Prim.Native.Nat.{ℕ, _+_, _-_, _*_, _/_, _%_}
-use native.Mathlib.Nat.{add-zero}
+use native.Mathlib.Nat.{add-zero, add-mul}
 use native.Mathlib.Omega.{arith}
 use lib.ListN.{getD, set}
 use Rattle.surface.specs.declared.Surface.{Surface}
@@ -27,6 +27,16 @@ pixel-held {s} {len} {x} {y} on a e =
 module _ (s : Surface) (x y a : ℕ) (e : a ≡ byteOf s x y 0) where
   from : (k : ℕ) → a + k ≡ byteOf s x y k
   from k = ap (λ (b : ℕ). b + k) e ∙ sym (byte-run s x y k)
+
+  -- byte k of pixel number i from there on, and where that pixel begins
+  pub run-byte : (i k : ℕ) → a + (i * s .bytes + k) ≡ byteOf s (x + i) y k
+  unfolding byteOf
+  run-byte i k =
+      let column : x * s .bytes + (i * s .bytes + k) ≡ (x + i) * s .bytes + k = rw (add-mul x i (s .bytes)) (omega arith) in
+      from (i * s .bytes + k) ∙ ap (λ (c : ℕ). byteAt s c y) column
+
+  pub run-pixel : (i : ℕ) → a + i * s .bytes ≡ byteOf s (x + i) y 0
+  run-pixel i = ap (λ (n : ℕ). a + n) (sym (add-zero (i * s .bytes))) ∙ run-byte i 0
 
   pub read-run : (m : List ℕ) → readBytes m (λ k. a + k) 0 (s .bytes) ≡ readPx m s x y
   unfolding readPx

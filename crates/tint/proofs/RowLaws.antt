@@ -12,13 +12,13 @@ use Rattle.surface.specs.declared.Surface.{Surface}
 use Rattle.surface.specs.Place.{byteOf, readBytes, writeBytes, readPx, writePx, OnColour}
 use Rattle.surface.specs.Pixels.{Px, px, across}
 use Rattle.surface.proofs.Bytes.{read-fits}
-use Rattle.surface.proofs.Run.{read-run, write-run}
+use Rattle.surface.proofs.Run.{run-pixel, read-run, write-run}
 use Rattle.surface.proofs.Rects.{in-across}
 use Rattle.surface.proofs.OnLaws.{colour-byte}
 use Rattle.paint.specs.Paint.{State, state, Touch, touch, dab, paint}
 use Rattle.paint.proofs.Turns.{paint-append, paint-same}
 use Rattle.paint.proofs.Frame.{Bytes, paint-bytes}
-use Rattle.runs.proofs.Runs.{run-byte, run-column, run-place}
+use Rattle.runs.proofs.Runs.{run-column, run-place}
 use Rattle.tint.specs.Masking.{ones, masked, byMask, maskIn, tinting, tintings, blended, Sound, CanTint}
 use Rattle.tint.proofs.MaskLaws.{mask-keeps}
 use Rattle.tint.proofs.ByteLaws.{put-back, put-low, blended-append, pixel-blended}
@@ -58,8 +58,6 @@ unfolding paint dab
 write-bytes s x y v m b = paint-bytes s (touch (px x y) (λ now. some v) ∷ []) (state m 0) b
 
 -- ---- the pixels of a row, byte by byte
-one-pixel : (n : ℕ) → 1 * n + 0 ≡ n
-one-pixel n = omega arith
 
 -- how many pixels the w masks from number k on count
 unfoldable pub total : List ℕ → ℕ → ℕ → ℕ
@@ -99,7 +97,7 @@ module _ (s : Surface) (keep flip adds : List ℕ) (first x y : ℕ) (colour : 0
       let next : x + c + 1 ≡ x + (c + 1) = omega arith in
       let more : first + c + 1 ≡ first + (c + 1) = omega arith in
       let table : (first + (c + 1)) * n ≡ k * n + n = ap (λ (u : ℕ). u * n) (sym more) ∙ add-mul k 1 n ∙ ap (λ (u : ℕ). k * n + u) (one-mul n) in
-      let place : byteOf s (x + (c + 1)) y 0 ≡ at + n = ap (λ (u : ℕ). byteOf s u y 0) (sym next) ∙ sym (run-byte s colour (x + c) y 1 0) ∙ ap (λ (u : ℕ). at + u) (one-pixel n) in
+      let place : byteOf s (x + (c + 1)) y 0 ≡ at + n = ap (λ (u : ℕ). byteOf s u y 0) (sym next) ∙ sym (run-pixel s (x + c) y at refl 1) ∙ ap (λ (u : ℕ). at + u) (one-mul n) in
       let bytes : suc w * n ≡ n + w * n = suc-mul w n ∙ add-comm (w * n) n in
       rw (phase, did, next, more, bytes, blended-append keep flip (k * n) at n (w * n) m, ← table, ← place)
       (pixels (c + 1) w (r + getD adds k 0) (blended keep flip (k * n) at n m) (omega arith) (subst Bytes (sym wrote) (write-bytes s (x + c) y value m b))
