@@ -1,12 +1,12 @@
-// What changes memory: one covered pixel. Nothing here knows a register's offset or an answer's number.
+// What changes memory: one covered pixel; and the place whose turn it is, of a row or a column of them. Nothing here knows a register's offset or an answer's number.
 use ink::Ink;
 ghost use mathlib.Core.Path.{_≡_};
 ghost use mathlib.Core.Bool.{false};
-ghost use Prim.Native.Nat.{_+_, _-_, _/_, _<_, _≤_};
+ghost use Prim.Native.Nat.{_+_, _-_, _/_, _^_, _<_, _≤_};
 ghost use lib.ListN.{length};
 ghost use Rattle.surface.specs.Place.{readPx};
 ghost use Rattle.surface.specs.Pixels.{px};
-ghost use Rattle.paint.specs.Paint.{state, dab};
+ghost use Rattle.paint.specs.Paint.{state, dab, nth};
 ghost use Rattle.paint.specs.Mix.{source, colourSource, bitSource, chosen, targetMatch, mixed, Ready, direct, patternless};
 ghost use Rattle.paint.specs.Clip.{inClip, Bits12};
 
@@ -32,6 +32,17 @@ pub fn covers(c: Clip, x: u32, y: u32) -> bool
 {
     ((16384 + c.left <= x) & (x < 16384 + c.right))
         & ((16384 + c.top <= y) & (y < 16384 + c.bottom))
+}
+
+// The place number i of n from `at`: from the low end, or from the high end.
+pub fn place(down: bool, at: u32, n: u32, i: u32) -> u32
+    requires { ⌜ (i < n) × (at + n ≤ 2 ^ 13) ⌝ }
+    ensures { λ r. ⌜ r ≡ nth down at n i ⌝ }
+{
+    if down {
+        return at + (n - 1 - i);
+    }
+    at + i
 }
 
 pub fn colour_source(ink: Ink, bytes: u32, v: u32) -> Source

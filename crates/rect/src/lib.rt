@@ -36,7 +36,7 @@ fn move_rows(mem: &mut [u8], t: Task, w: u32, h: u32, back: bool)
     let n = (w * t.from.bytes) as usize;
     let mut j = 0;
     while j < h {
-        let y = sweep::place(back, t.y, h, j);
+        let y = paint::place(back, t.y, h, j);
         move_row(mem, t, n, y, back);
         j += 1;
     }

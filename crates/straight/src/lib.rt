@@ -2,10 +2,10 @@
 use surface::Surface;
 ghost use mathlib.Core.Path.{_≡_};
 ghost use mathlib.Core.Bool.{true, false};
-ghost use Prim.Native.Nat.{_+_, _*_, _%_, _^_, _<_};
+ghost use Prim.Native.Nat.{_+_, _*_, _^_, _<_};
 ghost use lib.ListN.{length};
 ghost use Rattle.surface.specs.Pixels.{rect};
-ghost use Rattle.paint.specs.Paint.{state, paint, nth};
+ghost use Rattle.paint.specs.Paint.{state, paint};
 ghost use Rattle.straight.specs.Straight.{keyed, straightly, copied, CanCopy, RowCopies, RunAt, PixelCopies, RowCopied};
 
 // What a straight copy needs: the two surfaces, the source key if there is one, and the first pixel of the target and of the source.
@@ -145,17 +145,6 @@ fn straight_row(mem: &mut [u8], t: Straight, w: u32, j: u32, back: bool, n: u32)
     }
 }
 
-// The number of the row whose turn is i, of n: from the top, or from the bottom.
-fn turn(back: bool, n: u32, i: u32) -> u32
-    requires { ⌜ i < n ⌝ }
-    ensures { λ r. ⌜ r ≡ nth back 0 n i ⌝ }
-{
-    if back {
-        return n - 1 - i;
-    }
-    i
-}
-
 // A straight copy, row by row from the upper left corner or from the lower right one; the count of its pixels.
 pub fn straight_rows(mem: &mut [u8], t: Straight, w: u32, h: u32, back: bool) -> u32
     requires { ⌜ CanCopy t w h (length (now mem)) ⌝ }
@@ -164,7 +153,7 @@ pub fn straight_rows(mem: &mut [u8], t: Straight, w: u32, h: u32, back: bool) ->
     let mut n = 0;
     let mut i = 0;
     while i < h {
-        let j = turn(back, h, i);
+        let j = paint::place(back, 0, h, i);
         n = straight_row(mem, t, w, j, back, n);
         i += 1;
     }

@@ -4,11 +4,11 @@ use paint::Source;
 use surface::Surface;
 ghost use mathlib.Core.Path.{_≡_};
 ghost use mathlib.Core.Bool.{false};
-ghost use Prim.Native.Nat.{_+_, _-_, _/_, _^_, _<_, _≤_};
+ghost use Prim.Native.Nat.{_+_, _≤_};
 ghost use lib.ListN.{length};
 ghost use Rattle.surface.specs.Place.{readPx};
 ghost use Rattle.surface.specs.Pixels.{px, across, rect};
-ghost use Rattle.paint.specs.Paint.{state, dab, paint, nth};
+ghost use Rattle.paint.specs.Paint.{state, dab, paint};
 ghost use Rattle.paint.specs.Mix.{source, fillSource, mixed, Ready};
 ghost use Rattle.sweep.specs.Copy.{sourceBy, inTurn, HasSource, RowReady, CanPaint};
 ghost use Rattle.sweep.specs.Row.{inRow};
@@ -63,17 +63,6 @@ fn paint_pixel(mem: &mut [u8], t: Task, pattern: u32, bit: u32, x: u32, y: u32, 
     paint::put_source(mem, ink, pattern, x, y, s, n)
 }
 
-// The place number i of n from `at`: from the low end, or from the high end.
-pub fn place(down: bool, at: u32, n: u32, i: u32) -> u32
-    requires { ⌜ (i < n) × (at + n ≤ 2 ^ 13) ⌝ }
-    ensures { λ r. ⌜ r ≡ nth down at n i ⌝ }
-{
-    if down {
-        return at + (n - 1 - i);
-    }
-    at + i
-}
-
 // The w pixels of row y, from the left or from the right, after n that were written; `values` and `bits` are the pattern's row there.
 fn paint_across(
     mem: &mut [u8],
@@ -92,7 +81,7 @@ fn paint_across(
     let mut r = n;
     let mut i = 0;
     while i < w {
-        let x = place(back, t.x, w, i);
+        let x = paint::place(back, t.x, w, i);
         let column = ink::pattern_column(ink, x);
         let bit = ink::bit_of(bits, column);
         r = paint_pixel(mem, t, values[column as usize], bit, x, y, r);
@@ -124,7 +113,7 @@ pub fn paint_rows(mem: &mut [u8], t: Task, pattern: [u8; 256], w: u32, h: u32, b
     let mut n = 0;
     let mut j = 0;
     while j < h {
-        let y = place(back, t.y, h, j);
+        let y = paint::place(back, t.y, h, j);
         n = paint_row(mem, t, pattern, w, y, back, n);
         j += 1;
     }

@@ -32,8 +32,8 @@ loop-holds c =
       omega arith,
     )
 
-turn-requires : tie.Need-turn-requires Inv-loop μ-loop
-turn-requires c κs = c .loop-test .taken
+place-requires : tie.Need-place-requires Inv-loop μ-loop
+place-requires c κs = (c .loop-test .taken, omega (arith, c .before .before .before .pre .high))
 
 straight-row-requires : tie.Need-straight-row-requires Inv-loop μ-loop
 straight-row-requires c κs =
@@ -41,8 +41,8 @@ straight-row-requires c κs =
     let k = c .before .before .before .loop in
     let p = c .before .before .before .before .before .pre in
     let number = nth-in (a .back) 0 (a .h) (k .i) (c .before .before .loop-test .taken) in
-    let e = c .before .turn .ensures in
-    rw (k .inv .1) (can-row p (c .before .turn .result) (k .n) (omega arith) (omega (arith, p .wide, p .high)))
+    let e = c .before .place .ensures in
+    rw (k .inv .1) (can-row p (c .before .place .result) (k .n) (omega arith) (omega (arith, p .wide, p .high)))
 
 add-i : tie.Need-add-i Inv-loop μ-loop
 add-i c = search needs
@@ -55,7 +55,7 @@ loop-again c =
     let a = c .before .before .before .before .before .before .before .before .args in
     let k = c .before .before .before .before .before .before .loop in
     let p = c .before .before .before .before .before .before .before .before .pre in
-    let j = c .before .before .before .before .turn in (
+    let j = c .before .before .before .before .place in (
       rows-again (a .t .target) (λ p. touch p (λ now. straightGiving (a .t) now p)) (a .back) (a .back) (a .t .x) (a .t .y) (a .w) (a .h) (k .i) (a .t .y + j .result)
           (state (k .mem) (k .n)) _ (c .before .before .before .before .before .loop-test .taken)
           (ap (λ (r : ℕ). a .t .y + r) (j .ensures) ∙ nth-from (a .back) (a .t .y) (a .h) (k .i)) (c .before .before .straight-row .ensures .painted) ∙ k .inv .0,
@@ -81,7 +81,7 @@ straight-rows-spec =
     Inv-loop
     μ-loop
     loop-holds
-    turn-requires
+    place-requires
     straight-row-requires
     add-i
     loop-less

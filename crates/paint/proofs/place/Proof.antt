@@ -1,8 +1,8 @@
--- `sweep::place` meets its contract: by the direction.
+-- `paint::place` meets its contract: by the direction.
 -- Assumes nothing.
 use borrow.Author.Needs.{needs}
-use Rattle.sweep.proofs.place.Statement.{statement}
-use Rattle.sweep.proofs.place.Tie as tie
+use Rattle.paint.proofs.place.Statement.{statement}
+use Rattle.paint.proofs.place.Tie as tie
 
 sub-result : tie.Need-sub-result
 sub-result c = search needs
