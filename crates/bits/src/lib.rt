@@ -97,7 +97,8 @@ pub fn put_bits(
     put_run(mem, p, 4, byte, k, x, y, m, count)
 }
 
-fn least(a: u32, b: u32) -> u32
+// The lesser of two numbers.
+pub fn least(a: u32, b: u32) -> u32
     ensures { λ r. ⌜ r ≡ min a b ⌝ }
 {
     if a < b { a } else { b }

@@ -7,7 +7,7 @@ use surface::Surface;
 ghost use mathlib.Core.Path.{_≡_};
 ghost use mathlib.Core.Bool.{false};
 ghost use mathlib.Core.List.{[], _∷_};
-ghost use Prim.Native.Nat.{_+_, _-_, _*_, _/_, _%_, _^_, _<_, _≤_, min};
+ghost use Prim.Native.Nat.{_+_, _-_, _*_, _/_, _%_, _^_, _<_, _≤_};
 ghost use lib.ListN.{length};
 ghost use Rattle.paint.specs.Paint.{state};
 ghost use Rattle.paint.specs.Mix.{source};
@@ -166,7 +166,7 @@ fn mono_row(
     let mut r = n;
     let mut i = start;
     while i < end {
-        let m = least(8 - i % 8, end - i);
+        let m = bits::least(8 - i % 8, end - i);
         r = mono_part(mem, p, c, feed, last, word, t, j, column, i, m, r);
         i += m;
     }
@@ -227,12 +227,6 @@ fn plain_row(
     colour_row(mem, p, c, feed, last, word, t, j, column, start, end, n)
 }
 
-fn least(a: u32, b: u32) -> u32
-    ensures { λ r. ⌜ r ≡ min a b ⌝ }
-{
-    if a < b { a } else { b }
-}
-
 // What host_word does, for a plain blit: row by row, as far as the word's four bytes go.
 pub fn plain_word(
     mem: &mut [u8],
@@ -255,7 +249,7 @@ pub fn plain_word(
         if feed.height <= j {
             return n;
         }
-        let m = least(step - column, 4 - t);
+        let m = bits::least(step - column, 4 - t);
         n = plain_row(mem, p, c, feed, last, word, t, j, column, m, n);
         column = 0;
         j += 1;
