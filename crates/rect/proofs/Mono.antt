@@ -26,7 +26,7 @@ use Rattle.bits.specs.Bits.{coloured, monoGiving, CanMono}
 use Rattle.sweep.specs.declared.Task.{Task}
 use Rattle.sweep.specs.Copy.{sourcePlace, giving, CanPaint, Orderly}
 use Rattle.rect.specs.Fast.{bitwise, monoOf}
-use Rattle.sweep.proofs.TaskLaws.{can-pixel}
+use Rattle.sweep.proofs.TaskLaws.{can-number}
 use Rattle.rect.proofs.Sources.{mono-source}
 use Rattle.rect.proofs.Order.{between}
 
@@ -75,8 +75,8 @@ can-mono t w h len e can orderly = record {
   mono = is-mono t e;
   sourceWide = can .sourceWide;
   sourceHigh = can .sourceHigh;
-  target = λ i j li lj. can-pixel can (t .x + i) (t .y + j) (inside i j li lj) .0 .on;
-  source = λ i j li lj. rw (← column i, ← row j) (can-pixel can (t .x + i) (t .y + j) (inside i j li lj) .1 .on (copied t e));
+  target = λ i j li lj. can-number can i j li lj .0 .on;
+  source = λ i j li lj. can-number can i j li lj .1 (copied t e);
   apart = λ i l j k li ll lj lk f.
       between t w h len can (λ _. orderly) (mono-apart t w h (is-mono t e) (can .colour .some) orderly) (px (t .x + l) (t .y + j)) (px (t .x + i) (t .y + j)) (inside l j ll lj) (inside i j li lj)
       (byteOf (t .ink .target) (t .x + l) (t .y + j) k) (source-byte i j k l f) (byte-of (t .ink .target) (can .colour .some) (px (t .x + l) (t .y + j)) k lk);

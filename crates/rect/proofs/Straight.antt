@@ -4,8 +4,7 @@ use mathlib.Core.Path.{_≡_, refl, ap, _∙_}
 use mathlib.Core.Bool.{Bool, true, false, cond, not, _&&_, _||_, false≢true}
 use mathlib.Core.List.{List}
 use mathlib.Core.Option.{Option, some}
-use Prim.Native.Nat.{ℕ, _+_, _-_, _%_, _^_, _<_}
-use native.Mathlib.Omega.{arith}
+use Prim.Native.Nat.{ℕ, _+_, _-_, _%_, _^_}
 use lib.Dec.{eqb}
 use borrow.Author.Tests.{eqb-true, eqb-false}
 use Rattle.colour.specs.Convert.{converted}
@@ -13,7 +12,7 @@ use Rattle.keys.specs.Key.{keyMatch}
 use Rattle.raster.specs.Rop.{ropBits}
 use Rattle.raster.proofs.RopLaws.{leaves}
 use Rattle.surface.specs.Place.{readPx, Colour}
-use Rattle.surface.specs.Pixels.{Px, px, Inside}
+use Rattle.surface.specs.Pixels.{Px}
 use Rattle.surface.proofs.OnLaws.{and-left, and-right, pos-of-ne}
 use Rattle.ink.specs.declared.Ink.{Ink}
 use Rattle.paint.specs.declared.Source.{Source}
@@ -24,7 +23,7 @@ use Rattle.straight.specs.Straight.{straightGiving, CanCopy}
 use Rattle.sweep.specs.declared.Task.{Task}
 use Rattle.sweep.specs.Copy.{sourcePlace, giving, CanPaint}
 use Rattle.rect.specs.Fast.{straight, straightOf}
-use Rattle.sweep.proofs.TaskLaws.{can-pixel}
+use Rattle.sweep.proofs.TaskLaws.{can-number}
 use Rattle.rect.proofs.Sources.{colour-source}
 
 -- the source, or what stands there by AA
@@ -75,20 +74,10 @@ module _ (t : Task) (e : straight t ≡ true) where
     from = source-colour;
     wide = can .wide;
     high = can .high;
-    sourceWide = can .sourceWide;
     sourceHigh = can .sourceHigh;
-    onTarget = λ i j li lj. can-pixel can (t .x + i) (t .y + j) (inside i j li lj) .0;
-    onSource = λ i j li lj. record { colour = source-colour; on = rw (← column i, ← row j) (can-pixel can (t .x + i) (t .y + j) (inside i j li lj) .1 .on copied) };
+    onTarget = λ i j li lj. can-number can i j li lj .0;
+    onSource = λ i j li lj. record { colour = source-colour; on = can-number can i j li lj .1 copied };
   }
     where
       source-colour : Colour (t .from)
       source-colour = record { small = can .small; some = pos-of-ne coloured }
-
-      inside : (i j : ℕ) → i < w → j < h → Inside (t .x) (t .y) w h (px (t .x + i) (t .y + j))
-      inside i j li lj = omega arith
-
-      column : (i : ℕ) → t .sx + (t .x + i - t .x) ≡ t .sx + i
-      column i = omega arith
-
-      row : (j : ℕ) → t .sy + (t .y + j - t .y) ≡ t .sy + j
-      row j = omega arith

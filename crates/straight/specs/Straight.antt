@@ -43,7 +43,6 @@ pub record CanCopy (t : Straight) (w h len : ℕ) : Type 0 where
   pub from : Colour (t .from)
   pub wide : t .x + w ≤ 2 ^ 13
   pub high : t .y + h ≤ 2 ^ 13
-  pub sourceWide : t .sx + w ≤ 2 ^ 15
   pub sourceHigh : t .sy + h ≤ 2 ^ 15
   pub onTarget : (i j : ℕ) → i < w → j < h → OnColour (t .target) len (t .x + i) (t .y + j)
   pub onSource : (i j : ℕ) → i < w → j < h → OnColour (t .from) len (t .sx + i) (t .sy + j)

@@ -6,7 +6,7 @@ use mathlib.Core.List.{List}
 use Prim.Native.Nat.{ℕ, _+_, _-_, _/_, _%_, _^_, _<_, _≤_}
 use native.Mathlib.Omega.{arith}
 use lib.ListN.{getD}
-use Rattle.surface.specs.Place.{readPx, OnColour}
+use Rattle.surface.specs.Place.{readPx, onSurface, OnColour}
 use Rattle.surface.specs.Pixels.{Px, px, rect, Inside}
 use Rattle.surface.proofs.Rects.{rect-in}
 use Rattle.spans.proofs.Corner.{all-each}
@@ -50,6 +50,15 @@ can-pixel {t} {w} {h} {len} can x y i = (
         (rect-in false false (t .sx) (t .sy) w h _ (omega arith));
   },
 )
+
+-- the same by its number: pixel i of row j
+pub can-number : {t : Task} {w h len : ℕ} → CanPaint t w h len → (i j : ℕ) → i < w → j < h
+    → OnColour (t .ink .target) len (t .x + i) (t .y + j) × (t .copies ≡ true → onSurface (t .from) len (t .sx + i) (t .sy + j) ≡ true)
+can-number {t} can i j li lj =
+    let pixel = can-pixel can (t .x + i) (t .y + j) (omega arith) in
+    let column : t .sx + (t .x + i - t .x) ≡ t .sx + i = omega arith in
+    let row : t .sy + (t .y + j - t .y) ≡ t .sy + j = omega arith in
+    (pixel .0, λ copies. rw (column, row) at (pixel .1 .on copies))
 
 pub can-row : {t : Task} {w h len : ℕ} → CanPaint t w h len → (y n : ℕ) → t .y ≤ y → y < t .y + h → n + w < 2 ^ 32 → RowReady t w y len n
 can-row {t} {w} {h} {len} can y n top bottom room = record {
