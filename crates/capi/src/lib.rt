@@ -8,20 +8,11 @@ ghost use lib.ListN.{length};
 ghost use Rattle.state.specs.Layout.{stateSize, isState, Bytes};
 ghost use Rattle.capi.specs.Calls.{packedAnswer, call, opening, writtenTo, openedTo, readOf, part, partOf, plainly, Draws};
 
+// An answer's number in the high 32 bits, its count in the low 32.
 fn pack(a: Answer) -> u64
     ensures { λ r. ⌜ r ≡ packedAnswer a ⌝ }
 {
-    match a {
-        Answer::Taken(n) => n as u64,
-        Answer::Memory => 0x1_0000_0000,
-        Answer::Offset => 0x2_0000_0000,
-        Answer::Waiting => 0x3_0000_0000,
-        Answer::NotBuilt => 0x4_0000_0000,
-        Answer::Format => 0x5_0000_0000,
-        Answer::Host => 0x6_0000_0000,
-        Answer::Off => 0x7_0000_0000,
-        Answer::Meet => 0x8_0000_0000,
-    }
+    (a.number() as u64) * 0x1_0000_0000 + (a.count() as u64)
 }
 
 // A word that draws nothing, stored at its place in the state.

@@ -5,7 +5,7 @@ use bank::Bank;
 use bank::Reading;
 use registers::Place;
 ghost use mathlib.Core.Path.{_≡_};
-ghost use Rattle.engine.specs.Step.{refusal, freshEngine, settled, step, launched, commanded, toRegister, toPattern, written, readFrom};
+ghost use Rattle.engine.specs.Step.{numberOf, countOf, refusal, freshEngine, settled, step, launched, commanded, toRegister, toPattern, written, readFrom};
 
 // The register state, the host blit, and the length of the memory that the engine was opened for.
 pub struct Engine {
@@ -25,6 +25,42 @@ pub enum Answer {
     Host,
     Off,
     Meet,
+}
+
+impl Answer {
+    // Its number in that table.
+    pub fn number(self) -> u32
+        ensures { λ r. ⌜ r ≡ numberOf self ⌝ }
+    {
+        match self {
+            Answer::Taken(_) => 0,
+            Answer::Memory => 1,
+            Answer::Offset => 2,
+            Answer::Waiting => 3,
+            Answer::NotBuilt => 4,
+            Answer::Format => 5,
+            Answer::Host => 6,
+            Answer::Off => 7,
+            Answer::Meet => 8,
+        }
+    }
+
+    // The count of pixels written, 0 for a refusal.
+    pub fn count(self) -> u32
+        ensures { λ r. ⌜ r ≡ countOf self ⌝ }
+    {
+        match self {
+            Answer::Taken(n) => n,
+            Answer::Memory => 0,
+            Answer::Offset => 0,
+            Answer::Waiting => 0,
+            Answer::NotBuilt => 0,
+            Answer::Format => 0,
+            Answer::Host => 0,
+            Answer::Off => 0,
+            Answer::Meet => 0,
+        }
+    }
 }
 
 pub struct Outcome {

@@ -1,10 +1,9 @@
 // A stream of register writes played byte by byte, and what is printed of it.
-use engine::Answer;
 use engine::Engine;
 ghost use mathlib.Core.Path.{_≡_};
 ghost use Prim.Native.Nat.{_+_, _/_, _%_, _^_, _<_, _≤_};
 ghost use lib.ListN.{length};
-ghost use Rattle.engine.specs.Step.{numberOf, written};
+ghost use Rattle.engine.specs.Step.{written};
 ghost use Rattle.ppm.specs.Text.{page, said};
 ghost use Rattle.picture.specs.Player.{sheet, freshPlayer, shifted, counted, wrote, arrived, taken, fed, refusal, printed};
 
@@ -16,22 +15,6 @@ pub struct Player {
     pub held: u32,
     pub played: u64,
     pub refused: u32,
-}
-
-fn number(a: Answer) -> u32
-    ensures { λ r. ⌜ r ≡ numberOf a ⌝ }
-{
-    match a {
-        Answer::Taken(_) => 0,
-        Answer::Memory => 1,
-        Answer::Offset => 2,
-        Answer::Waiting => 3,
-        Answer::NotBuilt => 4,
-        Answer::Format => 5,
-        Answer::Host => 6,
-        Answer::Off => 7,
-        Answer::Meet => 8,
-    }
 }
 
 fn count(number: u32, played: u64) -> u64
@@ -85,7 +68,7 @@ impl Player {
         );
         let next = out.engine;
         let answer = out.answer;
-        let n = number(answer);
+        let n = answer.number();
         Player {
             engine: next,
             window: window,

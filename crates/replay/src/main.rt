@@ -2,7 +2,6 @@
 // engine is opened for, the number of writes and a seed for the memory's bytes, then offset, word and kind of each write (kind 1: the memory is
 // lent without its last byte). For each stream it prints a head, a line `number count` for each answer, and checksums of registers and memory.
 use bank::Reading;
-use engine::Answer;
 use engine::Engine;
 use libc::STDIN_FILENO;
 use libc::STDOUT_FILENO;
@@ -122,27 +121,6 @@ fn fill(mem: &mut [u8], seed: u32) {
     }
 }
 
-fn number(a: Answer) -> u64 {
-    match a {
-        Answer::Taken(_) => 0,
-        Answer::Memory => 1,
-        Answer::Offset => 2,
-        Answer::Waiting => 3,
-        Answer::NotBuilt => 4,
-        Answer::Format => 5,
-        Answer::Host => 6,
-        Answer::Off => 7,
-        Answer::Meet => 8,
-    }
-}
-
-fn count(a: Answer) -> u64 {
-    match a {
-        Answer::Taken(n) => n as u64,
-        _ => 0,
-    }
-}
-
 // How much of a memory of len bytes a write of this kind is lent.
 fn lent(len: usize, kind: u32) -> usize
     ensures { λ r. ⌜ r ≤ len ⌝ }
@@ -168,8 +146,8 @@ fn play_write(e: Engine, mem: &mut [u8]) -> Turn {
     let out = e.write(&mut mem[..len], r.first, r.second);
     let next = out.engine;
     let answer = out.answer;
-    say_number(number(answer), b" ");
-    say_number(count(answer), b"\n");
+    say_number(answer.number() as u64, b" ");
+    say_number(answer.count() as u64, b"\n");
     Turn {
         engine: next,
         more: true,

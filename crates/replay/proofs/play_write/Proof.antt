@@ -28,6 +28,9 @@ write-requires c κs = search needs
 number-requires : tie.Need-number-requires
 number-requires c κs = search needs
 
+cast-say-number : tie.Need-cast-say-number
+cast-say-number c = search needs
+
 slice-aggregate-say-number : tie.Need-slice-aggregate-say-number
 slice-aggregate-say-number c = search needs
 
@@ -36,6 +39,9 @@ say-number-requires c κs = search needs
 
 count-requires : tie.Need-count-requires
 count-requires c κs = search needs
+
+cast-say-number-2 : tie.Need-cast-say-number-2
+cast-say-number-2 c = search needs
 
 slice-aggregate-say-number-2 : tie.Need-slice-aggregate-say-number-2
 slice-aggregate-say-number-2 c = search needs
@@ -60,9 +66,11 @@ play-write-spec =
     slice-aggregate-write
     write-requires
     number-requires
+    cast-say-number
     slice-aggregate-say-number
     say-number-requires
     count-requires
+    cast-say-number-2
     slice-aggregate-say-number-2
     say-number-requires-2
     same-length
