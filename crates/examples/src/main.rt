@@ -15,16 +15,10 @@ fn say_number(text: &[u8], n: u64) {
 }
 
 fn say_answer(a: Answer) {
-    match a {
-        Answer::Taken(n) => say_number(b"0, pixels ", n as u64),
-        Answer::Memory => say(b"1"),
-        Answer::Offset => say(b"2"),
-        Answer::Waiting => say(b"3"),
-        Answer::NotBuilt => say(b"4"),
-        Answer::Format => say(b"5"),
-        Answer::Host => say(b"6"),
-        Answer::Off => say(b"7"),
-        Answer::Meet => say(b"8"),
+    let number = a.number();
+    say_number(b"", number as u64);
+    if number == 0 {
+        say_number(b", pixels ", a.count() as u64);
     }
 }
 
