@@ -13,7 +13,7 @@
 
 enum { MEMORY = 1 << 24, SOURCE = 1 << 23, RUNS = 7, GLYPHS = 64 };
 enum {
-    clip0Max = 0x0c, dstBaseAddr = 0x10, dstFormat = 0x14, srcColorkeyMin = 0x18, srcColorkeyMax = 0x1c, rop = 0x30, srcBaseAddr = 0x34,
+    clip0Max = 0x0c, dstBaseAddr = 0x10, dstFormat = 0x14, srcColorkeyMin = 0x18, srcColorkeyMax = 0x1c, dstColorkeyMin = 0x20, dstColorkeyMax = 0x24, rop = 0x30, srcBaseAddr = 0x34,
     commandExtra = 0x38, lineStipple = 0x3c, lineStyle = 0x40, srcFormat = 0x54, srcXY = 0x5c, colorBack = 0x60, colorFore = 0x64,
     dstSize = 0x68, dstXY = 0x6c, command = 0x70, launch = 0x80, pattern = 0x100
 };
@@ -130,6 +130,20 @@ static void key_set(void)
     out(command, 0xcc000001);
 }
 static void key_plain(void) { sink += plain_copy_key(bytes, target(), source(), 0, 0, n, n, LOW, HIGH); }
+
+static void invert_set(void) { registers(n * bytes); out(command, 0x66000001); }
+static void invert_plain(void) { sink += plain_copy_xor(bytes, target(), source(), 0, 0, n, n); }
+
+static void into_key_set(void)
+{
+    registers(n * bytes);
+    out(dstColorkeyMin, LOW);
+    out(dstColorkeyMax, HIGH);
+    out(rop, 0x0000cc);
+    out(commandExtra, 2);
+    out(command, 0xaa000001);
+}
+static void into_key_plain(void) { sink += plain_copy_into_key(bytes, target(), source(), 0, 0, n, n, LOW, HIGH); }
 
 static void widen_set(void)
 {
@@ -249,6 +263,8 @@ static const struct work works[] = {
     {"plain copy", 3, 30, 0, copy_set, launch_at_0, copy_plain, copy_pixman, copy_limit},
     {"overlapping copy", 3, 30, 0, over_set, launch_at_0, over_plain, 0, over_limit},
     {"copy with source key", 3, 30, 0, key_set, launch_at_0, key_plain, 0, 0},
+    {"copy 66", 3, 30, 0, invert_set, launch_at_0, invert_plain, 0, 0},
+    {"copy with target key", 3, 30, 0, into_key_set, launch_at_0, into_key_plain, 0, 0},
     {"copy 16 to 32", 3, 16, 0, widen_set, launch_at_0, widen_plain, 0, 0},
     {"mono copy", 3, 30, 0, mono_set, launch_at_0, mono_plain, 0, 0},
     {"host glyph 11 x 7, mono", 1, 30, GLYPHS, glyph_set, glyph_ours, glyph_plain, 0, 0},

@@ -152,6 +152,43 @@ INLINE int matches(int bytes, u32 v, u32 low, u32 high)
     return between(v, low, high, 0, 255) && between(v, low, high, 8, 255) && between(v, low, high, 16, 255);
 }
 
+/* Raster operation 66: target xor source. */
+INLINE u32 copy_xor(int bytes, struct plain_surface to, struct plain_surface from, u32 x, u32 y, u32 w, u32 h)
+{
+    for (u32 j = 0; j < h; j++) {
+        u8 *d = row_of(bytes, to, x, y + j);
+        const u8 *s = row_of(bytes, from, 0, j);
+        for (u32 i = 0; i < w; i++)
+            put(bytes, d + (u64)i * bytes, get(bytes, d + (u64)i * bytes) ^ get(bytes, s + (u64)i * bytes));
+    }
+    return w * h;
+}
+
+u32 plain_copy_xor(int bytes, struct plain_surface to, struct plain_surface from, u32 x, u32 y, u32 w, u32 h)
+{
+    BY_BYTES(copy_xor(1, to, from, x, y, w, h), copy_xor(2, to, from, x, y, w, h), copy_xor(3, to, from, x, y, w, h), copy_xor(4, to, from, x, y, w, h))
+}
+
+/* A pixel gets its source where the target matches the key. */
+INLINE u32 copy_into_key(int bytes, struct plain_surface to, struct plain_surface from, u32 x, u32 y, u32 w, u32 h, u32 low, u32 high)
+{
+    for (u32 j = 0; j < h; j++) {
+        u8 *d = row_of(bytes, to, x, y + j);
+        const u8 *s = row_of(bytes, from, 0, j);
+        for (u32 i = 0; i < w; i++) {
+            if (matches(bytes, get(bytes, d + (u64)i * bytes), low, high))
+                put(bytes, d + (u64)i * bytes, get(bytes, s + (u64)i * bytes));
+        }
+    }
+    return w * h;
+}
+
+u32 plain_copy_into_key(int bytes, struct plain_surface to, struct plain_surface from, u32 x, u32 y, u32 w, u32 h, u32 low, u32 high)
+{
+    BY_BYTES(copy_into_key(1, to, from, x, y, w, h, low, high), copy_into_key(2, to, from, x, y, w, h, low, high),
+             copy_into_key(3, to, from, x, y, w, h, low, high), copy_into_key(4, to, from, x, y, w, h, low, high))
+}
+
 /* A pixel whose source matches the key keeps its target. */
 INLINE u32 copy_key(int bytes, struct plain_surface to, struct plain_surface from, u32 x, u32 y, u32 w, u32 h, u32 low, u32 high)
 {

@@ -7,25 +7,18 @@ use native.Mathlib.Omega.{arith}
 use lib.Pow.{pow-pos}
 use lib.Bits.{bitAnd, bitXor, and-shr, and-mod, xor-shr, xor-mod, and-zero-r, xor-zero-r}
 use Rattle.raster.specs.Rop.{ropBit, ropBits}
+use Rattle.raster.specs.Masks.{mask, muxed, laid, merged}
 use Rattle.colour.proofs.Bits.{Bit, off, on, bit, eight, join}
-
--- n bits, all equal to bit k of the code
-unfoldable pub mask : ℕ → ℕ → ℕ → ℕ
-mask n code k = code / 2 ^ k % 2 * (2 ^ n - 1)
-
--- at each bit: a where sel has a 1, b where it has a 0
-unfoldable pub muxed : ℕ → ℕ → ℕ → ℕ
-muxed sel a b = bitXor b (bitAnd sel (bitXor a b))
 
 -- eight values by three bits of choice
 abbrev chosen : ℕ → ℕ → ℕ → (ℕ → ℕ) → ℕ
 chosen p s d m =
-    muxed p
-    (muxed s (muxed d (m 7) (m 6)) (muxed d (m 5) (m 4)))
-    (muxed s (muxed d (m 3) (m 2)) (muxed d (m 1) (m 0)))
+    muxed s
+    (muxed d (muxed p (m 7) (m 3)) (muxed p (m 6) (m 2)))
+    (muxed d (muxed p (m 5) (m 1)) (muxed p (m 4) (m 0)))
 
 -- what the code computes, at n bits
-unfoldable pub tree : ℕ → ℕ → ℕ → ℕ → ℕ → ℕ
+unfoldable tree : ℕ → ℕ → ℕ → ℕ → ℕ → ℕ
 tree n code p s d = chosen p s d (mask n code)
 
 -- a choice at the lowest bit, and above it
@@ -96,9 +89,13 @@ tree-half : (n code p s d : ℕ) → tree (suc n) code p s d / 2 ≡ tree n code
 unfolding tree
 tree-half n code p s d = simp (muxed-half, mask-half)
 
-pub tree-is : (n code p s d : ℕ) → tree n code p s d ≡ ropBits n code p s d
+tree-is : (n code p s d : ℕ) → tree n code p s d ≡ ropBits n code p s d
 unfolding tree ropBits
 tree-is zero code p s d = simp (mask-zero, muxed-zero)
 tree-is (suc n) code p s d =
     sym (div-add-mod' (tree (suc n) code p s d) 2)
     ∙ join (tree-half n code p s d ∙ tree-is n code (p / 2) (s / 2) (d / 2)) (tree-odd n code p s d)
+
+pub merged-is : (code p s d : ℕ) → merged (laid 32 code 0 p) (laid 32 code 1 p) (laid 32 code 2 p) (laid 32 code 3 p) s d ≡ ropBits 32 code p s d
+unfolding merged laid tree
+merged-is code p s d = tree-is 32 code p s d

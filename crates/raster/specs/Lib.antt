@@ -1,1 +1,2 @@
 pub mod Rop
+pub mod Masks

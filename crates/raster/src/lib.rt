@@ -1,27 +1,42 @@
 // Raster operations, and which of them look at neither the pattern nor the source.
 ghost use mathlib.Core.Path.{_≡_};
-ghost use Prim.Native.Nat.{_%_};
+ghost use Prim.Native.Nat.{_%_, _<_};
 ghost use Rattle.raster.specs.Rop.{ropBits, patternFree, sourceFree};
+ghost use Rattle.raster.specs.Masks.{mask, muxed, merged};
 
-// The raster operation at all 32 bits. For the bits of d, then s, then p, it chooses between the bits of the code.
+// Of four values, at each bit the one whose number is 2s + d there.
+pub fn merge(q0: u32, q1: u32, q2: u32, q3: u32, s: u32, d: u32) -> u32
+    ensures { λ r. ⌜ r ≡ merged q0 q1 q2 q3 s d ⌝ }
+{
+    let low = q0 ^ (d & (q1 ^ q0));
+    let high = q2 ^ (d & (q3 ^ q2));
+    low ^ (s & (high ^ low))
+}
+
+// Bit k of a code at all 32 bits.
+pub fn spread(code: u32, k: u32) -> u32
+    requires { ⌜ k < 8 ⌝ }
+    ensures { λ r. ⌜ r ≡ mask 32 code k ⌝ }
+{
+    (code >> k) % 2 * 0xffff_ffff
+}
+
+// By the bits of a pattern's pixel: `high` where it has a 1, `low` where it has a 0.
+pub fn lay(low: u32, high: u32, p: u32) -> u32
+    ensures { λ r. ⌜ r ≡ muxed p high low ⌝ }
+{
+    low ^ (p & (high ^ low))
+}
+
+// The raster operation at all 32 bits: of the bits of the code, by pattern, source and target.
 pub fn raster(code: u32, p: u32, s: u32, d: u32) -> u32
     ensures { λ r. ⌜ r ≡ ropBits 32 code p s d ⌝ }
 {
-    let m0 = (code >> 0) % 2 * 0xffff_ffff;
-    let m1 = (code >> 1) % 2 * 0xffff_ffff;
-    let m2 = (code >> 2) % 2 * 0xffff_ffff;
-    let m3 = (code >> 3) % 2 * 0xffff_ffff;
-    let m4 = (code >> 4) % 2 * 0xffff_ffff;
-    let m5 = (code >> 5) % 2 * 0xffff_ffff;
-    let m6 = (code >> 6) % 2 * 0xffff_ffff;
-    let m7 = (code >> 7) % 2 * 0xffff_ffff;
-    let a = m0 ^ (d & (m1 ^ m0));
-    let b = m2 ^ (d & (m3 ^ m2));
-    let e = m4 ^ (d & (m5 ^ m4));
-    let f = m6 ^ (d & (m7 ^ m6));
-    let low = a ^ (s & (b ^ a));
-    let high = e ^ (s & (f ^ e));
-    low ^ (p & (high ^ low))
+    let q0 = lay(spread(code, 0), spread(code, 4), p);
+    let q1 = lay(spread(code, 1), spread(code, 5), p);
+    let q2 = lay(spread(code, 2), spread(code, 6), p);
+    let q3 = lay(spread(code, 3), spread(code, 7), p);
+    merge(q0, q1, q2, q3, s, d)
 }
 
 // Whether the code gives the same whatever the pattern is.

@@ -1,8 +1,9 @@
 -- Laws of a rectangle's pixels: what one is given, by the numbers that the loop has; and that a rectangle that can be painted has its rows ready.
 -- Assumes nothing.
 use mathlib.Core.Path.{_≡_, refl, _∙_}
-use mathlib.Core.Bool.{true, false}
+use mathlib.Core.Bool.{true, false, cond}
 use mathlib.Core.List.{List}
+use mathlib.Core.Option.{none, some}
 use Prim.Native.Nat.{ℕ, _+_, _-_, _/_, _%_, _^_, _<_, _≤_}
 use native.Mathlib.Omega.{arith}
 use lib.ListN.{getD}
@@ -12,28 +13,41 @@ use Rattle.surface.proofs.Rects.{rect-in}
 use Rattle.spans.proofs.Corner.{all-each}
 use Rattle.sweep.specs.declared.Task.{Task}
 use Rattle.ink.specs.Pattern.{patternColumn, patternRow, patternBit, patternValue, RowOf}
-use Rattle.paint.specs.Mix.{patternless}
+use Rattle.paint.specs.declared.Source.{Source}
+use Rattle.paint.specs.Mix.{patternless, mixed}
 use Rattle.paint.proofs.MixLaws.{pattern-unread}
 use Rattle.sweep.specs.Copy.{sourceBy, giving, HasSource, RowReady, CanPaint}
+use Rattle.plan.specs.Plan.{MasksOf, QuadsFrom, quadAt, mergedAt, quadMixed}
+use Rattle.plan.proofs.PlanLaws.{quad-mixed, quads-are}
 use Rattle.sweep.specs.Row.{rowGiving}
 
 -- a row's pixels are given what the pattern's row gives them
-pub by-row : (t : Task) (pattern now : List ℕ) (p : Px) {row bits : ℕ} {values : List ℕ} → row ≡ patternRow (t .ink) (p .y) → bits ≡ getD pattern row 0
-    → RowOf (t .ink) pattern row values → rowGiving t values bits now p ≡ giving t pattern now now p
-unfolding rowGiving giving patternBit
-by-row t pattern now p {row} e b rows =
-    let column = patternColumn (t .ink) (p .x) in
-    let v = rows .at column (omega arith) in
-    rw (v, b, e)
+module _ (t : Task) (pattern now : List ℕ) (p : Px) {row bits : ℕ} (e : row ≡ patternRow (t .ink) (p .y)) (b : bits ≡ getD pattern row 0) (masks quads : List ℕ) (h : MasksOf (t .ink) masks) where
+  by-values : (values : List ℕ) → QuadsFrom masks values quads
+      → rowGiving t quads bits now p
+      ≡ mixed (t .ink) (getD values (patternColumn (t .ink) (p .x)) 0) (sourceBy t (bits / 2 ^ (7 - patternColumn (t .ink) (p .x)) % 2) now p) (readPx now (t .ink .target) (p .x) (p .y))
+  unfolding rowGiving
+  by-values values q = quad-mixed (t .ink) values quads (quads-are (t .ink) masks values quads h q) (patternColumn (t .ink) (p .x)) (omega arith) _ _
 
--- and by any eight values, where no raster operation looks at the pattern
-pub by-no-row : (t : Task) (pattern now : List ℕ) (p : Px) {row bits : ℕ} (values : List ℕ) → row ≡ patternRow (t .ink) (p .y) → bits ≡ getD pattern row 0
-    → patternless (t .ink) ≡ true → rowGiving t values bits now p ≡ giving t pattern now now p
-unfolding rowGiving giving patternBit
-by-no-row t pattern now p {row} {bits} values e b free =
-    pattern-unread (t .ink) (getD values (patternColumn (t .ink) (p .x)) 0) (patternValue (t .ink) pattern (p .x) (p .y))
-    (sourceBy t (bits / 2 ^ (7 - patternColumn (t .ink) (p .x)) % 2) now p) (readPx now (t .ink .target) (p .x) (p .y)) free
-    ∙ rw (b, e) refl
+  pub by-row : (values : List ℕ) → RowOf (t .ink) pattern row values → QuadsFrom masks values quads → rowGiving t quads bits now p ≡ giving t pattern now now p
+  unfolding giving patternBit
+  by-row values rows q = by-values values q ∙ (let v = rows .at (patternColumn (t .ink) (p .x)) (omega arith) in rw (v, b, e))
+
+  -- and by any eight values, where no raster operation looks at the pattern
+  pub by-no-row : (values : List ℕ) → QuadsFrom masks values quads → patternless (t .ink) ≡ true → rowGiving t quads bits now p ≡ giving t pattern now now p
+  unfolding giving patternBit
+  by-no-row values q free =
+      by-values values q
+      ∙ pattern-unread (t .ink) (getD values (patternColumn (t .ink) (p .x)) 0) (patternValue (t .ink) pattern (p .x) (p .y))
+      (sourceBy t (bits / 2 ^ (7 - patternColumn (t .ink) (p .x)) % 2) now p) (readPx now (t .ink .target) (p .x) (p .y)) free
+      ∙ rw (b, e) refl
+
+-- what a pixel is given, by the steps of the code
+pub pixel-given : (t : Task) (quads now : List ℕ) (bits x y : ℕ) {column bit old k v : ℕ} {s : Source} → column ≡ patternColumn (t .ink) x → bit ≡ bits / 2 ^ (7 - column) % 2
+    → s ≡ sourceBy t bit now (px x y) → old ≡ readPx now (t .ink .target) x y → k ≡ quadAt (t .ink) (s .key) old column → v ≡ mergedAt quads k (s .value) old
+    → cond (s .left) none (some v) ≡ rowGiving t quads bits now (px x y)
+unfolding rowGiving quadMixed
+pixel-given t quads now bits x y c b s o k v = rw (v, k, o, s, b, c)
 
 -- the pixels of the rectangle, one by one
 pub can-pixel : {t : Task} {w h len : ℕ} → CanPaint t w h len → (x y : ℕ) → Inside (t .x) (t .y) w h (px x y)

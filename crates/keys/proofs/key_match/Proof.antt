@@ -1,56 +1,21 @@
--- `keys::key_match` meets its contract: each return goes by the tests that led there and by what `inside` ensures.
+-- `keys::key_match` meets its contract: the pixel is in the key's range.
 -- Assumes nothing.
 use borrow.Author.Needs.{needs}
-use borrow.Author.Tests.{eq-eqb, ne-eqb}
-use mathlib.Core.Bool.{and-true}
-use Rattle.keys.specs.Key.{keyMatch}
+use mathlib.Core.Path.{ap, _∙_}
+use Rattle.keys.specs.declared.Range.{Range}
+use Rattle.keys.specs.Range.{inRange}
+use Rattle.keys.proofs.RangeLaws.{in-range}
 use Rattle.keys.proofs.key_match.Statement.{statement}
 use Rattle.keys.proofs.key_match.Tie as tie
 
-inside-requires : tie.Need-inside-requires
-inside-requires c κs = search needs
+range-of-requires : tie.Need-range-of-requires
+range-of-requires c κs = search needs
+
+in-range-requires : tie.Need-in-range-requires
+in-range-requires c κs = search needs
 
 returns : tie.Need-returns
-unfolding keyMatch
-returns c = simp (eq-eqb _ _ (c .before .if1 .taken), and-true) (c .inside .ensures)
-
-inside-requires-2 : tie.Need-inside-requires-2
-inside-requires-2 c κs = search needs
-
-inside-requires-3 : tie.Need-inside-requires-3
-inside-requires-3 c κs = search needs
-
-inside-requires-4 : tie.Need-inside-requires-4
-inside-requires-4 c κs = search needs
-
-returns-2 : tie.Need-returns-2
-unfolding keyMatch
-returns-2 c = simp (ne-eqb _ _ (c .before .before .before .before .if1 .left), eq-eqb _ _ (c .before .before .before .if2 .taken), and-true) (cc)
-
-inside-requires-5 : tie.Need-inside-requires-5
-inside-requires-5 c κs = search needs
-
-inside-requires-6 : tie.Need-inside-requires-6
-inside-requires-6 c κs = search needs
-
-inside-requires-7 : tie.Need-inside-requires-7
-inside-requires-7 c κs = search needs
-
-returns-3 : tie.Need-returns-3
-unfolding keyMatch
-returns-3 c = simp (ne-eqb _ _ (c .before .before .before .before .if1 .left), ne-eqb _ _ (c .before .before .before .if2 .left), and-true) (cc)
+returns c = (c .in-range .ensures) ∙ ap (λ (r : Range). inRange (c .before .before .args .bytes) r (c .before .before .args .v)) (c .before .range-of .ensures) ∙ in-range (c .before .before .args .bytes) (c .before .before .args .lo) (c .before .before .args .hi) (c .before .before .args .v)
 
 pub key-match-spec : {M : Type 1} → statement M
-key-match-spec =
-    tie.close
-    (tie.spec
-    inside-requires
-    returns
-    inside-requires-2
-    inside-requires-3
-    inside-requires-4
-    returns-2
-    inside-requires-5
-    inside-requires-6
-    inside-requires-7
-    returns-3)
+key-match-spec = tie.close (tie.spec range-of-requires in-range-requires returns)

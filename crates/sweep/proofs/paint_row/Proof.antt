@@ -2,6 +2,7 @@
 -- Assumes nothing.
 use mathlib.Core.Path.{sym, ap, _∙_}
 use Prim.Native.Nat.{ℕ}
+use lib.ListN.{replicate}
 use borrow.Author.Needs.{needs}
 use Rattle.surface.specs.Pixels.{across}
 use Rattle.surface.proofs.Rects.{in-across}
@@ -24,7 +25,7 @@ is-patternless-requires : tie.Need-is-patternless-requires
 is-patternless-requires c κs = search needs
 
 paint-across-requires : tie.Need-paint-across-requires
-paint-across-requires c κs = search needs
+paint-across-requires c κs = (c .before .before .before .before .before .before .before .pre .0, c .before .before .before .before .before .before .before .pre .1 .0)
 
 same-length : tie.Need-same-length
 same-length c = search needs
@@ -32,12 +33,14 @@ same-length c = search needs
 returns : tie.Need-returns
 returns c =
     let a = c .before .before .before .before .before .before .before .before .before .before .args in
+    let laid = c .before .before .before .before .before .before .before .before .before .before .pre .1 .1 in
     let free = sym (c .before .before .before .before .before .is-patternless .ensures) ∙ c .before .before .before .before .if1 .taken in
     let bits = c .before .before .before .before .before .before .pattern-byte .ensures .0 in
     let row = c .before .before .before .before .before .before .before .pattern-row .ensures .0 in (
       c .before .before .paint-across .ensures .0
-          ∙ paint-same (a .t .ink .target) (λ p now. rowGiving (a .t) _ _ now p) (λ p now. giving (a .t) (a .pattern) now now p) (across (a .back) (a .t .x) (a .w) (a .y))
-          (λ p i now. by-no-row (a .t) (a .pattern) now p _ (row ∙ ap (λ (y : ℕ). patternRow (a .t .ink) y) (sym (in-across (a .back) (a .t .x) (a .w) (a .y) p i .2))) bits free)
+          ∙ paint-same (a .t .ink .target) (λ p now. rowGiving (a .t) (a .blank) _ now p) (λ p now. giving (a .t) (a .pattern) now now p) (across (a .back) (a .t .x) (a .w) (a .y))
+          (λ p i now. by-no-row (a .t) (a .pattern) now p (row ∙ ap (λ (y : ℕ). patternRow (a .t .ink) y) (sym (in-across (a .back) (a .t .x) (a .w) (a .y) p i .2))) bits (a .masks) (a .blank)
+          (laid .bits) (replicate 8 0) (laid .unread) free)
           (state (a .mem .now) (a .n)),
       c .before .before .paint-across .ensures .1,
     )
@@ -45,21 +48,27 @@ returns c =
 row-values-requires : tie.Need-row-values-requires
 row-values-requires c κs = search needs
 
+quads-of-requires : tie.Need-quads-of-requires
+quads-of-requires c κs = search needs
+
 paint-across-requires-2 : tie.Need-paint-across-requires-2
-paint-across-requires-2 c κs = search needs
+paint-across-requires-2 c κs = (c .before .before .before .before .before .before .before .before .before .pre .0, c .before .before .before .before .before .before .before .before .before .pre .1 .0)
 
 same-length-2 : tie.Need-same-length-2
 same-length-2 c = search needs
 
 returns-2 : tie.Need-returns-2
 returns-2 c =
-    let a = c .before .before .before .before .before .before .before .before .before .before .before .args in
-    let values = c .before .before .before .before .row-values .ensures in
-    let bits = c .before .before .before .before .before .before .before .pattern-byte .ensures .0 in
-    let row = c .before .before .before .before .before .before .before .before .pattern-row .ensures .0 in (
+    let a = c .before .before .before .before .before .before .before .before .before .before .before .before .args in
+    let laid = c .before .before .before .before .before .before .before .before .before .before .before .before .pre .1 .1 in
+    let quads = c .before .before .before .before .quads-of in
+    let values = c .before .before .before .before .before .row-values in
+    let bits = c .before .before .before .before .before .before .before .before .pattern-byte .ensures .0 in
+    let row = c .before .before .before .before .before .before .before .before .before .pattern-row .ensures .0 in (
       c .before .before .paint-across2 .ensures .0
-          ∙ paint-same (a .t .ink .target) (λ p now. rowGiving (a .t) _ _ now p) (λ p now. giving (a .t) (a .pattern) now now p) (across (a .back) (a .t .x) (a .w) (a .y))
-          (λ p i now. by-row (a .t) (a .pattern) now p (row ∙ ap (λ (y : ℕ). patternRow (a .t .ink) y) (sym (in-across (a .back) (a .t .x) (a .w) (a .y) p i .2))) bits values)
+          ∙ paint-same (a .t .ink .target) (λ p now. rowGiving (a .t) (quads .result) _ now p) (λ p now. giving (a .t) (a .pattern) now now p) (across (a .back) (a .t .x) (a .w) (a .y))
+          (λ p i now. by-row (a .t) (a .pattern) now p (row ∙ ap (λ (y : ℕ). patternRow (a .t .ink) y) (sym (in-across (a .back) (a .t .x) (a .w) (a .y) p i .2))) bits (a .masks) (quads .result)
+          (laid .bits) (values .result) (values .ensures) (quads .ensures))
           (state (a .mem .now) (a .n)),
       c .before .before .paint-across2 .ensures .1,
     )
@@ -75,6 +84,7 @@ paint-row-spec =
     same-length
     returns
     row-values-requires
+    quads-of-requires
     paint-across-requires-2
     same-length-2
     returns-2)

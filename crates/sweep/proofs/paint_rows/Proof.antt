@@ -15,17 +15,29 @@ use Rattle.sweep.proofs.paint_rows.Statement.{statement}
 use Rattle.sweep.proofs.paint_rows.Tie as tie
 
 abbrev Inv-loop : tie.InvT-loop
-Inv-loop mem₀ t pattern w h back n₀ j₀ mem n j =
+Inv-loop mem₀ t pattern w h back source target masks blank n₀ j₀ mem n j =
     (paint (t .ink .target) (inTurn t pattern (rows-left back back (t .x) (t .y) w h j)) (state mem n)
     ≡ paint (t .ink .target) (inTurn t pattern (rect back back (t .x) (t .y) w h)) (state mem₀ 0))
     × (length mem ≡ length mem₀) × (j ≤ h) × (n ≤ 8192 * j)
 
 abbrev μ-loop : tie.MeasureT-loop
-μ-loop mem₀ t pattern w h back n₀ j₀ mem n j = h - j
+μ-loop mem₀ t pattern w h back source target masks blank n₀ j₀ mem n j = h - j
+
+range-of-requires : tie.Need-range-of-requires Inv-loop μ-loop
+range-of-requires c κs = search needs
+
+range-of-requires-2 : tie.Need-range-of-requires-2 Inv-loop μ-loop
+range-of-requires-2 c κs = search needs
+
+masks-of-requires : tie.Need-masks-of-requires Inv-loop μ-loop
+masks-of-requires c κs = search needs
+
+quads-of-requires : tie.Need-quads-of-requires Inv-loop μ-loop
+quads-of-requires c κs = search needs
 
 loop-holds : tie.Need-loop-holds Inv-loop μ-loop
 loop-holds c =
-    let a = c .before .args in (
+    let a = c .before .before .before .before .before .before .args in (
       ap (λ (ps : List Px). paint (a .t .ink .target) (inTurn (a .t) (a .pattern) ps) (state (a .mem .now) 0)) (rows-whole (a .back) (a .back) (a .t .x) (a .t .y) (a .w) (a .h)),
       refl,
       omega arith,
@@ -33,16 +45,19 @@ loop-holds c =
     )
 
 place-requires : tie.Need-place-requires Inv-loop μ-loop
-place-requires c κs = (c .loop-test .taken, c .before .before .before .pre .high)
+place-requires c κs = (c .loop-test .taken, c .before .before .before .before .before .before .before .before .pre .high)
 
 paint-row-requires : tie.Need-paint-row-requires Inv-loop μ-loop
 paint-row-requires c κs =
-    let a = c .before .before .before .before .before .args in
+    let a = c .before .before .before .before .before .before .before .before .before .before .args in
     let k = c .before .before .before .loop in
-    let p = c .before .before .before .before .before .pre in
+    let p = c .before .before .before .before .before .before .before .before .before .before .pre in
     let in-rows = nth-in (a .back) (a .t .y) (a .h) (k .j) (c .before .before .loop-test .taken) in
     let e = c .before .place .ensures in
-    rw (k .inv .1) (can-row p (c .before .place .result) (k .n) (omega arith) (omega arith) (omega (arith, p .wide, p .high)))
+    rw (k .inv .1) (
+      can-row p (c .before .place .result) (k .n) (omega arith) (omega arith) (omega (arith, p .wide, p .high)),
+      ((c .before .before .before .before .before .before .before .range-of .ensures, c .before .before .before .before .before .before .range-of2 .ensures), record { bits = c .before .before .before .before .before .masks-of .ensures; unread = c .before .before .before .before .quads-of .ensures }),
+    )
 
 add-j : tie.Need-add-j Inv-loop μ-loop
 add-j c = search needs
@@ -52,9 +67,9 @@ loop-less c = search needs
 
 loop-again : tie.Need-loop-again Inv-loop μ-loop
 loop-again c =
-    let a = c .before .before .before .before .before .before .before .before .args in
+    let a = c .before .before .before .before .before .before .before .before .before .before .before .before .before .args in
     let k = c .before .before .before .before .before .before .loop in
-    let p = c .before .before .before .before .before .before .before .before .pre in (
+    let p = c .before .before .before .before .before .before .before .before .before .before .before .before .before .pre in (
       rows-again (a .t .ink .target) (λ p. touch p (λ now. giving (a .t) (a .pattern) now now p)) (a .back) (a .back) (a .t .x) (a .t .y) (a .w) (a .h) (k .j)
           (c .before .before .before .before .place .result) (state (k .mem) (k .n)) _ (c .before .before .before .before .before .loop-test .taken) (c .before .before .before .before .place .ensures) (c .before .before .paint-row .ensures .0) ∙ k .inv .0,
       c .before .before .paint-row .kept .0 ∙ k .inv .1,
@@ -67,7 +82,7 @@ same-length c = search needs
 
 returns : tie.Need-returns Inv-loop μ-loop
 returns c =
-    let a = c .before .before .before .args in
+    let a = c .before .before .before .before .before .before .before .before .args in
     let k = c .before .loop in
     rows-end (a .t .ink .target) (λ p. touch p (λ now. giving (a .t) (a .pattern) now now p)) (a .back) (a .back) (a .t .x) (a .t .y) (a .w) (a .h) (k .j)
     (state (k .mem) (k .n)) (c .loop-test .left) ∙ k .inv .0
@@ -78,6 +93,10 @@ paint-rows-spec =
     (tie.spec
     Inv-loop
     μ-loop
+    range-of-requires
+    range-of-requires-2
+    masks-of-requires
+    quads-of-requires
     loop-holds
     place-requires
     paint-row-requires

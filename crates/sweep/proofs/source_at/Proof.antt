@@ -3,8 +3,8 @@
 use borrow.Author.Needs.{needs}
 use native.Mathlib.Omega.{arith}
 use borrow.Author.Tests.{eq-eqb, ne-eqb, not-true, not-false}
-use Rattle.sweep.specs.Copy.{sourcePlace, sourceBy}
 use Rattle.surface.proofs.OnLaws.{pos-of-ne}
+use Rattle.sweep.specs.Copy.{sourcePlace, sourceBy}
 use Rattle.sweep.proofs.source_at.Statement.{statement}
 use Rattle.sweep.proofs.source_at.Tie as tie
 
@@ -22,30 +22,30 @@ add-sx : tie.Need-add-sx
 add-sx c = search needs
 
 sub-sy : tie.Need-sub-sy
-sub-sy c = search needs
+sub-sy c = omega (arith, (c .before .before .before .before .before .before .before .before .pre .0))
 
 add-sy : tie.Need-add-sy
-add-sy c = omega (arith, c .before .before .before .before .before .before .before .before .before .pre)
+add-sy c = omega (arith, (c .before .before .before .before .before .before .before .before .before .pre .0))
 
 get-bit-requires : tie.Need-get-bit-requires
-get-bit-requires c κs = record { small = c .before .before .before .before .before .before .before .before .before .before .pre .small; mono = c .if2 .taken; on = c .before .before .before .before .before .before .before .before .before .before .pre .on (not-false (c .before .before .before .before .before .before .before .before .before .before .args .t .copies) (c .before .before .before .before .before .before .if1 .left)) }
+get-bit-requires c κs = record { small = (c .before .before .before .before .before .before .before .before .before .before .pre .0 .small); mono = (c .if2 .taken); on = (c .before .before .before .before .before .before .before .before .before .before .pre .0 .on) (not-false (c .before .before .before .before .before .before .before .before .before .before .args .t .copies) (c .before .before .before .before .before .before .if1 .left)) }
 
 bit-source-requires : tie.Need-bit-source-requires
 bit-source-requires c κs = search needs
 
 returns-2 : tie.Need-returns-2
 unfolding sourceBy sourcePlace
-returns-2 c = rw (not-false (c .before .before .before .before .before .before .before .before .before .before .before .before .args .t .copies) (c .before .before .before .before .before .before .before .before .if1 .left), eq-eqb _ _ (c .before .before .if2 .taken), ← c .before .get-bit .ensures) (c .bit-source .ensures)
+returns-2 c = rw (not-false (c .before .before .before .before .before .before .before .before .before .before .before .before .args .t .copies) (c .before .before .before .before .before .before .before .before .if1 .left), eq-eqb _ _ (c .before .before .if2 .taken), ← (c .before .get-bit .ensures)) (c .bit-source .ensures)
 
 get-pixel-requires : tie.Need-get-pixel-requires
-get-pixel-requires c κs = record { colour = record { small = c .before .before .before .before .before .before .before .before .before .before .pre .small; some = pos-of-ne (c .if2 .left) }; on = c .before .before .before .before .before .before .before .before .before .before .pre .on (not-false (c .before .before .before .before .before .before .before .before .before .before .args .t .copies) (c .before .before .before .before .before .before .if1 .left)) }
+get-pixel-requires c κs = record { colour = record { small = (c .before .before .before .before .before .before .before .before .before .before .pre .0 .small); some = pos-of-ne (c .if2 .left) }; on = (c .before .before .before .before .before .before .before .before .before .before .pre .0 .on) (not-false (c .before .before .before .before .before .before .before .before .before .before .args .t .copies) (c .before .before .before .before .before .before .if1 .left)) }
 
-colour-source-requires : tie.Need-colour-source-requires
-colour-source-requires c κs = search needs
+source-of-requires : tie.Need-source-of-requires
+source-of-requires c κs = (c .before .before .before .before .before .before .before .before .before .before .before .pre .1)
 
 returns-3 : tie.Need-returns-3
 unfolding sourceBy sourcePlace
-returns-3 c = rw (not-false (c .before .before .before .before .before .before .before .before .before .before .before .before .args .t .copies) (c .before .before .before .before .before .before .before .before .if1 .left), ne-eqb _ _ (c .before .before .if2 .left), ← c .before .get-pixel .ensures) (c .colour-source .ensures)
+returns-3 c = rw (not-false (c .before .before .before .before .before .before .before .before .before .before .before .before .args .t .copies) (c .before .before .before .before .before .before .before .before .if1 .left), ne-eqb _ _ (c .before .before .if2 .left), ← (c .before .get-pixel .ensures)) (c .source-of .ensures)
 
 pub source-at-spec : {M : Type 1} → statement M
 source-at-spec =
@@ -61,5 +61,5 @@ source-at-spec =
     bit-source-requires
     returns-2
     get-pixel-requires
-    colour-source-requires
+    source-of-requires
     returns-3)

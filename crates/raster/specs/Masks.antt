@@ -1,0 +1,20 @@
+-- The raster operation as the code does it: by seven choices between the bits of the code, each of them spread over all bits.
+-- Assumes nothing.
+use Prim.Native.Nat.{ℕ, _+_, _-_, _*_, _/_, _%_, _^_}
+use lib.Bits.{bitAnd, bitXor}
+
+-- n bits, all equal to bit k of the code
+unfoldable pub mask : ℕ → ℕ → ℕ → ℕ
+mask n code k = code / 2 ^ k % 2 * (2 ^ n - 1)
+
+-- at each bit: a where sel has a 1, b where it has a 0
+unfoldable pub muxed : ℕ → ℕ → ℕ → ℕ
+muxed sel a b = bitXor b (bitAnd sel (bitXor a b))
+
+-- for a pixel of the pattern: bit k of the code at all n bits where the pattern has a 0, bit k + 4 where it has a 1
+unfoldable pub laid : ℕ → ℕ → ℕ → ℕ → ℕ
+laid n code k p = muxed p (mask n code (k + 4)) (mask n code k)
+
+-- four values by two bits of choice
+unfoldable pub merged : ℕ → ℕ → ℕ → ℕ → ℕ → ℕ → ℕ
+merged q0 q1 q2 q3 s d = muxed s (muxed d q3 q2) (muxed d q1 q0)
