@@ -17,9 +17,13 @@ widened v = repeated 5 (v / 2 ^ 11 % 2 ^ 5) * 2 ^ 16 + repeated 6 (v / 2 ^ 5 % 2
 abbrev pub narrowed : ℕ → ℕ
 narrowed v = v / 2 ^ 16 % 2 ^ 8 / 2 ^ 3 * 2 ^ 11 + v / 2 ^ 8 % 2 ^ 8 / 2 ^ 2 * 2 ^ 5 + v % 2 ^ 8 / 2 ^ 3
 
+-- of 3 or 4 bytes, to another format
+abbrev pub lessened : ℕ → ℕ → ℕ
+lessened to v = cond (eqb to 2) (narrowed v) (v % 2 ^ 24)
+
 -- equal formats keep all bytes; otherwise the top byte of 4 is neither taken nor set
 unfoldable pub converted : ℕ → ℕ → ℕ → ℕ
-converted from to v = cond (eqb from to) v (cond (eqb from 2) (widened v) (cond (eqb to 2) (narrowed v) (v % 2 ^ 24)))
+converted from to v = cond (eqb from to) v (cond (eqb from 2) (widened v) (lessened to v))
 
 -- the formats of several channels
 abbrev pub deep : ℕ → Bool

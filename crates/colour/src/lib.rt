@@ -1,7 +1,8 @@
 // Widening, and the conversion of a pixel's value from one format to another. A format is its bytes per pixel, 0 is mono.
 ghost use mathlib.Core.Path.{_≡_};
 ghost use Prim.Native.Nat.{_<_, _%_};
-ghost use Rattle.colour.specs.Convert.{repeated, widened, narrowed, converted, deep, allowed};
+ghost use lib.Dec.{eqb};
+ghost use Rattle.colour.specs.Convert.{repeated, widened, narrowed, lessened, converted, deep, allowed};
 
 // Five bits to eight.
 const WIDEN5: [u8; 32] = [
@@ -128,7 +129,7 @@ fn widen6(n: u32) -> u32
 }
 
 // A pixel of 2 bytes as one of 3, by the tables.
-pub fn widen(v: u32) -> u32
+fn widen(v: u32) -> u32
     ensures { λ r. ⌜ r ≡ widened v ⌝ }
 {
     let red = widen5(v / 2048);
@@ -153,7 +154,7 @@ fn repeat6(n: u32) -> u32
     bits * 4 + bits / 16
 }
 
-// A pixel of 2 bytes as one of 3, with no table: an array is put on the stack at each call, which takes longer than the rule.
+// A pixel of 2 bytes as one of 3, with no table: a table is put on the stack at each call, which takes longer than the rule.
 fn widen_by_rule(v: u32) -> u32
     ensures { λ r. ⌜ r ≡ widened v ⌝ }
 {
@@ -170,20 +171,46 @@ fn narrow(v: u32) -> u32
     v / 65536 % 256 / 8 * 2048 + v / 256 % 256 / 4 * 32 + v % 256 / 8
 }
 
-// A pixel's value in another format.
+fn is_sixteen(format: u32) -> bool
+    ensures { λ r. ⌜ r ≡ eqb format 2 ⌝ }
+{
+    format == 2
+}
+
+// A pixel of 3 or 4 bytes in another format, without the top byte of 4.
+fn lessen(to: u32, v: u32) -> u32
+    ensures { λ r. ⌜ r ≡ lessened to v ⌝ }
+{
+    if is_sixteen(to) {
+        return narrow(v);
+    }
+    v % 16777216
+}
+
+// A pixel's value in another format, by the tables.
 pub fn convert(from: u32, to: u32, v: u32) -> u32
     ensures { λ r. ⌜ r ≡ converted from to v ⌝ }
 {
     if from == to {
         return v;
     }
-    if from == 2 {
+    if is_sixteen(from) {
+        return widen(v);
+    }
+    lessen(to, v)
+}
+
+// The same by the rule of the tables.
+pub fn convert_by_rule(from: u32, to: u32, v: u32) -> u32
+    ensures { λ r. ⌜ r ≡ converted from to v ⌝ }
+{
+    if from == to {
+        return v;
+    }
+    if is_sixteen(from) {
         return widen_by_rule(v);
     }
-    if to == 2 {
-        return narrow(v);
-    }
-    v % 16777216
+    lessen(to, v)
 }
 
 fn is_deep(format: u32) -> bool

@@ -39,7 +39,7 @@ fn plain_colour(p: Plain, feed: Feed, v: u32) -> Source
 {
     let to = p.target.bytes;
     Source {
-        value: colour::convert(feed.bytes, to, v),
+        value: colour::convert_by_rule(feed.bytes, to, v),
         key: false,
         left: false,
     }

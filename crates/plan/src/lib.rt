@@ -70,7 +70,7 @@ pub fn source_of(ink: Ink, range: Range, from: u32, v: u32) -> Source
     ensures { λ r. ⌜ r ≡ colourSource ink from v ⌝ }
 {
     Source {
-        value: colour::convert(from, ink.target.bytes, v),
+        value: colour::convert_by_rule(from, ink.target.bytes, v),
         key: is_hit(ink.srcKey, from, range, v),
         left: false,
     }

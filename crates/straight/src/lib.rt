@@ -49,7 +49,7 @@ fn straight_pixel(mem: &mut [u8], t: Straight, from: u32, to: u32, d: usize, s: 
     if is_keyed(t, from, v) {
         return;
     }
-    surface::put_bytes(mem, d, to, colour::convert(from, to, v));
+    surface::put_bytes(mem, d, to, colour::convert_by_rule(from, to, v));
 }
 
 // The w pixels of row j, of `to` bytes each from d on, and their sources, of `from` bytes each from s on, after n that were written: from the left.

@@ -8,12 +8,12 @@ use Rattle.plain.specs.Plain.{plainInk}
 use Rattle.plain.proofs.plain_colour.Statement.{statement}
 use Rattle.plain.proofs.plain_colour.Tie as tie
 
-convert-requires : tie.Need-convert-requires
-convert-requires c κs = search needs
+convert-by-rule-requires : tie.Need-convert-by-rule-requires
+convert-by-rule-requires c κs = search needs
 
 returns : tie.Need-returns
 unfolding hostSource colourSource plainInk
-returns c = rw (ne-eqb _ _ (c .before .pre), c .convert .ensures)
+returns c = rw (ne-eqb _ _ (c .before .pre), c .convert-by-rule .ensures)
 
 pub plain-colour-spec : {M : Type 1} → statement M
-plain-colour-spec = tie.close (tie.spec convert-requires returns)
+plain-colour-spec = tie.close (tie.spec convert-by-rule-requires returns)

@@ -25,8 +25,8 @@ returns c =
     keeps (a .t) (a .from) (a .to) (a .d) (a .s) (c .before .before .get-bytes .result) (a .mem .now) (p .formats) (c .before .before .get-bytes .ensures)
     (omega (arith, p .formats .target, p .stored .few)) bytes (sym (c .before .is-keyed .ensures) ∙ c .if1 .taken)
 
-convert-requires : tie.Need-convert-requires
-convert-requires c κs = search needs
+convert-by-rule-requires : tie.Need-convert-by-rule-requires
+convert-by-rule-requires c κs = search needs
 
 put-bytes-requires : tie.Need-put-bytes-requires
 put-bytes-requires c κs = search needs
@@ -38,7 +38,7 @@ returns-2 : tie.Need-returns-2
 returns-2 c =
     let a = c .before .before .before .before .before .before .before .before .before .before .args in
     let p = c .before .before .before .before .before .before .before .before .before .before .pre in
-    let value = c .before .before .before .convert in
+    let value = c .before .before .before .convert-by-rule in
     let v = c .before .before .before .before .before .before .before .get-bytes in
     puts (a .t) (a .from) (a .to) (a .d) (a .s) (v .result) (a .mem .now) (p .formats) (v .ensures)
     (value .result) _ (omega arith) (sym (c .before .before .before .before .before .before .is-keyed .ensures) ∙ c .before .before .before .before .before .if1 .left) (value .ensures)
@@ -52,7 +52,7 @@ straight-pixel-spec =
     is-keyed-requires
     same-length
     returns
-    convert-requires
+    convert-by-rule-requires
     put-bytes-requires
     same-length-2
     returns-2)
