@@ -5,11 +5,11 @@ ghost use lib.ListN.{length};
 ghost use Rattle.paint.specs.Paint.{state};
 ghost use Rattle.acts.specs.Deed.{noBlit, rectEnded, lineEnded, touchedByWord, paintedBy, deed, judged, filling, copying, lining, opening, feeding, Feeds, carrying, aimed, starting};
 
-// A host blit: whether it waits for data, how many words it has taken, and the last of them.
+// A host blit: how many words it has taken, the last of them, and whether it waits for more.
 pub struct Blit {
-    pub waiting: bool,
     pub taken: u32,
     pub last: u32,
+    pub waiting: bool,
 }
 
 // What became of a command: the row that refuses it, or 0; the registers and the host blit after it; how many pixels were written.
