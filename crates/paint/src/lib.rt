@@ -121,7 +121,7 @@ pub fn is_patternless(ink: Ink) -> bool
         & (raster::is_pattern_free(ink.rop2) & raster::is_pattern_free(ink.rop3))
 }
 
-// The one store: the pixel is given what pattern, source and target make, and counted, or it is left.
+// A pixel by itself: it is given what pattern, source and target make, and counted, or it is left.
 pub fn put_source(mem: &mut [u8], ink: Ink, pattern: u32, x: u32, y: u32, s: Source, n: u32) -> u32
     requires { ⌜ Ready ink (length (now mem)) x y n ⌝ }
     ensures { λ r. ⌜ (state (now (mem .exit)) r ≡ dab (ink .target) (px x y) (mixed ink pattern s (readPx (now (mem .entry)) (ink .target) x y)) (state (now (mem .entry)) n)) × (r ≤ n + 1) ⌝ }

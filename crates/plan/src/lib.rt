@@ -40,7 +40,7 @@ pub fn masks_of(ink: Ink) -> [u32; 32]
     masks
 }
 
-// The bits of the raster operations at the eight pixels of a row of the pattern: for each of both four values, by source and target.
+// For each of the four raster operations at each of the eight pixels of a row of the pattern: four values, by the bits of source and target.
 pub fn quads_of(masks: [u32; 32], values: [u32; 8]) -> [u32; 128]
     ensures { λ r. ⌜ QuadsFrom masks values r ⌝ }
 {
