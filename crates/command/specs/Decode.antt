@@ -9,7 +9,8 @@ use Rattle.formats.specs.Format.{targetOf, sourceOf}
 use Rattle.ink.specs.declared.Ink.{Ink}
 use Rattle.sweep.specs.declared.Task.{Task}
 use Rattle.paint.specs.Clip.{origin}
-use Rattle.cuts.specs.Cut.{bit, number, width, height, fillCut, copyCut}
+use Rattle.scale.specs.declared.Stretch.{Stretch}
+use Rattle.cuts.specs.Cut.{bit, number, low13, high13, width, height, fillCut, copyCut}
 use Rattle.registers.specs.declared.Regs.{Regs}
 use Rattle.positions.specs.Position.{placed}
 use Rattle.line.specs.declared.Line.{Line}
@@ -23,6 +24,10 @@ target r = targetOf (r .dstBaseAddr) (r .dstFormat)
 
 abbrev pub origins : Regs → Surface
 origins r = sourceOf (r .srcBaseAddr) (r .srcFormat) (width r)
+
+-- a stretch's source: its packed step is worked out from its own width
+abbrev pub stretchOrigins : Regs → Surface
+stretchOrigins r = sourceOf (r .srcBaseAddr) (r .srcFormat) (low13 (r .srcSize))
 
 -- ---- the ink, by the fields of command (ROP0 31:24, pattern offsets 22:20 and 19:17, transparency 16, mono pattern 13), of rop and of commandExtra
 unfoldable pub inkOf : Regs → Ink
@@ -75,6 +80,15 @@ copyTask r = record {
   sy = copyCut r .sy - origin;
   x = copyCut r .x;
   y = copyCut r .y;
+}
+
+-- a stretch: srcXY and dstXY are the upper left pixels, srcSize and dstSize the sizes
+unfoldable pub stretchOf : Regs → Stretch
+stretchOf r = record {
+  ink = inkOf r;
+  from = stretchOrigins r;
+  columns = record { to = placed (r .dstXY); size = width r; from = placed (r .srcXY); sourceSize = low13 (r .srcSize) };
+  rows = record { to = placed (r .dstXY / 2 ^ 16); size = height r; from = placed (r .srcXY / 2 ^ 16); sourceSize = high13 (r .srcSize) };
 }
 
 -- a line runs from srcXY to dstXY; number 7 is a polyline

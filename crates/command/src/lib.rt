@@ -5,11 +5,13 @@ use ink::Ink;
 use line::Line;
 use line::Pen;
 use registers::Regs;
+use scale::Scale;
+use scale::Stretch;
 use surface::Surface;
 use sweep::Task;
 ghost use mathlib.Core.Path.{_≡_};
 ghost use Prim.Native.Nat.{_-_, _<_};
-ghost use Rattle.command.specs.Decode.{target, origins, inkOf, plainBlit, plainOf, fillTask, copyTask, lineOf, penOf, feedOf};
+ghost use Rattle.command.specs.Decode.{target, origins, stretchOrigins, inkOf, plainBlit, plainOf, fillTask, copyTask, stretchOf, lineOf, penOf, feedOf};
 
 pub fn target_surface(r: Regs) -> Surface
     ensures { λ s. ⌜ s ≡ target r ⌝ }
@@ -21,6 +23,12 @@ pub fn source_surface(r: Regs) -> Surface
     ensures { λ s. ⌜ s ≡ origins r ⌝ }
 {
     formats::source_of(r.srcBaseAddr, r.srcFormat, r.dstSize % 0x2000)
+}
+
+pub fn stretch_surface(r: Regs) -> Surface
+    ensures { λ s. ⌜ s ≡ stretchOrigins r ⌝ }
+{
+    formats::source_of(r.srcBaseAddr, r.srcFormat, r.srcSize % 0x2000)
 }
 
 pub fn decode_ink(r: Regs) -> Ink
@@ -113,6 +121,31 @@ pub fn copy_task(r: Regs) -> Task
         sy: from_origin(c.sy),
         x: c.x,
         y: c.y,
+    }
+}
+
+pub fn decode_stretch(r: Regs) -> Stretch
+    ensures { λ t. ⌜ t ≡ stretchOf r ⌝ }
+{
+    let ink = decode_ink(r);
+    let from = stretch_surface(r);
+    let columns = Scale {
+        to: positions::place13(r.dstXY),
+        size: r.dstSize % 0x2000,
+        from: positions::place13(r.srcXY),
+        sourceSize: r.srcSize % 0x2000,
+    };
+    let rows = Scale {
+        to: positions::place13(r.dstXY / 0x1_0000),
+        size: r.dstSize / 0x1_0000 % 0x2000,
+        from: positions::place13(r.srcXY / 0x1_0000),
+        sourceSize: r.srcSize / 0x1_0000 % 0x2000,
+    };
+    Stretch {
+        ink: ink,
+        from: from,
+        columns: columns,
+        rows: rows,
     }
 }
 

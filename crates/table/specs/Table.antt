@@ -16,8 +16,9 @@ use Rattle.line.specs.Line.{points}
 use Rattle.line.specs.Draw.{lineOff}
 use Rattle.registers.specs.declared.Regs.{Regs}
 use Rattle.cuts.specs.declared.Cut.{Cut}
-use Rattle.command.specs.Decode.{target, origins, lineOf}
-use Rattle.cuts.specs.Cut.{width, clipOf, fillCut, copyCut, covered, needed}
+use Rattle.scale.specs.Stretch.{takenAt}
+use Rattle.command.specs.Decode.{target, origins, stretchOrigins, stretchOf, lineOf}
+use Rattle.cuts.specs.Cut.{low13, high13, width, height, clipOf, fillCut, copyCut, covered, needed}
 
 -- ---- row 5: a surface is tiled or has a format not listed, or the conversion is not allowed
 abbrev pub targetFine : Regs → Bool
@@ -51,6 +52,23 @@ copyVerdict r len =
     (cond (not (allOn (target r) len (covered (copyCut r))) || not (allOnAt (origins r) len (needed (copyCut r)))) 7
     (cond (not (sameSurface (target r) (origins r)) && meet (spanOf (target r) (covered (copyCut r))) (spanOf (origins r) (pixels (needed (copyCut r))))) 8
     0))
+
+-- the source positions that the covered pixels of a stretch take
+abbrev pub stretchNeeded : Regs → List Px
+stretchNeeded r = map (takenAt (stretchOf r)) (covered (fillCut r))
+
+-- row 6, for a stretch: a source of no width or no height, and a target that has both
+abbrev pub stretchFault : Regs → Bool
+stretchFault r = (ltb 0 (width r) && ltb 0 (height r)) && (eqb (low13 (r .srcSize)) 0 || eqb (high13 (r .srcSize)) 0)
+
+-- spans that meet are refused on one surface too
+unfoldable pub stretchVerdict : Regs → ℕ → ℕ
+stretchVerdict r len =
+    cond (not (bothFine r)) 5
+    (cond (stretchFault r) 6
+    (cond (not (allOn (target r) len (covered (fillCut r))) || not (allOnAt (stretchOrigins r) len (stretchNeeded r))) 7
+    (cond (meet (spanOf (target r) (covered (fillCut r))) (spanOf (stretchOrigins r) (pixels (stretchNeeded r)))) 8
+    0)))
 
 -- row 6, for a host blit: swizzle bits, direction bits or srcXY not 0, or packing 0 with a stride below the row's bytes
 abbrev pub hostFault : Regs → Bool
