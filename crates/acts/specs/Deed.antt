@@ -83,6 +83,10 @@ filling b k m = record { verdict = fillVerdict (b .regs) (length m); makes = mad
 abbrev pub copying : Bank → Blit → List ℕ → Deed
 copying b k m = record { verdict = copyVerdict (b .regs) (length m); makes = made (rectEnded b) k (paintedBy b (touchedByCopy b m) m) }
 
+-- a stretch copy
+abbrev pub stretching : Bank → Blit → List ℕ → Deed
+stretching b k m = record { verdict = 4; makes = made b k (state m 0) }
+
 abbrev pub lining : Bank → Blit → List ℕ → Deed
 lining b k m = record {
   verdict = lineVerdict (b .regs) (length m);
@@ -117,22 +121,23 @@ idling b k m = record { verdict = 0; makes = made b k (state m 0) }
 abbrev pub unbuilt : Bank → Blit → List ℕ → Deed
 unbuilt b k m = record { verdict = 4; makes = made b k (state m 0) }
 
--- ---- by a command's number: nop, screen copy, host blit, fill, line and polyline, and those that are not built
-abbrev pub byNumber : {A : Type 0} → ℕ → A → A → A → A → A → A → A
-byNumber n nop copy host fill line other =
-    cond (eqb n 0) nop (cond (eqb n 1) copy (cond (eqb n 3) host (cond (eqb n 5) fill (cond (leb 6 n && ltb n 8) line other))))
+-- ---- by a command's number: nop, screen copy, stretch copy, host blit, fill, line and polyline, and those that are not built
+abbrev pub byNumber : {A : Type 0} → ℕ → A → A → A → A → A → A → A → A
+byNumber n nop copy stretch host fill line other =
+    cond (eqb n 0) nop (cond (eqb n 1) copy (cond (eqb n 2) stretch (cond (eqb n 3) host (cond (eqb n 5) fill (cond (leb 6 n && ltb n 8) line other)))))
 
 -- the command that the registers hold
 unfoldable pub carrying : Bank → Blit → List ℕ → Deed
-carrying b k m = byNumber (number (b .regs)) (idling b k m) (copying b k m) (opening b m) (filling b k m) (lining b k m) (unbuilt b k m)
+carrying b k m = byNumber (number (b .regs)) (idling b k m) (copying b k m) (stretching b k m) (opening b m) (filling b k m) (lining b k m) (unbuilt b k m)
 
 -- a launch write puts its data into srcXY or dstXY, or it is a host blit's; with nop it is dropped
 unfoldable pub aimed : Bank → ℕ → Bank
-aimed b d = byNumber (number (b .regs)) b (stored b 0x5c d) b (stored b 0x6c d) (stored b 0x6c d) b
+aimed b d = byNumber (number (b .regs)) b (stored b 0x5c d) (stored b 0x5c d) b (stored b 0x6c d) (stored b 0x6c d) b
 
 unfoldable pub starting : Bank → Blit → List ℕ → ℕ → Deed
 starting b k m d =
-    byNumber (number (b .regs)) (idling b k m) (copying (stored b 0x5c d) k m) (feeding b k m d) (filling (stored b 0x6c d) k m) (lining (stored b 0x6c d) k m) (unbuilt b k m)
+    byNumber (number (b .regs)) (idling b k m) (copying (stored b 0x5c d) k m) (stretching (stored b 0x5c d) k m) (feeding b k m d) (filling (stored b 0x6c d) k m)
+    (lining (stored b 0x6c d) k m) (unbuilt b k m)
 
 -- ---- what a function asks for: a blit that the table takes, and that has not had all its words
 pub record Feeds (b : Bank) (k : Blit) (len : ℕ) : Type 0 where

@@ -3,7 +3,7 @@ use bank::Bank;
 ghost use mathlib.Core.Path.{_≡_};
 ghost use lib.ListN.{length};
 ghost use Rattle.paint.specs.Paint.{state};
-ghost use Rattle.acts.specs.Deed.{noBlit, rectEnded, lineEnded, touchedByWord, paintedBy, deed, judged, filling, copying, lining, opening, feeding, Feeds, carrying, aimed, starting};
+ghost use Rattle.acts.specs.Deed.{noBlit, rectEnded, lineEnded, touchedByWord, paintedBy, deed, judged, filling, copying, stretching, lining, opening, feeding, Feeds, carrying, aimed, starting};
 
 // A host blit: how many words it has taken, the last of them, and whether it waits for more.
 pub struct Blit {
@@ -99,6 +99,17 @@ fn copy(bank: Bank, blit: Blit, mem: &mut [u8]) -> Act
         bank: end_rect(bank),
         blit: blit,
         count: count,
+    }
+}
+
+fn stretch(bank: Bank, blit: Blit, mem: &mut [u8]) -> Act
+    ensures { λ r. ⌜ deed r (now (mem .exit)) ≡ judged (stretching bank blit (now (mem .entry))) bank blit (now (mem .entry)) ⌝ }
+{
+    Act {
+        number: 4,
+        bank: bank,
+        blit: blit,
+        count: 0,
     }
 }
 
@@ -242,6 +253,7 @@ pub fn carry(bank: Bank, blit: Blit, mem: &mut [u8]) -> Act
             count: 0,
         },
         1 => copy(bank, blit, mem),
+        2 => stretch(bank, blit, mem),
         3 => begin(bank, blit, mem),
         5 => fill(bank, blit, mem),
         6 | 7 => draw(bank, blit, mem),
@@ -260,7 +272,7 @@ fn aim(bank: Bank, word: u32) -> Bank
 {
     let number = bank.regs.command % 16;
     match number {
-        1 => bank.store(0x5c, word),
+        1 | 2 => bank.store(0x5c, word),
         5 | 6 | 7 => bank.store(0x6c, word),
         _ => bank,
     }

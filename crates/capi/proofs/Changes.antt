@@ -24,7 +24,7 @@ use Rattle.table.specs.Table.{fillVerdict, copyVerdict, hostVerdict, lineVerdic
 use Rattle.acts.specs.declared.Blit.{Blit}
 use Rattle.acts.specs.Deed.{rectEnded, lineEnded, Made, Deed, carrying, starting}
 use Rattle.engine.specs.declared.Engine.{Engine}
-use Rattle.engine.specs.Step.{Step, making, judging, regs, withBlit, idle, storedIn, afterRect, afterLine, filled, copied, lined, begun, fed, carried, launched, commanded, toRegister, toPlace, written}
+use Rattle.engine.specs.Step.{Step, making, judging, regs, withBlit, idle, storedIn, afterRect, afterLine, filled, copied, stretched, lined, begun, fed, carried, launched, commanded, toRegister, toPlace, written}
 use Rattle.acts.proofs.Cases.{by-test, picked, by-number}
 use Rattle.state.specs.Layout.{slot, byteIn, encoded, withSlots, commandSlots}
 use Rattle.capi.specs.Calls.{Draws}
@@ -118,6 +118,9 @@ module _ (b : Engine) where
   copied-led : (old e : Engine) (m : List ℕ) → Led b old → Led b e → Leaves b (copied old e m)
   copied-led old e m g h = picked (Leaves b) (eqb (copyVerdict (regs e) (length m)) 0) _ _ (λ _. rect-led e h) (λ _. g)
 
+  stretched-led : (old e : Engine) (m : List ℕ) → Led b old → Led b e → Leaves b (stretched old e m)
+  stretched-led old e m g h = g
+
   lined-led : (old e : Engine) (m : List ℕ) → Led b old → Led b e → Leaves b (lined old e m)
   lined-led old e m g h = picked (Leaves b) (eqb (lineVerdict (regs e) (length m)) 0) _ _ (λ _. like-then h (led-line e _)) (λ _. g)
 
@@ -137,8 +140,8 @@ module _ (b : Engine) where
   carried-led : (old e : Engine) (m : List ℕ) → Led b old → Led b e → Leaves b (carried old e m)
   unfolding carried carrying
   carried-led old e m g h =
-      by-number (λ (d : Deed). Leaves b (judging old e m d)) (number (regs e)) _ _ _ _ _ _ (λ _. h) (λ _. copied-led old e m g h) (λ _. begun-led old e m g h) (λ _. filled-led old e m g h)
-      (λ _ _. lined-led old e m g h) (λ _. g)
+      by-number (λ (d : Deed). Leaves b (judging old e m d)) (number (regs e)) _ _ _ _ _ _ _ (λ _. h) (λ _. copied-led old e m g h) (λ _. stretched-led old e m g h)
+      (λ _. begun-led old e m g h) (λ _. filled-led old e m g h) (λ _ _. lined-led old e m g h) (λ _. g)
 
 led-stored : (e : Engine) (o d : ℕ) → oneOf o commandSlots ≡ true → Led e (storedIn e o d)
 led-stored = like-stored commandSlots
@@ -146,8 +149,9 @@ led-stored = like-stored commandSlots
 launched-led : (e : Engine) (m : List ℕ) (d : ℕ) → Leaves e (launched e m d)
 unfolding launched starting storedIn
 launched-led e m d =
-    by-number (λ (k : Deed). Leaves e (judging e e m k)) (number (regs e)) _ _ _ _ _ _ (λ _. like-same e) (λ _. copied-led e e (storedIn e 0x5c d) m (like-same e) (led-stored e 0x5c d refl))
-    (λ _. fed-led e e m d (like-same e)) (λ _. filled-led e e (storedIn e 0x6c d) m (like-same e) (led-stored e 0x6c d refl))
+    by-number (λ (k : Deed). Leaves e (judging e e m k)) (number (regs e)) _ _ _ _ _ _ _ (λ _. like-same e)
+    (λ _. copied-led e e (storedIn e 0x5c d) m (like-same e) (led-stored e 0x5c d refl))
+    (λ _. stretched-led e e (storedIn e 0x5c d) m (like-same e) (led-stored e 0x5c d refl)) (λ _. fed-led e e m d (like-same e)) (λ _. filled-led e e (storedIn e 0x6c d) m (like-same e) (led-stored e 0x6c d refl))
     (λ _ _. lined-led e e (storedIn e 0x6c d) m (like-same e) (led-stored e 0x6c d refl)) (λ _. like-same e)
 
 commanded-led : (e : Engine) (m : List ℕ) (d : ℕ) → Leaves e (commanded e m d)

@@ -40,8 +40,8 @@ use Rattle.table.specs.Table.{targetFine, bothFine, allOnAt, pixels, sameSurfac
 use Rattle.table.proofs.Verdicts.{fill-can, copy-can, line-can, host-can}
 use Rattle.engine.specs.declared.Engine.{Engine}
 use Rattle.engine.specs.declared.Answer.the-variants.{Taken, Memory, Waiting, NotBuilt}
-use Rattle.acts.specs.Deed.{noBlit, rectEnded, Made, made, paintedBy, idling, unbuilt, filling, copying, lining, opening, feeding, carrying, starting, byNumber}
-use Rattle.engine.specs.Step.{Step, step, done, making, judging, numberOf, countOf, refusal, regs, idle, withBank, storedIn, afterRect, afterLine, filled, copied, lined, begun, fed, carried, launched, commanded, toRegister, toPattern, toPlace, written}
+use Rattle.acts.specs.Deed.{noBlit, rectEnded, Made, made, paintedBy, idling, unbuilt, filling, copying, stretching, lining, opening, feeding, carrying, starting, byNumber}
+use Rattle.engine.specs.Step.{Step, step, done, making, judging, numberOf, countOf, refusal, regs, idle, withBank, storedIn, afterRect, afterLine, filled, copied, stretched, lined, begun, fed, carried, launched, commanded, toRegister, toPattern, toPlace, written}
 use Rattle.engine.specs.Orders.{fillTouches, copyTouches, drawTouches, wordTouches, launching, orderAt, order, coveredBy, carriedTouches, launchedTouches, touchesAt, touchesOf}
 use Rattle.engine.specs.Promises.{row1, row2, row3, row4, row5, row6, row7, row8, ordered}
 use Rattle.acts.proofs.Cases.{by-test, picked, Unbuilt, pick, by-tests}
@@ -58,10 +58,10 @@ commandRow r len = firstOf 4 (row4 r ∷ row5 r ∷ row6 r ∷ row7 len r ∷ ro
 abbrev rows : ℕ → Bool → Bool → Bool → (List Px → Bool) → List Px → List Px → List Px → Bool → Bool → ℕ
 rows n both one fault on copy fill line need clash =
     firstOf 4
-    (byNumber n false false false false false true
-    ∷ byNumber n false both both one one false
+    (byNumber n false false true false false false true
+    ∷ byNumber n false both false both one one false
     ∷ (eqb n 3 && fault)
-    ∷ (not (on (byNumber n [] copy fill fill line [])) || (eqb n 1 && need))
+    ∷ (not (on (byNumber n [] copy [] fill fill line [])) || (eqb n 1 && need))
     ∷ (eqb n 1 && clash)
     ∷ [])
 
@@ -79,6 +79,10 @@ module _ (r : Regs) (len : ℕ) where
   pub row-copy : number r ≡ 1 → commandRow r len ≡ copyVerdict r len
   unfolding coveredBy copyVerdict firstOf
   row-copy n = ap rowsAt n
+
+  pub row-stretch : number r ≡ 2 → commandRow r len ≡ 4
+  unfolding coveredBy firstOf
+  row-stretch n = ap rowsAt n
 
   or-false : (a : Bool) → (a || false) ≡ a
   or-false true = refl
@@ -100,7 +104,7 @@ module _ (r : Regs) (len : ℕ) where
 
   pub row-other : Unbuilt (number r) → commandRow r len ≡ 4
   unfolding firstOf
-  row-other u = rw (u .not0, u .not1, u .not3, u .not5, u .not6)
+  row-other u = rw (u .not0, u .not1, u .not2, u .not3, u .not5, u .not6)
 
 -- ---- one command
 pub record Painting (r : Regs) (ts : List Touch) (m : List ℕ) (s : Step) : Type 0 where
@@ -143,6 +147,9 @@ painting : (r : Regs) (e : Engine) (m : List ℕ) (ts : List Touch) (ps : List P
     → ((p : Px) → In p (map (λ t. t .at) ts) → In p ps) → Painting r ts m (done e (paint (target r) ts (state m 0)))
 painting r e m ts ps same colour inside = record { memory = refl; count = refl; touched = λ p i. (subst⁻¹ (In p) same (inside p i), colour) }
 
+not-built : (r : Regs) (e : Engine) (m : List ℕ) → commandRow r (length m) ≡ 4 → Carried r [] m (step e m NotBuilt)
+not-built r e m row = record { number = sym row; paints = λ z. let four : _≡_ {A = ℕ} 4 0 = sym row ∙ z in absurd (omega arith) }
+
 module _ (r : Regs) where
   pub covered-none : number r ≡ 0 → coveredBy r ≡ []
   unfolding coveredBy
@@ -150,14 +157,18 @@ module _ (r : Regs) where
 
   pub covered-other : Unbuilt (number r) → coveredBy r ≡ []
   unfolding coveredBy
-  covered-other u = rw (u .not0, u .not1, u .not3, u .not5, u .not6)
+  covered-other u = rw (u .not0, u .not1, u .not2, u .not3, u .not5, u .not6)
 
   covered-at : ℕ → List Px
-  covered-at n = byNumber n [] (covered (copyCut r)) (covered (fillCut r)) (covered (fillCut r)) (coveredPoints (clipOf r) (points (lineOf r))) []
+  covered-at n = byNumber n [] (covered (copyCut r)) [] (covered (fillCut r)) (covered (fillCut r)) (coveredPoints (clipOf r) (points (lineOf r))) []
 
   pub covered-copy : number r ≡ 1 → coveredBy r ≡ covered (copyCut r)
   unfolding coveredBy covered-at
   covered-copy n = ap covered-at n
+
+  pub covered-stretch : number r ≡ 2 → coveredBy r ≡ []
+  unfolding coveredBy covered-at
+  covered-stretch n = ap covered-at n
 
   pub covered-host : number r ≡ 3 → coveredBy r ≡ covered (fillCut r)
   unfolding coveredBy covered-at
@@ -193,6 +204,10 @@ copied-carried old e m n =
     (row-copy r (length m) n) refl
     (λ v. painting r (afterRect e) m (copyTouches e m) (covered (copyCut r)) (covered-copy r n) (copy-can r (length m) v .colour .some)
     (λ p i. subst (In p) (rect-pixels (copyTask r) (e .bank .pattern) m (covered (copyCut r))) i))
+
+stretched-carried : (old e : Engine) (m : List ℕ) → number (regs e) ≡ 2 → Carried (regs e) [] m (stretched old e m)
+unfolding refusal
+stretched-carried old e m n = not-built (regs e) old m (row-stretch (regs e) (length m) n)
 
 pub line-pixels : (e : Engine) → map (λ t. t .at) (drawTouches e) ≡ coveredPoints (clipOf (regs e)) (points (lineOf (regs e)))
 line-pixels e = touches-covered (inkOf (regs e)) (e .bank .pattern) (clipOf (regs e)) (penOf (regs e)) (regs e .lineStyle) (points (lineOf (regs e)))
@@ -265,21 +280,18 @@ idle-carried : (r : Regs) (e : Engine) (m : List ℕ) → number r ≡ 0 → Car
 idle-carried r e m n = record { number = sym (row-nop r (length m) n); paints = λ _. nothing r e m }
 
 unbuilt-carried : (r : Regs) (e : Engine) (m : List ℕ) → Unbuilt (number r) → Carried r [] m (step e m NotBuilt)
-unbuilt-carried r e m u = record {
-  number = sym (row-other r (length m) u);
-  paints = λ z. let four : _≡_ {A = ℕ} 4 0 = sym (row-other r (length m) u) ∙ z in absurd (omega arith);
-}
+unbuilt-carried r e m u = not-built r e m (row-other r (length m) u)
 
 carried-carried : (old e : Engine) (m : List ℕ) → Carried (regs e) (carriedTouches e m) m (carried old e m)
 unfolding carried carrying carriedTouches refusal
 carried-carried old e m =
     by-tests
-    (λ a b c d f. Carried (regs e) (pick a b c d f [] (copyTouches e m) [] (fillTouches e m) (drawTouches e) []) m
+    (λ a b c d f g. Carried (regs e) (pick a b c d f g [] (copyTouches e m) [] [] (fillTouches e m) (drawTouches e) []) m
     (judging old e m
-    (pick a b c d f (idling (e .bank) (e .blit) m) (copying (e .bank) (e .blit) m) (opening (e .bank) m) (filling (e .bank) (e .blit) m) (lining (e .bank) (e .blit) m)
-    (unbuilt (e .bank) (e .blit) m))))
-    (number (regs e)) (idle-carried (regs e) e m) (copied-carried old e m) (begun-carried old e m) (filled-carried old e m) (lined-carried old e m)
-    (unbuilt-carried (regs e) old m)
+    (pick a b c d f g (idling (e .bank) (e .blit) m) (copying (e .bank) (e .blit) m) (stretching (e .bank) (e .blit) m) (opening (e .bank) m)
+    (filling (e .bank) (e .blit) m) (lining (e .bank) (e .blit) m) (unbuilt (e .bank) (e .blit) m))))
+    (number (regs e)) (idle-carried (regs e) e m) (copied-carried old e m) (stretched-carried old e m) (begun-carried old e m) (filled-carried old e m)
+    (lined-carried old e m) (unbuilt-carried (regs e) old m)
 
 launched-carried : (e : Engine) (m : List ℕ) (d : ℕ) → Carried (launching e d) (launchedTouches e m d) m (launched e m d)
 unfolding launched starting launching launchedTouches storedIn stored putReg refusal
@@ -287,14 +299,15 @@ launched-carried e m d =
     let toSource = storedIn e 0x5c d in
     let toTarget = storedIn e 0x6c d in
     by-tests
-    (λ a b c f g. Carried (pick a b c f g (regs e) (regs toSource) (regs e) (regs toTarget) (regs toTarget) (regs e))
-    (pick a b c f g [] (copyTouches toSource m) (cond (ltb (e .blit .taken) (wordsOf (feedOf (regs e)))) (wordTouches e d) []) (fillTouches toTarget m) (drawTouches toTarget) [])
+    (λ a b c f g h. Carried (pick a b c f g h (regs e) (regs toSource) (regs toSource) (regs e) (regs toTarget) (regs toTarget) (regs e))
+    (pick a b c f g h [] (copyTouches toSource m) [] (cond (ltb (e .blit .taken) (wordsOf (feedOf (regs e)))) (wordTouches e d) []) (fillTouches toTarget m)
+    (drawTouches toTarget) [])
     m
     (judging e e m
-    (pick a b c f g (idling (e .bank) (e .blit) m) (copying (toSource .bank) (e .blit) m) (feeding (e .bank) (e .blit) m d) (filling (toTarget .bank) (e .blit) m)
-    (lining (toTarget .bank) (e .blit) m) (unbuilt (e .bank) (e .blit) m))))
-    (number (regs e)) (idle-carried (regs e) e m) (copied-carried e toSource m) (fed-carried e m d) (filled-carried e toTarget m) (lined-carried e toTarget m)
-    (unbuilt-carried (regs e) e m)
+    (pick a b c f g h (idling (e .bank) (e .blit) m) (copying (toSource .bank) (e .blit) m) (stretching (toSource .bank) (e .blit) m) (feeding (e .bank) (e .blit) m d)
+    (filling (toTarget .bank) (e .blit) m) (lining (toTarget .bank) (e .blit) m) (unbuilt (e .bank) (e .blit) m))))
+    (number (regs e)) (idle-carried (regs e) e m) (copied-carried e toSource m) (stretched-carried e toSource m) (fed-carried e m d) (filled-carried e toTarget m)
+    (lined-carried e toTarget m) (unbuilt-carried (regs e) e m)
 
 -- ---- any write: `two` and `three` say whether rows 2 and 3 apply
 abbrev pub PaintingOf : Option Regs → List Touch → List ℕ → Step → Type 0

@@ -27,7 +27,7 @@ use Rattle.engine.specs.Orders.{copyTouches, fillTouches, drawTouches, w
 use Rattle.engine.specs.Promises.{given, wrote, Paints, CountsWritten, TouchesCovered, WordCovered}
 use Rattle.acts.proofs.Cases.{by-test, pick, by-tests, by-number}
 use Rattle.engine.proofs.Orders.{the-same, nothing-ordered}
-use Rattle.engine.proofs.Commands.{PaintingOf, covered-none, covered-copy, covered-fill, covered-line, covered-other, rect-pixels, line-pixels, write-written}
+use Rattle.engine.proofs.Commands.{PaintingOf, covered-none, covered-copy, covered-stretch, covered-fill, covered-line, covered-other, rect-pixels, line-pixels, write-written}
 
 counts-from : (s : Surface) (ts : List Touch) (m : List ℕ) (n : ℕ) → paint s ts (state m n) .count ≡ n + length (wrote s ts m)
 unfolding paint wrote dab
@@ -61,6 +61,9 @@ module _ (e : Engine) where
   copy-covered : (m : List ℕ) → number (regs e) ≡ 1 → map (λ t. t .at) (copyTouches e m) ≡ coveredBy (regs e)
   copy-covered m n = rect-pixels (copyTask (regs e)) (e .bank .pattern) m (covered (copyCut (regs e))) ∙ sym (covered-copy (regs e) n)
 
+  stretch-covered : number (regs e) ≡ 2 → [] ≡ coveredBy (regs e)
+  stretch-covered n = sym (covered-stretch (regs e) n)
+
   fill-covered : (m : List ℕ) → number (regs e) ≡ 5 → map (λ t. t .at) (fillTouches e m) ≡ coveredBy (regs e)
   fill-covered m n = rect-pixels (fillTask (regs e)) (e .bank .pattern) m (covered (fillCut (regs e))) ∙ sym (covered-fill (regs e) n)
 
@@ -73,8 +76,8 @@ Covers ts r = (number r ≡ 3 → ⊥) → map (λ t. t .at) ts ≡ coveredBy r
 carried-covers : (e : Engine) (m : List ℕ) → Covers (carriedTouches e m) (regs e)
 unfolding carriedTouches
 carried-covers e m =
-    by-number (λ ts. Covers ts (regs e)) (number (regs e)) _ _ _ _ _ _ (λ n _. sym (covered-none (regs e) n)) (λ n _. copy-covered e m n) (λ n other. absurd (other n))
-    (λ n _. fill-covered e m n) (λ low high _. draw-covered e low high) (λ u _. sym (covered-other (regs e) u))
+    by-number (λ ts. Covers ts (regs e)) (number (regs e)) _ _ _ _ _ _ _ (λ n _. sym (covered-none (regs e) n)) (λ n _. copy-covered e m n) (λ n _. stretch-covered e n)
+    (λ n other. absurd (other n)) (λ n _. fill-covered e m n) (λ low high _. draw-covered e low high) (λ u _. sym (covered-other (regs e) u))
 
 launched-covers : (e : Engine) (m : List ℕ) (d : ℕ) → Covers (launchedTouches e m d) (launching e d)
 unfolding launchedTouches launching storedIn stored putReg
@@ -82,11 +85,12 @@ launched-covers e m d =
     let toSource = storedIn e 0x5c d in
     let toTarget = storedIn e 0x6c d in
     by-tests
-    (λ a b c f g. Covers
-    (pick a b c f g [] (copyTouches toSource m) (cond (ltb (e .blit .taken) (wordsOf (feedOf (regs e)))) (wordTouches e d) []) (fillTouches toTarget m) (drawTouches toTarget) [])
-    (pick a b c f g (regs e) (regs toSource) (regs e) (regs toTarget) (regs toTarget) (regs e)))
-    (number (regs e)) (λ n _. sym (covered-none (regs e) n)) (λ n _. copy-covered toSource m n) (λ n other. absurd (other n)) (λ n _. fill-covered toTarget m n)
-    (λ low high _. draw-covered toTarget low high) (λ u _. sym (covered-other (regs e) u))
+    (λ a b c f g h. Covers
+    (pick a b c f g h [] (copyTouches toSource m) [] (cond (ltb (e .blit .taken) (wordsOf (feedOf (regs e)))) (wordTouches e d) []) (fillTouches toTarget m)
+    (drawTouches toTarget) [])
+    (pick a b c f g h (regs e) (regs toSource) (regs toSource) (regs e) (regs toTarget) (regs toTarget) (regs e)))
+    (number (regs e)) (λ n _. sym (covered-none (regs e) n)) (λ n _. copy-covered toSource m n) (λ n _. stretch-covered toSource n) (λ n other. absurd (other n))
+    (λ n _. fill-covered toTarget m n) (λ low high _. draw-covered toTarget low high) (λ u _. sym (covered-other (regs e) u))
 
 place-covers : (p : Place) (e : Engine) (m : List ℕ) (o d : ℕ) (r : Regs) → orderAt p e o d ≡ some r → Covers (touchesAt p e m o d) r
 place-covers Register e m o d r =

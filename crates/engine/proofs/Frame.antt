@@ -49,8 +49,8 @@ copy-in-clip r p i = cut-in-clip (clipOf r) _ _ _ _ _ _ p (in-rect false false _
 pub covered-inside : (r : Regs) (p : Px) → In p (coveredBy r) → inClip (clipOf r) (origin + p .x) (origin + p .y) ≡ true
 unfolding coveredBy
 covered-inside r p =
-    by-number (λ (ps : List Px). In p ps → inClip (clipOf r) (origin + p .x) (origin + p .y) ≡ true) (number r) _ _ _ _ _ _
-    (λ _ i. absurd (List·Memᴰ·not-nil i)) (λ _. copy-in-clip r p) (λ _. fill-in-clip r p) (λ _. fill-in-clip r p) (λ _ _. covered-in-clip (clipOf r) (points (lineOf r)) p)
+    by-number (λ (ps : List Px). In p ps → inClip (clipOf r) (origin + p .x) (origin + p .y) ≡ true) (number r) _ _ _ _ _ _ _
+    (λ _ i. absurd (List·Memᴰ·not-nil i)) (λ _. copy-in-clip r p) (λ _ i. absurd (List·Memᴰ·not-nil i)) (λ _. fill-in-clip r p) (λ _. fill-in-clip r p) (λ _ _. covered-in-clip (clipOf r) (points (lineOf r)) p)
     (λ _ i. absurd (List·Memᴰ·not-nil i))
 
 -- ---- one write: what is left

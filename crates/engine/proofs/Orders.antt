@@ -16,7 +16,7 @@ use Rattle.acts.proofs.Cases.{by-number}
 module _ (e : Engine) (d : ℕ) where
   pub launch-number : number (launching e d) ≡ number (regs e)
   unfolding launching storedIn stored putReg
-  launch-number = by-number (λ (r : Regs). number r ≡ number (regs e)) (number (regs e)) _ _ _ _ _ _ (λ _. refl) (λ _. refl) (λ _. refl) (λ _. refl) (λ _ _. refl) (λ _. refl)
+  launch-number = by-number (λ (r : Regs). number r ≡ number (regs e)) (number (regs e)) _ _ _ _ _ _ _ (λ _. refl) (λ _. refl) (λ _. refl) (λ _. refl) (λ _. refl) (λ _ _. refl) (λ _. refl)
 
   pub launch-copy : number (regs e) ≡ 1 → launching e d ≡ regs (storedIn e 0x5c d)
   unfolding launching

@@ -22,7 +22,7 @@ use Rattle.table.specs.Table.{fillVerdict, copyVerdict, hostVerdict, lineVerdic
 use Rattle.acts.specs.declared.Blit.{Blit}
 use Rattle.acts.specs.Deed.{noBlit, Made, Deed, carrying, starting}
 use Rattle.engine.specs.declared.Engine.{Engine}
-use Rattle.engine.specs.Step.{Step, making, judging, freshEngine, withBank, withBlit, afterRect, afterLine, regs, idle, storedIn, filled, copied, lined, begun, fed, carried, launched, commanded, toRegister, toPattern, toPlace, written}
+use Rattle.engine.specs.Step.{Step, making, judging, freshEngine, withBank, withBlit, afterRect, afterLine, regs, idle, storedIn, filled, copied, stretched, lined, begun, fed, carried, launched, commanded, toRegister, toPattern, toPlace, written}
 use Rattle.engine.specs.Orders.{orderAt, order}
 use Rattle.engine.specs.Promises.{row1, row2, row3, Sound, SoundFresh, SoundKept, WordsTaken}
 use Rattle.acts.proofs.Cases.{picked, by-number}
@@ -51,6 +51,9 @@ filled-sound old e m s h = picked SoundAfter (eqb (fillVerdict (regs e) (length 
 
 copied-sound : (old e : Engine) (m : List ℕ) → Sound old → e .blit ≡ noBlit → Sound (copied old e m .engine)
 copied-sound old e m s h = picked SoundAfter (eqb (copyVerdict (regs e) (length m)) 0) _ _ (λ _. resting (afterRect e) h) (λ _. s)
+
+stretched-sound : (old e : Engine) (m : List ℕ) → Sound old → e .blit ≡ noBlit → Sound (stretched old e m .engine)
+stretched-sound old e m s h = s
 
 lined-sound : (old e : Engine) (m : List ℕ) → Sound old → e .blit ≡ noBlit → Sound (lined old e m .engine)
 lined-sound old e m s h =
@@ -83,14 +86,16 @@ fed-sound e m d s three fits =
 carried-sound : (old e : Engine) (m : List ℕ) → Sound old → e .blit ≡ noBlit → length m ≡ e .opened → Sound (carried old e m .engine)
 unfolding carried carrying
 carried-sound old e m s h fits =
-    by-number (λ (d : Deed). SoundAfter (judging old e m d)) (number (regs e)) _ _ _ _ _ _ (λ _. resting e h) (λ _. copied-sound old e m s h) (λ three. begun-sound old e m s three fits)
+    by-number (λ (d : Deed). SoundAfter (judging old e m d)) (number (regs e)) _ _ _ _ _ _ _ (λ _. resting e h) (λ _. copied-sound old e m s h)
+    (λ _. stretched-sound old e m s h) (λ three. begun-sound old e m s three fits)
     (λ _. filled-sound old e m s h) (λ _ _. lined-sound old e m s h) (λ _. s)
 
 launched-sound : (e : Engine) (m : List ℕ) (d : ℕ) → Sound e → length m ≡ e .opened → Sound (launched e m d .engine)
 unfolding launched starting storedIn
 launched-sound e m d s fits =
-    by-number (λ (k : Deed). SoundAfter (judging e e m k)) (number (regs e)) _ _ _ _ _ _ (λ _. s)
+    by-number (λ (k : Deed). SoundAfter (judging e e m k)) (number (regs e)) _ _ _ _ _ _ _ (λ _. s)
     (λ n. copied-sound e (storedIn e 0x5c d) m s (quiet e s (λ q. omega arith)))
+    (λ n. stretched-sound e (storedIn e 0x5c d) m s (quiet e s (λ q. omega arith)))
     (λ three. fed-sound e m d s three fits)
     (λ n. filled-sound e (storedIn e 0x6c d) m s (quiet e s (λ q. omega arith)))
     (λ low high. lined-sound e (storedIn e 0x6c d) m s (quiet e s (λ q. omega arith))) (λ _. s)

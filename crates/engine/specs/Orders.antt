@@ -22,7 +22,8 @@ use Rattle.engine.specs.Step.{regs, storedIn}
 
 -- ---- the registers with which it is carried out: those of a write to command with bit 8; of a launch write, which puts its data into srcXY or dstXY first
 unfoldable pub launching : Engine → ℕ → Regs
-launching e d = byNumber (number (regs e)) (regs e) (regs (storedIn e 0x5c d)) (regs e) (regs (storedIn e 0x6c d)) (regs (storedIn e 0x6c d)) (regs e)
+launching e d =
+    byNumber (number (regs e)) (regs e) (regs (storedIn e 0x5c d)) (regs (storedIn e 0x5c d)) (regs e) (regs (storedIn e 0x6c d)) (regs (storedIn e 0x6c d)) (regs e)
 
 abbrev pub orderAt : Place → Engine → ℕ → ℕ → Option Regs
 orderAt Register e o d = cond (eqb o 0x70 && bit d 8) (some (regs (storedIn e 0x70 d))) none
@@ -36,7 +37,7 @@ order e o d = orderAt (placeOf o) e o d
 -- ---- the pixels that a command covers
 unfoldable pub coveredBy : Regs → List Px
 coveredBy r =
-    byNumber (number r) [] (covered (copyCut r)) (covered (fillCut r)) (covered (fillCut r)) (coveredPoints (clipOf r) (points (lineOf r))) []
+    byNumber (number r) [] (covered (copyCut r)) [] (covered (fillCut r)) (covered (fillCut r)) (coveredPoints (clipOf r) (points (lineOf r))) []
 
 -- ---- what each command touches
 abbrev pub fillTouches : Engine → List ℕ → List Touch
@@ -53,11 +54,11 @@ wordTouches e word = touchedByWord (e .bank) (e .blit) word
 
 -- ---- what a write touches, if it is taken: a host blit touches with each word of data, and not when it is opened
 unfoldable pub carriedTouches : Engine → List ℕ → List Touch
-carriedTouches e m = byNumber (number (regs e)) [] (copyTouches e m) [] (fillTouches e m) (drawTouches e) []
+carriedTouches e m = byNumber (number (regs e)) [] (copyTouches e m) [] [] (fillTouches e m) (drawTouches e) []
 
 unfoldable pub launchedTouches : Engine → List ℕ → ℕ → List Touch
 launchedTouches e m d =
-    byNumber (number (regs e)) [] (copyTouches (storedIn e 0x5c d) m) (cond (ltb (e .blit .taken) (wordsOf (feedOf (regs e)))) (wordTouches e d) [])
+    byNumber (number (regs e)) [] (copyTouches (storedIn e 0x5c d) m) [] (cond (ltb (e .blit .taken) (wordsOf (feedOf (regs e)))) (wordTouches e d) [])
     (fillTouches (storedIn e 0x6c d) m) (drawTouches (storedIn e 0x6c d)) []
 
 abbrev pub touchesAt : Place → Engine → List ℕ → ℕ → ℕ → List Touch

@@ -72,11 +72,11 @@ row3 Nowhere e o = e .blit .waiting
 
 -- 4: the command is not built
 abbrev pub row4 : Regs → Bool
-row4 r = byNumber (number r) false false false false false true
+row4 r = byNumber (number r) false false true false false false true
 
 -- 5: a surface it uses is tiled or has a format not listed, or the conversion is not allowed; nop uses none
 abbrev pub row5 : Regs → Bool
-row5 r = byNumber (number r) false (not (bothFine r)) (not (bothFine r)) (not (targetFine r)) (not (targetFine r)) false
+row5 r = byNumber (number r) false (not (bothFine r)) false (not (bothFine r)) (not (targetFine r)) (not (targetFine r)) false
 
 -- 6: a fault of a host blit
 abbrev pub row6 : Regs → Bool

@@ -16,7 +16,7 @@ use Rattle.registers.specs.Offsets.{placeOf}
 use Rattle.cuts.specs.Cut.{bit}
 use Rattle.acts.specs.declared.Blit.{Blit}
 use Rattle.acts.specs.declared.Act.{Act}
-use Rattle.acts.specs.Deed.{noBlit, rectEnded, lineEnded, Made, Deed, filling, copying, lining, opening, feeding, carrying, starting}
+use Rattle.acts.specs.Deed.{noBlit, rectEnded, lineEnded, Made, Deed, filling, copying, stretching, lining, opening, feeding, carrying, starting}
 use Rattle.engine.specs.declared.Outcome.{Outcome}
 use Rattle.engine.specs.declared.Engine.{Engine}
 use Rattle.engine.specs.declared.Answer.{Answer}
@@ -97,12 +97,15 @@ making e k = done (record { bank = k .bank; blit = k .blit; opened = e .opened }
 abbrev pub judging : Engine → Engine → List ℕ → Deed → Step
 judging old e m d = cond (eqb (d .verdict) 0) (making e (d .makes)) (step old m (refusal (d .verdict)))
 
--- one by one: a fill, a screen copy, a line, a host blit opened, a word of its data
+-- one by one: a fill, a screen copy, a stretch copy, a line, a host blit opened, a word of its data
 abbrev pub filled : Engine → Engine → List ℕ → Step
 filled old e m = judging old e m (filling (e .bank) (e .blit) m)
 
 abbrev pub copied : Engine → Engine → List ℕ → Step
 copied old e m = judging old e m (copying (e .bank) (e .blit) m)
+
+abbrev pub stretched : Engine → Engine → List ℕ → Step
+stretched old e m = judging old e m (stretching (e .bank) (e .blit) m)
 
 abbrev pub lined : Engine → Engine → List ℕ → Step
 lined old e m = judging old e m (lining (e .bank) (e .blit) m)

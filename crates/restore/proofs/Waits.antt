@@ -22,7 +22,7 @@ use Rattle.table.specs.Table.{fillVerdict, copyVerdict, hostVerdict, lineVerdic
 use Rattle.acts.specs.Deed.{Made, Deed, carrying, starting}
 use Rattle.engine.specs.declared.Engine.{Engine}
 use Rattle.engine.specs.declared.Answer.{Answer}
-use Rattle.engine.specs.Step.{Step, step, making, judging, numberOf, regs, idle, withBank, withBlit, storedIn, afterRect, afterLine, filled, copied, lined, begun, fed, carried, launched, commanded, toRegister, toPattern, toPlace, written}
+use Rattle.engine.specs.Step.{Step, step, making, judging, numberOf, regs, idle, withBank, withBlit, storedIn, afterRect, afterLine, filled, copied, stretched, lined, begun, fed, carried, launched, commanded, toRegister, toPattern, toPlace, written}
 use Rattle.acts.proofs.Cases.{by-test, picked, by-number}
 use Rattle.engine.proofs.Orders.{launch-host}
 use Rattle.restore.specs.Rectangles.{Rectangle}
@@ -61,6 +61,9 @@ module _ {t : Rectangle} (old e : Engine) (m : List ℕ) (o : e .opened ≡ old 
   copied-next : Next t old (copied old e m)
   copied-next = picked (Next t old) (eqb (copyVerdict r (length m)) 0) _ _ (λ _. goes old (afterRect e) o (not-waiting (afterRect e) rests)) (λ _. goes old old refl before)
 
+  stretched-next : Next t old (stretched old e m)
+  stretched-next = goes old old refl before
+
   lined-next : Next t old (lined old e m)
   lined-next =
       let after = afterLine e (styleAfter (penOf r) (pointCount (lineOf r)) (r .lineStyle)) in
@@ -77,8 +80,8 @@ module _ {t : Rectangle} (old e : Engine) (m : List ℕ) (o : e .opened ≡ old 
   pub carried-next : Asked t r (carried old e m) → Next t old (carried old e m)
   unfolding carried carrying
   carried-next =
-      by-number (λ (d : Deed). Asked t r (judging old e m d) → Next t old (judging old e m d)) (number r) _ _ _ _ _ _ (λ _ _. goes old e o (not-waiting e rests)) (λ _ _. copied-next) begun-next
-      (λ _ _. filled-next) (λ _ _ _. lined-next) (λ _ _. goes old old refl before)
+      by-number (λ (d : Deed). Asked t r (judging old e m d) → Next t old (judging old e m d)) (number r) _ _ _ _ _ _ _ (λ _ _. goes old e o (not-waiting e rests)) (λ _ _. copied-next)
+      (λ _ _. stretched-next) begun-next (λ _ _. filled-next) (λ _ _ _. lined-next) (λ _ _. goes old old refl before)
 
 -- ---- a launch write
 module _ {t : Rectangle} (e : Engine) (m : List ℕ) (d : ℕ) (held : Held t e) where
@@ -102,8 +105,9 @@ module _ {t : Rectangle} (e : Engine) (m : List ℕ) (d : ℕ) (held : Held t e)
   unfolding launched starting storedIn
   launched-next =
       let P : Step → Type 0 = (λ s. (numberOf (s .answer) ≡ 0 → number (regs e) ≡ 3 → Framed t (regs e)) → Next t e s) in
-      by-number (λ (k : Deed). P (judging e e m k)) (number (regs e)) _ _ _ _ _ _ (λ _ _. goes e e refl held)
+      by-number (λ (k : Deed). P (judging e e m k)) (number (regs e)) _ _ _ _ _ _ _ (λ _ _. goes e e refl held)
       (λ n _. copied-next e (storedIn e 0x5c d) m refl held (no-host (λ z. omega arith)))
+      (λ n _. stretched-next e (storedIn e 0x5c d) m refl held (no-host (λ z. omega arith)))
       (λ n asked. fed-next n (λ z. asked z n))
       (λ n _. filled-next e (storedIn e 0x6c d) m refl held (no-host (λ z. omega arith)))
       (λ low high _. lined-next e (storedIn e 0x6c d) m refl held (no-host (λ z. omega arith)))

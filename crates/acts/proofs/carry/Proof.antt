@@ -5,12 +5,15 @@ use mathlib.Core.Path.{sym, ap, _∙_}
 use native.Mathlib.Omega.{arith}
 use Rattle.acts.proofs.Cases.{unbuilt-low, unbuilt-high}
 use Rattle.acts.specs.Deed.{Deed, judged}
-use Rattle.acts.proofs.Numbers.{carry-idle, carry-copy, carry-host, carry-fill, carry-line, carry-other}
+use Rattle.acts.proofs.Numbers.{carry-idle, carry-copy, carry-stretch, carry-host, carry-fill, carry-line, carry-other}
 use Rattle.acts.proofs.carry.Statement.{statement}
 use Rattle.acts.proofs.carry.Tie as tie
 
 copy-requires : tie.Need-copy-requires
 copy-requires c κs = search needs
+
+stretch-requires : tie.Need-stretch-requires
+stretch-requires c κs = search needs
 
 begin-requires : tie.Need-begin-requires
 begin-requires c κs = search needs
@@ -40,42 +43,51 @@ same-length-2 c = search needs
 
 returns-3 : tie.Need-returns-3
 returns-3 c =
-    let a = (c .before .before .before .before .before .args) in
-    (c .begin .ensures) ∙ ap (λ (d : Deed). judged d (a .bank) (a .blit) (a .mem .now)) (sym (carry-host (a .bank) (a .blit) (a .mem .now) (c .before .before .match .keys3)))
+    let a = (c .before .before .before .before .before .before .before .args) in
+    (c .before .before .stretch .ensures) ∙ ap (λ (d : Deed). judged d (a .bank) (a .blit) (a .mem .now)) (sym (carry-stretch (a .bank) (a .blit) (a .mem .now) (c .before .before .before .before .match .keys3)))
 
 same-length-3 : tie.Need-same-length-3
 same-length-3 c = search needs
 
 returns-4 : tie.Need-returns-4
 returns-4 c =
-    let a = (c .before .before .before .before .before .before .before .args) in
-    (c .before .before .fill .ensures) ∙ ap (λ (d : Deed). judged d (a .bank) (a .blit) (a .mem .now)) (sym (carry-fill (a .bank) (a .blit) (a .mem .now) (c .before .before .before .before .match .keys4)))
+    let a = (c .before .before .before .before .before .args) in
+    (c .begin .ensures) ∙ ap (λ (d : Deed). judged d (a .bank) (a .blit) (a .mem .now)) (sym (carry-host (a .bank) (a .blit) (a .mem .now) (c .before .before .match .keys4)))
 
 same-length-4 : tie.Need-same-length-4
 same-length-4 c = search needs
 
 returns-5 : tie.Need-returns-5
 returns-5 c =
-    let a = (c .before .before .before .before .before .before .before .before .before .args) in
-    (c .before .before .draw .ensures) ∙ ap (λ (d : Deed). judged d (a .bank) (a .blit) (a .mem .now)) (sym (carry-line (a .bank) (a .blit) (a .mem .now) (omega (arith, (c .before .before .before .before .before .if1 .left))) (omega (arith, (c .before .before .before .before .if2 .taken)))))
+    let a = (c .before .before .before .before .before .before .before .args) in
+    (c .before .before .fill .ensures) ∙ ap (λ (d : Deed). judged d (a .bank) (a .blit) (a .mem .now)) (sym (carry-fill (a .bank) (a .blit) (a .mem .now) (c .before .before .before .before .match .keys5)))
+
+same-length-5 : tie.Need-same-length-5
+same-length-5 c = search needs
 
 returns-6 : tie.Need-returns-6
-unfolding judged
 returns-6 c =
-    let a = (c .before .before .before .before .args) in
-    ap (λ (d : Deed). judged d (a .bank) (a .blit) (a .mem .now)) (sym (carry-other (a .bank) (a .blit) (a .mem .now) (unbuilt-low _ (c .before .match .rest .0 .0 .0 .1) (c .before .match .rest .0 .0 .1) (c .before .match .rest .0 .1) (c .before .match .rest .1) (c .if1 .taken))))
+    let a = (c .before .before .before .before .before .before .before .before .before .args) in
+    (c .before .before .draw .ensures) ∙ ap (λ (d : Deed). judged d (a .bank) (a .blit) (a .mem .now)) (sym (carry-line (a .bank) (a .blit) (a .mem .now) (omega (arith, (c .before .before .before .before .before .if1 .left))) (omega (arith, (c .before .before .before .before .if2 .taken)))))
 
 returns-7 : tie.Need-returns-7
 unfolding judged
 returns-7 c =
+    let a = (c .before .before .before .before .args) in
+    ap (λ (d : Deed). judged d (a .bank) (a .blit) (a .mem .now)) (sym (carry-other (a .bank) (a .blit) (a .mem .now) (unbuilt-low _ (c .before .match .rest .0 .0 .0 .0 .1) (c .before .match .rest .0 .0 .0 .1) (c .before .match .rest .0 .0 .1) (c .before .match .rest .0 .1) (c .before .match .rest .1) (c .if1 .taken))))
+
+returns-8 : tie.Need-returns-8
+unfolding judged
+returns-8 c =
     let a = (c .before .before .before .before .before .args) in
-    ap (λ (d : Deed). judged d (a .bank) (a .blit) (a .mem .now)) (sym (carry-other (a .bank) (a .blit) (a .mem .now) (unbuilt-high _ (c .before .before .match .rest .0 .0 .0 .1) (c .before .before .match .rest .0 .0 .1) (c .before .before .match .rest .0 .1) (c .before .before .match .rest .1) (c .if2 .left))))
+    ap (λ (d : Deed). judged d (a .bank) (a .blit) (a .mem .now)) (sym (carry-other (a .bank) (a .blit) (a .mem .now) (unbuilt-high _ (c .before .before .match .rest .0 .0 .0 .0 .1) (c .before .before .match .rest .0 .0 .0 .1) (c .before .before .match .rest .0 .0 .1) (c .before .before .match .rest .0 .1) (c .before .before .match .rest .1) (c .if2 .left))))
 
 pub carry-spec : {M : Type 1} → statement M
 carry-spec =
     tie.close
     (tie.spec
     copy-requires
+    stretch-requires
     begin-requires
     fill-requires
     draw-requires
@@ -88,5 +100,7 @@ carry-spec =
     returns-4
     same-length-4
     returns-5
+    same-length-5
     returns-6
-    returns-7)
+    returns-7
+    returns-8)
