@@ -52,7 +52,7 @@ module _ (t : Task) (e : straight t ≡ true) where
   pub copied : t .copies ≡ true
   copied = and-left (t .copies) (not (eqb (t .from .bytes) 0)) first
 
-  coloured : t .from .bytes ≡ 0 → ⊥
+  pub coloured : t .from .bytes ≡ 0 → ⊥
   coloured = eqb-false (t .from .bytes) 0 (not-true (eqb (t .from .bytes) 0) (and-right (t .copies) (not (eqb (t .from .bytes) 0)) first))
 
   pub straight-gives : (pattern now : List ℕ) (p : Px) → giving t pattern now now p ≡ straightGiving (straightOf t) now p

@@ -104,7 +104,7 @@ fn mono_of(t: Task) -> Mono
 }
 
 // Whether a copy gives each pixel its source, or keeps what stands there where the source matches the key.
-fn is_straight(t: Task) -> bool
+pub fn is_straight(t: Task) -> bool
     ensures { λ r. ⌜ r ≡ straight t ⌝ }
 {
     t.copies
@@ -113,7 +113,7 @@ fn is_straight(t: Task) -> bool
         & (!t.ink.srcKey | (t.ink.rop2 == 0xaa))
 }
 
-fn straight_of(t: Task) -> Straight
+pub fn straight_of(t: Task) -> Straight
     ensures { λ r. ⌜ r ≡ straightOf t ⌝ }
 {
     let ink = t.ink;

@@ -44,8 +44,11 @@ abbrev pub stretched : Stretch → List ℕ → List ℕ → List Px → List To
 stretched t pattern m ps = map (λ p. touch p (λ now. stretchGiving t pattern m now p)) ps
 
 -- each pixel from the source as it is when its turn comes
+abbrev pub turnTouch : Stretch → List ℕ → Px → Touch
+turnTouch t pattern p = touch p (λ now. stretchGiving t pattern now now p)
+
 abbrev pub stretchedInTurn : Stretch → List ℕ → List Px → List Touch
-stretchedInTurn t pattern ps = map (λ p. touch p (λ now. stretchGiving t pattern now now p)) ps
+stretchedInTurn t pattern ps = map (turnTouch t pattern) ps
 
 -- ---- what functions ask for
 

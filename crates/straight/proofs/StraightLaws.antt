@@ -63,7 +63,7 @@ module _ (t : Straight) (from to d s v : ℕ) (m : List ℕ) (formats : Formats 
       (low ∙ ap (λ (i : ℕ). i % 2 ^ 32) (c ∙ ap₂ (λ (f g : ℕ). converted f g v) (formats .source) (formats .target)) ∙ by-key false e)
 
 -- ---- the same, of pixels whose bytes begin there
-copied-px : (t : Straight) (d s x y x′ y′ : ℕ) (m : List ℕ) → d ≡ byteOf (t .target) x y 0 → s ≡ byteOf (t .from) x′ y′ 0
+pub copied-px : (t : Straight) (d s x y x′ y′ : ℕ) (m : List ℕ) → d ≡ byteOf (t .target) x y 0 → s ≡ byteOf (t .from) x′ y′ 0
     → copied t d s m ≡ writePx m (t .target) x y (straightValue t (readPx m (t .target) x y) (readPx m (t .from) x′ y′))
 unfolding copied
 copied-px t d s x y x′ y′ m e f =

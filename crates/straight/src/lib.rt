@@ -33,7 +33,7 @@ fn is_keyed(t: Straight, from: u32, v: u32) -> bool
 }
 
 // The address of pixel number k of a row that begins at `first`.
-fn pixel_at(first: usize, bytes: u32, k: u32) -> usize
+pub fn pixel_at(first: usize, bytes: u32, k: u32) -> usize
     requires { ⌜ first + k * bytes < 2 ^ 64 ⌝ }
     ensures { λ r. ⌜ r ≡ first + k * bytes ⌝ }
 {
@@ -41,7 +41,7 @@ fn pixel_at(first: usize, bytes: u32, k: u32) -> usize
 }
 
 // The pixel whose `to` bytes begin at d, from the source whose `from` bytes begin at s.
-fn straight_pixel(mem: &mut [u8], t: Straight, from: u32, to: u32, d: usize, s: usize)
+pub fn straight_pixel(mem: &mut [u8], t: Straight, from: u32, to: u32, d: usize, s: usize)
     requires { ⌜ PixelCopies t from to d s (length (now mem)) ⌝ }
     ensures { λ _. ⌜ now (mem .exit) ≡ copied t d s (now (mem .entry)) ⌝ }
 {

@@ -1,0 +1,4 @@
+pub mod Taken
+pub mod Straight
+pub mod Order
+pub mod Mixed

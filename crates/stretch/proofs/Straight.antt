@@ -1,0 +1,82 @@
+-- Rows of a stretch whose pixels get their sources, or stay as they are where the source matches the key.
+-- Assumes nothing.
+use mathlib.Core.Path.{_≡_, refl, sym, ap, ap₂, subst, _∙_}
+use mathlib.Core.List.{List}
+use Prim.Native.Nat.{ℕ, _+_, _-_, _*_, _<_, _≤_}
+use native.Mathlib.Omega.{arith}
+use lib.ListN.{length}
+use Rattle.surface.specs.Place.{byteOf, Held, OnColour}
+use Rattle.surface.specs.Pixels.{px}
+use Rattle.surface.proofs.Run.{pixel-held, run-pixel}
+use Rattle.paint.specs.Clip.{origin}
+use Rattle.paint.specs.Paint.{state, dab}
+use Rattle.straight.specs.Straight.{straightGiving, copied, PixelCopies}
+use Rattle.straight.proofs.StraightLaws.{copied-px}
+use Rattle.rect.specs.Fast.{straightOf}
+use Rattle.scale.specs.declared.Stretch.{Stretch}
+use Rattle.scale.specs.declared.Walk.{Walk}
+use Rattle.scale.specs.Scale.{scaled, walkAt}
+use Rattle.scale.specs.Stretch.{takenAt, pixelTask}
+use Rattle.stretch.specs.Row.{openTask, straightTouch, rowOf, RowTakes, RunAt, RowTaken}
+use Rattle.stretch.proofs.Taken.{walk-place, RowLeft, row-goes-on, row-ended}
+
+-- where the row begins, by the source's row
+pub run-here : {t : Stretch} {from to d s x y sy : ℕ} → from ≡ t .from .bytes → to ≡ t .ink .target .bytes → 0 < t .from .bytes → d ≡ byteOf (t .ink .target) x y 0
+    → s ≡ byteOf (t .from) 0 sy 0 → sy ≡ rowOf t y → RunAt t from to d s x y
+run-here {t} source target some first sourceFirst row = record {
+  source = source;
+  target = target;
+  some = omega arith;
+  first = first;
+  sourceFirst = sourceFirst ∙ ap (λ (k : ℕ). byteOf (t .from) 0 k 0) row;
+}
+
+-- ---- pixel number i of row y: its bytes, and its source's
+module _ {t : Stretch} {x y w len n from to d s : ℕ} (row : RowTakes t x y w len n) (run : RunAt t from to d s x y) (i : ℕ) where
+  abbrev column : ℕ
+  column = scaled (t .columns) (origin + (x + i)) - origin
+
+  target-at : d + i * to ≡ byteOf (t .ink .target) (x + i) y 0
+  target-at = ap (λ (b : ℕ). d + i * b) (run .target) ∙ run-pixel (t .ink .target) x y d (run .first) i
+
+  source-at : s + column * from ≡ byteOf (t .from) column (rowOf t y) 0
+  source-at =
+      let same : 0 + column ≡ column = omega arith in
+      ap (λ (b : ℕ). s + column * b) (run .source) ∙ run-pixel (t .from) 0 (rowOf t y) s (run .sourceFirst) column ∙ ap (λ (k : ℕ). byteOf (t .from) k (rowOf t y) 0) same
+
+  pub pixel-copies : i < w → PixelCopies (straightOf (openTask t)) from to (d + i * to) (s + column * from) len
+  unfolding straightOf
+  pixel-copies h =
+      let takes = row .each i h in
+      let on : OnColour (t .from) len column (rowOf t y) = record { colour = record { small = row .small; some = subst (λ (b : ℕ). 0 < b) (run .source) (run .some) }; on = takes .from } in
+      record {
+        formats = record { source = run .source; target = run .target };
+        stored = subst (λ (b : ℕ). Held (d + i * to) b len) (sym (run .target)) (pixel-held (takes .on) (d + i * to) target-at);
+        read = subst (λ (b : ℕ). Held (s + column * from) b len) (sym (run .source)) (pixel-held on (s + column * from) source-at);
+      }
+
+  pixel-given : (count : ℕ) (m m′ : List ℕ) → m′ ≡ copied (straightOf (openTask t)) (d + i * to) (s + column * from) m
+      → state m′ (count + 1) ≡ dab (t .ink .target) (px (x + i) y) (straightGiving (straightOf (pixelTask t (px (x + i) y))) m (px (x + i) y)) (state m count)
+  unfolding dab straightGiving straightOf pixelTask takenAt
+  pixel-given count m m′ e =
+      let across : column ≡ column + (x + i - (x + i)) = omega arith in
+      let down : rowOf t y ≡ rowOf t y + (y - y) = omega arith in
+      ap (λ (left : List ℕ). state left (count + 1))
+      (e ∙ copied-px (straightOf (openTask t)) (d + i * to) (s + column * from) (x + i) y (column + (x + i - (x + i))) (rowOf t y + (y - y)) m target-at
+      (source-at ∙ ap₂ (λ (a b : ℕ). byteOf (t .from) a b 0) across down))
+
+-- ---- a turn of the loop, and the row when all its pixels have theirs
+module _ {t : Stretch} {x y w n i : ℕ} {m₀ m : List ℕ} {walk : Walk} (left : RowLeft t (straightTouch t) x y w n i (n + i) m₀ m walk) where
+  pub straight-again : {len from to d s : ℕ} → RowTakes t x y w len n → RunAt t from to d s x y → (m′ : List ℕ) (walk′ : Walk) → i < w
+      → m′ ≡ copied (straightOf (openTask t)) (d + i * to) (s + (walk .at - origin) * from) m → length m′ ≡ length m
+      → walk′ ≡ walkAt (t .columns) (origin + (x + (i + 1))) → RowLeft t (straightTouch t) x y w n (i + 1) (n + (i + 1)) m₀ m′ walk′
+  straight-again {len} {from} {to} {d} {s} row run m′ walk′ more copy long next =
+      let count : n + (i + 1) ≡ n + i + 1 = omega arith in
+      let place = walk-place (t .columns) (origin + (x + i)) (left .here) in
+      let copy′ = copy ∙ ap (λ (k : ℕ). copied (straightOf (openTask t)) (d + i * to) (s + (k - origin) * from) m) place in
+      row-goes-on left (n + (i + 1)) m′ walk′ more (ap (λ (c : ℕ). state m′ c) count ∙ pixel-given row run i (n + i) m m′ copy′) (omega arith) long next
+
+  pub straight-ended : w ≤ i → RowTaken t x y w n m₀ m (n + w)
+  straight-ended all =
+      let whole : n + w ≡ n + i = omega (arith, left .within) in
+      record { painted = ap (λ (c : ℕ). state m c) whole ∙ row-ended left all; counted = refl }

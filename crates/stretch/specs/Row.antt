@@ -1,0 +1,97 @@
+-- A row of a stretch: what its pixels are given, and what the functions that paint it ask for.
+-- Assumes nothing.
+use mathlib.Core.Path.{_≡_}
+use mathlib.Core.Bool.{true, false, cond}
+use mathlib.Core.List.{List, map}
+use Prim.Native.Nat.{ℕ, _+_, _-_, _^_, _<_, _≤_}
+use lib.Dec.{eqb}
+use Rattle.surface.specs.Place.{byteOf, readPx, monoBit, onSurface, Small, Colour, OnColour}
+use Rattle.surface.specs.Pixels.{Px, px, across}
+use Rattle.paint.specs.declared.Source.{Source}
+use Rattle.paint.specs.Clip.{origin}
+use Rattle.paint.specs.Paint.{Touch, touch, state, paint}
+use Rattle.paint.specs.Mix.{bitSource, colourSource}
+use Rattle.sweep.specs.declared.Task.{Task}
+use Rattle.sweep.specs.Row.{rowGiving}
+use Rattle.scale.specs.declared.Stretch.{Stretch}
+use Rattle.scale.specs.declared.Walk.{Walk}
+use Rattle.scale.specs.Scale.{scaled, walkAt, OnScale}
+use Rattle.scale.specs.Stretch.{pixelTask, CanStretch}
+use Rattle.straight.specs.Straight.{straightGiving}
+use Rattle.rect.specs.Fast.{straightOf}
+
+-- the copy of a pixel, with its places left open
+abbrev pub openTask : Stretch → Task
+openTask t = record { ink = t .ink; copies = true; from = t .from; sx = 0; sy = 0; x = 0; y = 0 }
+
+-- the source at pixel q of its surface
+abbrev pub sourceFrom : Stretch → List ℕ → Px → Source
+sourceFrom t m q =
+    cond (eqb (t .from .bytes) 0) (bitSource (t .ink) (monoBit m (t .from) (q .x) (q .y))) (colourSource (t .ink) (t .from .bytes) (readPx m (t .from) (q .x) (q .y)))
+
+-- what pixels are given by the values of the pattern's row
+abbrev pub rowTouch : Stretch → List ℕ → Px → Touch
+rowTouch t quads p = touch p (λ now. rowGiving (pixelTask t p) quads 0 now p)
+
+abbrev pub inRow : Stretch → List ℕ → List Px → List Touch
+inRow t quads ps = map (rowTouch t quads) ps
+
+-- what they are given where each gets its source, converted, or stays as it is where the source matches the key
+abbrev pub straightTouch : Stretch → Px → Touch
+straightTouch t p = touch p (λ now. straightGiving (straightOf (pixelTask t p)) now p)
+
+abbrev pub straightly : Stretch → List Px → List Touch
+straightly t ps = map (straightTouch t) ps
+
+-- ---- what functions ask for
+
+-- pixel (x, y) is on the target, and the source pixel that it takes is on its surface
+pub record TakesFrom (t : Stretch) (x y len : ℕ) : Type 0 where
+  pub on : OnColour (t .ink .target) len x y
+  pub left : origin ≤ scaled (t .columns) (origin + x)
+  pub top : origin ≤ scaled (t .rows) (origin + y)
+  pub from : onSurface (t .from) len (scaled (t .columns) (origin + x) - origin) (scaled (t .rows) (origin + y) - origin) ≡ true
+
+-- w pixels of row y from column x on can be painted, after n that were written
+pub record RowTakes (t : Stretch) (x y w len n : ℕ) : Type 0 where
+  pub colour : Colour (t .ink .target)
+  pub small : Small (t .from)
+  pub wide : x + w ≤ 2 ^ 13
+  pub room : n + w < 2 ^ 32
+  pub first : OnScale (t .columns) (origin + x)
+  pub last : OnScale (t .columns) (origin + (x + w))
+  pub each : (i : ℕ) → i < w → TakesFrom t (x + i) y len
+
+-- the walk along the columns begins at x
+abbrev pub ColumnsAt : Stretch → Walk → ℕ → Type 0
+ColumnsAt t columns x = columns ≡ walkAt (t .columns) (origin + x)
+
+-- the source's row of row y
+abbrev pub rowOf : Stretch → ℕ → ℕ
+rowOf t y = scaled (t .rows) (origin + y) - origin
+
+-- these are the formats; row y of the target begins at d, from column x on, and the source's row at s
+pub record RunAt (t : Stretch) (from to d s x y : ℕ) : Type 0 where
+  pub source : from ≡ t .from .bytes
+  pub target : to ≡ t .ink .target .bytes
+  pub some : 0 < from
+  pub first : d ≡ byteOf (t .ink .target) x y 0
+  pub sourceFirst : s ≡ byteOf (t .from) 0 (rowOf t y) 0
+
+-- pixel (sx, sy) is on the source's surface
+pub record OnSource (t : Stretch) (sx sy len : ℕ) : Type 0 where
+  pub small : Small (t .from)
+  pub on : onSurface (t .from) len sx sy ≡ true
+
+-- a rectangle that has pixels and can be stretched to; the walks begin at its first
+pub record Begins (t : Stretch) (columns rows : Walk) (x y w h len : ℕ) : Type 0 where
+  pub can : CanStretch t x y w h len
+  pub wide : 0 < w
+  pub high : 0 < h
+  pub columnsAt : ColumnsAt t columns x
+  pub rowsAt : rows ≡ walkAt (t .rows) (origin + y)
+
+-- ---- what functions give: the pixels of row y were given theirs, and r pixels were written in all
+pub record RowTaken (t : Stretch) (x y w n : ℕ) (m m′ : List ℕ) (r : ℕ) : Type 0 where
+  pub painted : state m′ r ≡ paint (t .ink .target) (straightly t (across false x w y)) (state m n)
+  pub counted : r ≡ n + w
