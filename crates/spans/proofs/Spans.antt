@@ -1,4 +1,4 @@
--- Spans: the lowest and the highest address of a list of pixels; of a rectangle, those of its two corners; and that a span holds every byte of its pixels.
+-- Spans: the lowest and the highest address of a list of pixels; of one with corners, such as a rectangle, those of the two; and that a span holds every byte of its pixels.
 -- Assumes nothing.
 use mathlib.Core.Path.{_≡_, refl, sym, ap, ap₂, subst, _∙_}
 use mathlib.Core.Logic.{_⊎_, ⊎-elim}
@@ -10,12 +10,13 @@ use native.Mathlib.Omega.{arith}
 use native.Mathlib.Decide.{decLe}
 use Rattle.surface.specs.declared.Surface.{Surface}
 use Rattle.surface.specs.Place.{byteAt, rowPixels, firstByte, byteCount}
-use Rattle.surface.specs.Pixels.{Px, px, rect, Inside}
+use Rattle.surface.specs.Pixels.{Px, px, rect}
 use Rattle.spans.specs.Span.{addressesOf, addresses, span, lowest, highest, spanned, spanOf}
 use Rattle.surface.proofs.Rows.{byteAt-mono}
 use Rattle.surface.proofs.OnLaws.{some-byte, in-row, lastByte, last-in-row, firstByte-mono}
 use Rattle.surface.proofs.Lists.{In, by-cases}
-use Rattle.surface.proofs.Rects.{in-rect, rect-in}
+use Rattle.surface.proofs.Rects.{in-rect}
+use Rattle.spans.proofs.Corner.{Between, Corners, rect-corners}
 
 -- ---- the least and the greatest of a list
 
@@ -114,28 +115,27 @@ rect-empty l t s x y w h none = no-pixel (rect l t x y w h) (λ p i. let r = in-
     no-pixel [] f = refl
     no-pixel (p ∷ ps) f = absurd (f p (List·Memᴰ·head refl))
 
--- of a rectangle: from the first byte of its first pixel to the last byte of its last
-pub rect-span : (l t : Bool) (s : Surface) (x y w h : ℕ) → 0 < w → 0 < h → x + (w - 1) < rowPixels s
-    → spanOf s (rect l t x y w h) ≡ span (byteAt s (firstByte s x) y) (byteAt s (lastByte s (x + (w - 1))) (y + (h - 1)) + 1)
+-- of pixels with corners: from the first byte of the first to the last byte of the last
+pub corners-span : (s : Surface) {ps : List Px} {x y x′ y′ : ℕ} → Corners ps x y x′ y′ → x′ < rowPixels s
+    → spanOf s ps ≡ span (byteAt s (firstByte s x) y) (byteAt s (lastByte s x′) y′ + 1)
 unfolding spanOf
-rect-span l t s x y w h pw ph column =
-    let here : Inside x y w h (px x y) = omega arith in
-    let there : Inside x y w h (px (x + (w - 1)) (y + (h - 1))) = omega arith in
+corners-span s {ps} {x} {y} {x′} {y′} c column =
     let some = some-byte s in
-    spanned-is (addresses s (rect l t x y w h)) (byteAt s (firstByte s x) y) (byteAt s (lastByte s (x + (w - 1))) (y + (h - 1)))
-    (addresses-in s (rect l t x y w h) (px x y) (byteAt s (firstByte s x) y) (rect-in l t x y w h _ here)
+    spanned-is (addresses s ps) (byteAt s (firstByte s x) y) (byteAt s (lastByte s x′) y′)
+    (addresses-in s ps (px x y) (byteAt s (firstByte s x) y) (c .first)
     (record { k = 0; low = some; at = ap (λ (m : ℕ). byteAt s m y) (sym (add-zero (firstByte s x))) }))
-    (addresses-in s (rect l t x y w h) (px (x + (w - 1)) (y + (h - 1))) (byteAt s (lastByte s (x + (w - 1))) (y + (h - 1))) (rect-in l t x y w h _ there)
-    (record { k = byteCount s - 1; low = omega arith; at = refl }))
-    (λ a i. let r = in-addresses s (rect l t x y w h) a i in let j = in-rect l t x y w h (r .0) (r .1) in between (r .0) a j (r .2))
+    (addresses-in s ps (px x′ y′) (byteAt s (lastByte s x′) y′) (c .last) (record { k = byteCount s - 1; low = omega arith; at = refl }))
+    (λ a i. let r = in-addresses s ps a i in held (r .0) a (c .between (r .0) (r .1)) (r .2))
   where
-    between : (p : Px) (a : ℕ) → Inside x y w h p → IsByte s p a
-        → (byteAt s (firstByte s x) y ≤ a) × (a ≤ byteAt s (lastByte s (x + (w - 1))) (y + (h - 1)))
-    between p a i b =
+    held : (p : Px) (a : ℕ) → Between x y x′ y′ p → IsByte s p a → (byteAt s (firstByte s x) y ≤ a) × (a ≤ byteAt s (lastByte s x′) y′)
+    held p a i b =
         let inside = in-row s (p .x) (b .k) (omega arith) (b .low) in
         let left = firstByte-mono s {x = x} {x′ = p .x} (i .left) in
-        let right = firstByte-mono s {x = p .x} {x′ = x + (w - 1)} (omega arith) in (
+        let right = firstByte-mono s {x = p .x} {x′ = x′} (i .right) in (
           subst (λ (n : ℕ). byteAt s (firstByte s x) y ≤ n) (sym (b .at)) (byteAt-mono s inside (omega arith) (i .top)),
-          subst (λ (n : ℕ). n ≤ byteAt s (lastByte s (x + (w - 1))) (y + (h - 1))) (sym (b .at))
-              (byteAt-mono s (last-in-row s (x + (w - 1)) column) (omega (arith, b .low)) (omega arith)),
+          subst (λ (n : ℕ). n ≤ byteAt s (lastByte s x′) y′) (sym (b .at)) (byteAt-mono s (last-in-row s x′ column) (omega (arith, b .low)) (i .bottom)),
         )
+
+pub rect-span : (l t : Bool) (s : Surface) (x y w h : ℕ) → 0 < w → 0 < h → x + (w - 1) < rowPixels s
+    → spanOf s (rect l t x y w h) ≡ span (byteAt s (firstByte s x) y) (byteAt s (lastByte s (x + (w - 1))) (y + (h - 1)) + 1)
+rect-span l t s x y w h pw ph column = corners-span s (rect-corners l t x y w h pw ph) column

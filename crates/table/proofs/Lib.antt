@@ -1,3 +1,4 @@
 pub mod Sources
 pub mod Rows
 pub mod Verdicts
+pub mod Stretches

@@ -13,10 +13,10 @@ use Rattle.surface.specs.Place.{onSurface}
 use Rattle.surface.specs.Pixels.{Px, px, rect}
 use Rattle.spans.specs.declared.Span.{Span}
 use Rattle.spans.specs.Span.{allOn, spanOf, meet}
-use Rattle.surface.proofs.OnLaws.{and-left, and-right, same-test}
+use Rattle.surface.proofs.OnLaws.{and-left, and-right, same-test, corner}
 use Rattle.surface.proofs.Lists.{In}
-use Rattle.surface.proofs.Rects.{same-px, in-rect, rect-in}
-use Rattle.spans.proofs.Corner.{all-each, each-all}
+use Rattle.surface.proofs.Rects.{same-px}
+use Rattle.spans.proofs.Corner.{Corners, corners-on, corners-map, rect-corners}
 use Rattle.spans.proofs.Spans.{rect-empty}
 use Rattle.paint.specs.Clip.{origin, pixelAt}
 use Rattle.cuts.specs.declared.Cut.{Cut}
@@ -31,7 +31,7 @@ needed-pixels c left top =
     (λ k l u v. same-px (px (c .sx + k - origin) (c .sy + l - origin)) (px (c .sx - origin + k) (c .sy - origin + l)) (omega arith) (omega arith))
 
 -- ---- the source positions on their surface
-each-at : (s : Surface) (len : ℕ) (qs : List Px) → allOnAt s len qs ≡ true → (q : Px) → In q qs → onAt s len q ≡ true
+pub each-at : (s : Surface) (len : ℕ) (qs : List Px) → allOnAt s len qs ≡ true → (q : Px) → In q qs → onAt s len q ≡ true
 unfolding allOnAt
 each-at s len [] e q i = absurd (List·Memᴰ·not-nil i)
 each-at s len (p ∷ qs) e q i =
@@ -43,36 +43,47 @@ unfolding allOnAt
 at-each s len [] f = refl
 at-each s len (p ∷ qs) f = ap (λ t. t && allOnAt s len qs) (f p (List·Memᴰ·head refl)) ∙ at-each s len qs (λ q i. f q (List·Memᴰ·tail i))
 
--- where there is a first one, it must not be negative, and the rest is a rectangle of pixels
-module _ (s : Surface) (len : ℕ) (c : Cut) (w : 0 < c .w) (h : 0 < c .h) where
-  first-at : onAt s len (px (c .sx) (c .sy)) ≡ true → (origin ≤ c .sx) × (origin ≤ c .sy)
-  first-at e =
-      let t = and-left (leb origin (c .sx) && leb origin (c .sy)) (onSurface s len (c .sx - origin) (c .sy - origin)) e in
-      (leb-true origin (c .sx) (and-left (leb origin (c .sx)) (leb origin (c .sy)) t), leb-true origin (c .sy) (and-right (leb origin (c .sx)) (leb origin (c .sy)) t))
+pub not-negative : (x y : ℕ) (on : Bool) → ((leb origin x && leb origin y) && on) ≡ true → (origin ≤ x) × (origin ≤ y) × (on ≡ true)
+not-negative x y on e =
+    let low = and-left (leb origin x && leb origin y) on e in (
+      leb-true origin x (and-left (leb origin x) (leb origin y) low),
+      leb-true origin y (and-right (leb origin x) (leb origin y) low),
+      and-right (leb origin x && leb origin y) on e,
+    )
 
+-- positions with corners: the first must not be negative, and the last on the surface
+pub corners-at : (s : Surface) (len : ℕ) {qs : List Px} {x y x′ y′ : ℕ} → Corners qs x y x′ y′
+    → allOnAt s len qs ≡ ((leb origin x && leb origin y) && onSurface s len (x′ - origin) (y′ - origin))
+corners-at s len {qs} {x} {y} {x′} {y′} c =
+    let low = leb origin x && leb origin y in
+    let high = onSurface s len (x′ - origin) (y′ - origin) in
+    same-test (allOnAt s len qs) (low && high)
+    (λ e. ap₂ (λ s t. s && t)
+    (and-left low (onSurface s len (x - origin) (y - origin)) (each-at s len qs e (px x y) (c .first)))
+    (and-right (leb origin x′ && leb origin y′) high (each-at s len qs e (px x′ y′) (c .last))))
+    (λ e. at-each s len qs (λ q i.
+    let b = c .between q i in
+    let k = not-negative x y high e in
+    ap₂ (λ s t. s && t) (ap₂ (λ s t. s && t) (le-leb origin (q .x) (omega arith)) (le-leb origin (q .y) (omega arith)))
+    (corner s len (q .x - origin) (q .y - origin) (x′ - origin) (y′ - origin) (k .2) (omega arith) (omega arith))))
+
+pub pixel-corners : {qs : List Px} {x y x′ y′ : ℕ} → Corners qs x y x′ y′ → Corners (pixels qs) (x - origin) (y - origin) (x′ - origin) (y′ - origin)
+pixel-corners c = corners-map (λ k. k - origin) (λ k. k - origin) (λ a b h. omega arith) (λ a b h. omega arith) c
+
+-- where a copy has a first one, it must not be negative, and the rest is a rectangle of pixels
+pub needed-corners : (c : Cut) → 0 < c .w → 0 < c .h → Corners (needed c) (c .sx) (c .sy) (c .sx + (c .w - 1)) (c .sy + (c .h - 1))
+needed-corners c w h = rw (needed-rect c) (rect-corners false false (c .sx) (c .sy) (c .w) (c .h) w h)
+
+module _ (s : Surface) (len : ℕ) (c : Cut) (w : 0 < c .w) (h : 0 < c .h) where
   pub needed-first : allOnAt s len (needed c) ≡ true → (origin ≤ c .sx) × (origin ≤ c .sy)
-  needed-first e =
-      first-at (each-at s len (rect false false (c .sx) (c .sy) (c .w) (c .h)) (sym (ap (allOnAt s len) (needed-rect c)) ∙ e) (px (c .sx) (c .sy))
-      (rect-in false false (c .sx) (c .sy) (c .w) (c .h) _ (omega arith)))
+  needed-first e = let k = not-negative (c .sx) (c .sy) _ (sym (corners-at s len (needed-corners c w h)) ∙ e) in (k .0, k .1)
 
   pub needed-as-pixels : origin ≤ c .sx → origin ≤ c .sy → allOnAt s len (needed c) ≡ allOn s len (rect false false (c .sx - origin) (c .sy - origin) (c .w) (c .h))
   needed-as-pixels left top =
-      let qs = rect false false (c .sx) (c .sy) (c .w) (c .h) in
-      let ps = rect false false (c .sx - origin) (c .sy - origin) (c .w) (c .h) in
-      ap (allOnAt s len) (needed-rect c)
-      ∙ same-test (allOnAt s len qs) (allOn s len ps)
-      (λ e. each-all s len ps (λ p i.
-      let r = in-rect false false (c .sx - origin) (c .sy - origin) (c .w) (c .h) p i in
-      let q = px (p .x + origin) (p .y + origin) in
-      let u = each-at s len qs e q (rect-in false false (c .sx) (c .sy) (c .w) (c .h) q (omega arith)) in
-      let x : p .x + origin - origin ≡ p .x = omega arith in
-      let y : p .y + origin - origin ≡ p .y = omega arith in
-      sym (ap₂ (onSurface s len) x y) ∙ and-right (leb origin (q .x) && leb origin (q .y)) (onSurface s len (q .x - origin) (q .y - origin)) u))
-      (λ e. at-each s len qs (λ q i.
-      let r = in-rect false false (c .sx) (c .sy) (c .w) (c .h) q i in
-      let p = pixelAt (q .x) (q .y) in
-      ap₂ (λ s t. s && t) (ap₂ (λ s t. s && t) (le-leb origin (q .x) (omega arith)) (le-leb origin (q .y) (omega arith)))
-      (all-each s len ps e p (rect-in false false (c .sx - origin) (c .sy - origin) (c .w) (c .h) p (omega arith)))))
+      corners-at s len (needed-corners c w h)
+      ∙ ap₂ (λ a b. (a && b) && onSurface s len (c .sx + (c .w - 1) - origin) (c .sy + (c .h - 1) - origin)) (le-leb origin (c .sx) left) (le-leb origin (c .sy) top)
+      ∙ sym (corners-on s len (pixel-corners (needed-corners c w h)))
+      ∙ ap (allOn s len) (needed-pixels c left top)
 
   -- a negative first position is off
   pub needed-negative : (origin ≤ c .sx → origin ≤ c .sy → ⊥) → allOnAt s len (needed c) ≡ false

@@ -40,15 +40,15 @@ use Rattle.cuts.proofs.CutLaws.{clip-bits, Bounded, cut-bounded}
 use Rattle.table.proofs.Sources.{needed-first, needed-as-pixels, needed-pixels, no-clash}
 
 -- ---- a verdict of 0 has passed each test
-passed : (t : Bool) (n k : ℕ) → 0 < n → cond (not t) n k ≡ 0 → (t ≡ true) × (k ≡ 0)
+pub passed : (t : Bool) (n k : ℕ) → 0 < n → cond (not t) n k ≡ 0 → (t ≡ true) × (k ≡ 0)
 passed true n k p e = (refl, e)
 passed false n k p e = absurd (omega arith)
 
-spared : (t : Bool) (n k : ℕ) → 0 < n → cond t n k ≡ 0 → (t ≡ false) × (k ≡ 0)
+pub spared : (t : Bool) (n k : ℕ) → 0 < n → cond t n k ≡ 0 → (t ≡ false) × (k ≡ 0)
 spared true n k p e = absurd (omega arith)
 spared false n k p e = (refl, e)
 
-neither : (a b : Bool) → (not a || not b) ≡ false → (a ≡ true) × (b ≡ true)
+pub neither : (a b : Bool) → (not a || not b) ≡ false → (a ≡ true) × (b ≡ true)
 neither true true e = (refl, refl)
 neither true false e = (refl, sym e)
 neither false b e = (sym e, absurd (false≢true (sym e)))
@@ -133,7 +133,7 @@ copy-passed r len e =
     let on = neither A B (q .0) in
     record { fine = p .0; on = on .0; source = on .1; apart = spared M 8 0 (omega arith) (q .1) .0 }
 
-target-named : (r : Regs) → bothFine r ≡ true → targetFine r ≡ true
+pub target-named : (r : Regs) → bothFine r ≡ true → targetFine r ≡ true
 target-named r e = and-left (targetFine r) _ e
 
 -- the source's pixels are on their surface as pixels
@@ -190,17 +190,22 @@ copy-orderly r len e = by-test (sameSurface (target r) (origins r)) refl
         (λ n. no-clash (target r) c _ (λ u v. n v)))
         (λ n. no-clash (target r) c _ (λ u v. n u)))
 
--- the two rectangles of a copy are in the rows of their surfaces
+-- the two rectangles of a copy or a stretch are in the rows of their surfaces
 on-columns : (s : Surface) (len x y w h : ℕ) → 0 < w → 0 < h → allOn s len (rect false false x y w h) ≡ true → x + (w - 1) < rowPixels s
 on-columns s len x y w h pw ph e = on-column s len (x + (w - 1)) (y + (h - 1)) (sym (rect-corner false false s len x y w h pw ph) ∙ e)
 
-pub in-rows : (t s : Surface) (len : ℕ) (c : Cut) → Small t → Small s → allOn t len (covered c) ≡ true → allOnAt s len (needed c) ≡ true → InRows t s c
-in-rows t s len c ts ss on source = record {
+pub in-rows : (t s : Surface) (len : ℕ) (c b : Cut) → Small t → Small s → (0 < c .w → 0 < c .h → (0 < b .w) × (0 < b .h))
+    → allOn t len (covered c) ≡ true → allOnAt s len (needed b) ≡ true → InRows t s c b
+in-rows t s len c b ts ss some on source = record {
   target = ts;
   source = ss;
-  columns = λ w h. (on-columns t len (c .x) (c .y) (c .w) (c .h) w h on, on-columns s len (c .sx - origin) (c .sy - origin) (c .w) (c .h) w h (source-on s len c source));
-  left = λ w h. needed-first s len c w h source .0;
-  top = λ w h. needed-first s len c w h source .1;
+  columns = λ w h.
+      let k = some w h in (
+        on-columns t len (c .x) (c .y) (c .w) (c .h) w h on,
+        on-columns s len (b .sx - origin) (b .sy - origin) (b .w) (b .h) (k .0) (k .1) (source-on s len b source),
+      );
+  left = λ w h. let k = some w h in needed-first s len b (k .0) (k .1) source .0;
+  top = λ w h. let k = some w h in needed-first s len b (k .0) (k .1) source .1;
 }
 
 -- ---- lines

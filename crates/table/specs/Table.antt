@@ -16,6 +16,10 @@ use Rattle.line.specs.Line.{points}
 use Rattle.line.specs.Draw.{lineOff}
 use Rattle.registers.specs.declared.Regs.{Regs}
 use Rattle.cuts.specs.declared.Cut.{Cut}
+use Rattle.table.specs.declared.Reach.{Reach}
+use Rattle.scale.specs.declared.Scale.{Scale}
+use Rattle.scale.specs.declared.Stretch.{Stretch}
+use Rattle.scale.specs.Scale.{scaled, OnScale}
 use Rattle.scale.specs.Stretch.{takenAt}
 use Rattle.command.specs.Decode.{target, origins, stretchOrigins, stretchOf, lineOf}
 use Rattle.cuts.specs.Cut.{low13, high13, width, height, clipOf, fillCut, copyCut, covered, needed}
@@ -85,10 +89,45 @@ hostVerdict r len =
 unfoldable pub lineVerdict : Regs → ℕ → ℕ
 lineVerdict r len = cond (not (targetFine r)) 5 (cond (lineOff (target r) len (clipOf r) (points (lineOf r))) 7 0)
 
--- ---- what functions ask for: the two rectangles of a copy are in the rows of their surfaces, where they have pixels
-pub record InRows (t s : Surface) (c : Cut) : Type 0 where
+-- ---- a stretch to the pixels of a cut
+-- its rows 7 and 8
+unfoldable pub stretchRows : Stretch → Cut → ℕ → ℕ
+stretchRows t c len =
+    cond (not (allOn (t .ink .target) len (covered c)) || not (allOnAt (t .from) len (map (takenAt t) (covered c)))) 7
+    (cond (meet (spanOf (t .ink .target) (covered c)) (spanOf (t .from) (pixels (map (takenAt t) (covered c))))) 8
+    0)
+
+-- on one axis: the source place that the first of n target places takes, and how many there are from it to that of the last
+unfoldable pub reachOf : Scale → ℕ → ℕ → Reach
+reachOf s at n = record { at = scaled s (origin + at); n = scaled s (origin + (at + (n - 1))) - scaled s (origin + at) + 1 }
+
+-- the box of the source positions that the pixels take; its x and y say nothing
+unfoldable pub takenCut : Stretch → Cut → Cut
+takenCut t c =
+    let across = reachOf (t .columns) (c .x) (c .w) in
+    let down = reachOf (t .rows) (c .y) (c .h) in
+    record { x = 0; y = 0; w = across .n; h = down .n; sx = across .at; sy = down .at }
+
+-- ---- what functions ask for
+
+-- the target's rectangle and the source's, which is that of cut b, are in the rows of their surfaces, where there are pixels to paint
+pub record InRows (t s : Surface) (c b : Cut) : Type 0 where
   pub target : Small t
   pub source : Small s
-  pub columns : 0 < c .w → 0 < c .h → (c .x + (c .w - 1) < rowPixels t) × (c .sx - origin + (c .w - 1) < rowPixels s)
-  pub left : 0 < c .w → 0 < c .h → origin ≤ c .sx
-  pub top : 0 < c .w → 0 < c .h → origin ≤ c .sy
+  pub columns : 0 < c .w → 0 < c .h → (c .x + (c .w - 1) < rowPixels t) × (b .sx - origin + (b .w - 1) < rowPixels s)
+  pub left : 0 < c .w → 0 < c .h → origin ≤ b .sx
+  pub top : 0 < c .w → 0 < c .h → origin ≤ b .sy
+
+-- there are n target places from `at` on, on one axis of a stretch
+pub record Reaches (s : Scale) (at n : ℕ) : Type 0 where
+  pub some : 0 < n
+  pub small : at + n ≤ 2 ^ 13
+  pub first : OnScale s (origin + at)
+  pub past : OnScale s (origin + (at + n))
+
+-- the pixels of a cut are places of the stretch's target
+pub record OnScales (t : Stretch) (c : Cut) : Type 0 where
+  pub target : Small (t .ink .target)
+  pub source : Small (t .from)
+  pub columns : 0 < c .w → 0 < c .h → Reaches (t .columns) (c .x) (c .w)
+  pub rows : 0 < c .w → 0 < c .h → Reaches (t .rows) (c .y) (c .h)

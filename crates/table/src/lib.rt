@@ -1,13 +1,15 @@
 // Rows 5 to 8 of the table of answers, for a command as the registers have it.
 use cuts::Cut;
 use registers::Regs;
+use scale::Scale;
+use scale::Stretch;
 use surface::Surface;
 ghost use mathlib.Core.Path.{_≡_};
 ghost use Prim.Native.Nat.{_-_, _<_};
 ghost use Rattle.surface.specs.Place.{Small};
 ghost use Rattle.spans.specs.Span.{spanOf, meet};
 ghost use Rattle.cuts.specs.Cut.{covered, needed};
-ghost use Rattle.table.specs.Table.{bothFine, allOnAt, pixels, sameSurface, hostFault, InRows, fillVerdict, copyVerdict, hostVerdict, lineVerdict};
+ghost use Rattle.table.specs.Table.{bothFine, allOnAt, pixels, sameSurface, reachOf, takenCut, stretchRows, stretchFault, hostFault, InRows, Reaches, OnScales, fillVerdict, copyVerdict, stretchVerdict, hostVerdict, lineVerdict};
 
 fn both_fine(r: Regs) -> bool
     ensures { λ b. ⌜ b ≡ bothFine r ⌝ }
@@ -45,10 +47,10 @@ fn needed_on(len: usize, s: Surface, c: Cut) -> bool
     spans::rect_on(len, s, c.sx - 16384, c.sy - 16384, c.w, c.h)
 }
 
-// Whether the spans of a copy between two surfaces meet.
-fn spans_clash(t: Surface, s: Surface, c: Cut) -> bool
-    requires { ⌜ InRows t s c ⌝ }
-    ensures { λ r. ⌜ r ≡ meet (spanOf t (covered c)) (spanOf s (pixels (needed c))) ⌝ }
+// Whether the spans of what a copy paints and of what it needs meet; the source's rectangle is that of cut b.
+fn spans_clash(t: Surface, s: Surface, c: Cut, b: Cut) -> bool
+    requires { ⌜ InRows t s c b ⌝ }
+    ensures { λ r. ⌜ r ≡ meet (spanOf t (covered c)) (spanOf s (pixels (needed b))) ⌝ }
 {
     if c.w == 0 {
         return false;
@@ -56,9 +58,9 @@ fn spans_clash(t: Surface, s: Surface, c: Cut) -> bool
     if c.h == 0 {
         return false;
     }
-    let a = spans::rect_span(t, c.x, c.y, c.w, c.h);
-    let b = spans::rect_span(s, c.sx - 16384, c.sy - 16384, c.w, c.h);
-    spans::spans_meet(a, b)
+    let painted = spans::rect_span(t, c.x, c.y, c.w, c.h);
+    let taken = spans::rect_span(s, b.sx - 16384, b.sy - 16384, b.w, b.h);
+    spans::spans_meet(painted, taken)
 }
 
 pub fn fill_verdict(len: usize, r: Regs) -> u32
@@ -93,10 +95,96 @@ pub fn copy_verdict(len: usize, r: Regs) -> u32
     if same_surface(t, s) {
         return 0;
     }
-    if spans_clash(t, s, c) {
+    if spans_clash(t, s, c, c) {
         return 8;
     }
     0
+}
+
+// The source places that target places take, on one axis: the first, and how many there are from it to the last.
+struct Reach {
+    pub at: u32,
+    pub n: u32,
+}
+
+fn reach_of(s: Scale, at: u32, n: u32) -> Reach
+    requires { ⌜ Reaches s at n ⌝ }
+    ensures { λ r. ⌜ r ≡ reachOf s at n ⌝ }
+{
+    let first = scale::place_of(s, 16384 + at);
+    let last = scale::place_of(s, 16384 + (at + (n - 1)));
+    Reach {
+        at: first,
+        n: last - first + 1,
+    }
+}
+
+// The box of the source positions that the pixels of a cut take.
+fn taken_cut(t: Stretch, c: Cut) -> Cut
+    requires { ⌜ Reaches (t .columns) (c .x) (c .w) × Reaches (t .rows) (c .y) (c .h) ⌝ }
+    ensures { λ b. ⌜ b ≡ takenCut t c ⌝ }
+{
+    let columns = t.columns;
+    let rows = t.rows;
+    let across = reach_of(columns, c.x, c.w);
+    let down = reach_of(rows, c.y, c.h);
+    Cut {
+        x: 0,
+        y: 0,
+        w: across.n,
+        h: down.n,
+        sx: across.at,
+        sy: down.at,
+    }
+}
+
+// Rows 7 and 8 of a stretch to the pixels of a cut. Source positions go up with the target's, so that the box has them all, and its corners are taken.
+fn stretch_rows(len: usize, t: Stretch, c: Cut) -> u32
+    requires { ⌜ OnScales t c ⌝ }
+    ensures { λ n. ⌜ n ≡ stretchRows t c len ⌝ }
+{
+    let ink = t.ink;
+    let target = ink.target;
+    let from = t.from;
+    if !spans::rect_on(len, target, c.x, c.y, c.w, c.h) {
+        return 7;
+    }
+    if c.w == 0 {
+        return 0;
+    }
+    if c.h == 0 {
+        return 0;
+    }
+    let b = taken_cut(t, c);
+    if !needed_on(len, from, b) {
+        return 7;
+    }
+    if spans_clash(target, from, c, b) {
+        return 8;
+    }
+    0
+}
+
+// Whether row 6 applies to a stretch: its source has no width or no height, and its target has both.
+fn stretch_fault(r: Regs) -> bool
+    ensures { λ b. ⌜ b ≡ stretchFault r ⌝ }
+{
+    ((0 < r.dstSize % 0x2000) & (0 < r.dstSize / 0x1_0000 % 0x2000))
+        & ((r.srcSize % 0x2000 == 0) | (r.srcSize / 0x1_0000 % 0x2000 == 0))
+}
+
+pub fn stretch_verdict(len: usize, r: Regs) -> u32
+    ensures { λ n. ⌜ n ≡ stretchVerdict r len ⌝ }
+{
+    if !both_fine(r) {
+        return 5;
+    }
+    if stretch_fault(r) {
+        return 6;
+    }
+    let t = command::decode_stretch(r);
+    let c = cuts::fill_cut(r);
+    stretch_rows(len, t, c)
 }
 
 // Whether row 6 applies to a host blit.

@@ -58,9 +58,10 @@ returns-4 c =
 spans-clash-requires : tie.Need-spans-clash-requires
 spans-clash-requires c κs =
     let a = c .before .before .before .before .before .before .before .before .before .before .before .args in
-    in-rows (c .before .before .before .before .before .before .before .before .target-surface .result) (c .before .before .before .before .before .before .before .source-surface .result) (a .len) (c .before .before .before .before .before .before .copy-cut .result)
+    in-rows (c .before .before .before .before .before .before .before .before .target-surface .result) (c .before .before .before .before .before .before .before .source-surface .result) (a .len) (c .before .before .before .before .before .before .copy-cut .result) (c .before .before .before .before .before .before .copy-cut .result)
     (rw (c .before .before .before .before .before .before .before .before .target-surface .ensures) (target-small (a .r .dstBaseAddr) (a .r .dstFormat)))
     (rw (c .before .before .before .before .before .before .before .source-surface .ensures) (source-small (a .r .srcBaseAddr) (a .r .srcFormat) (width (a .r)) (omega arith)))
+    (λ w h. (w, h))
     (sym (c .before .before .before .before .before .rect-on .ensures) ∙ not-false (c .before .before .before .before .before .rect-on .result) (c .before .before .before .before .if2 .left))
     (sym (c .before .before .before .needed-on .ensures) ∙ not-false (c .before .before .before .needed-on .result) (c .before .before .if3 .left))
 
