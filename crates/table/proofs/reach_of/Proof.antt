@@ -26,14 +26,14 @@ place-of-requires-2 : tie.Need-place-of-requires-2
 place-of-requires-2 c κs = search needs
 
 sub-t6 : tie.Need-sub-t6
-sub-t6 c = omega (arith, reach-up (c .before .before .args .s) (c .before .before .args .at) (c .before .before .args .n), (c .before .place-of .ensures), (c .place-of2 .ensures))
+sub-t6 c = omega (arith, reach-up (c .before .before .args .s) (c .before .before .args .at) (c .before .before .args .n), c .before .place-of .ensures, c .place-of2 .ensures)
 
 add-t8 : tie.Need-add-t8
 add-t8 c = search needs
 
 returns : tie.Need-returns
 unfolding reachOf
-returns c = rw ((c .before .place-of .ensures) .0, (c .place-of2 .ensures) .0)
+returns c = rw (c .before .place-of .ensures .0, c .place-of2 .ensures .0)
 
 pub reach-of-spec : {M : Type 1} → statement M
 reach-of-spec =

@@ -20,7 +20,7 @@ stretch-fault-requires : tie.Need-stretch-fault-requires
 stretch-fault-requires c κs = search needs
 
 returns-2 : tie.Need-returns-2
-returns-2 c = stretch-faulty (c .before .before .before .before .args .r) (c .before .before .before .before .args .len) (sym (c .before .before .before .both-fine .ensures) ∙ not-false (c .before .before .before .both-fine .result) (c .before .before .if1 .left)) (sym (c .before .stretch-fault .ensures) ∙ (c .if2 .taken))
+returns-2 c = stretch-faulty (c .before .before .before .before .args .r) (c .before .before .before .before .args .len) (sym (c .before .before .before .both-fine .ensures) ∙ not-false (c .before .before .before .both-fine .result) (c .before .before .if1 .left)) (sym (c .before .stretch-fault .ensures) ∙ c .if2 .taken)
 
 decode-stretch-requires : tie.Need-decode-stretch-requires
 decode-stretch-requires c κs = search needs
@@ -29,13 +29,16 @@ fill-cut-requires : tie.Need-fill-cut-requires
 fill-cut-requires c κs = search needs
 
 stretch-rows-requires : tie.Need-stretch-rows-requires
-stretch-rows-requires c κs = rw ((c .before .decode-stretch .ensures), (c .fill-cut .ensures)) (stretch-scales (c .before .before .before .before .before .before .args .r))
+stretch-rows-requires c κs = rw (c .before .decode-stretch .ensures, c .fill-cut .ensures) (stretch-scales (c .before .before .before .before .before .before .args .r))
 
 returns-3 : tie.Need-returns-3
 returns-3 c =
-    (c .stretch-rows .ensures)
-    ∙ ap₂ (λ (t : Stretch) (k : Cut). stretchRows t k (c .before .before .before .before .before .before .before .args .len)) (c .before .before .decode-stretch .ensures) (c .before .fill-cut .ensures)
-    ∙ stretch-by (c .before .before .before .before .before .before .before .args .r) (c .before .before .before .before .before .before .before .args .len) (sym (c .before .before .before .before .before .before .both-fine .ensures) ∙ not-false (c .before .before .before .before .before .before .both-fine .result) (c .before .before .before .before .before .if1 .left)) (sym (c .before .before .before .before .stretch-fault .ensures) ∙ (c .before .before .before .if2 .left))
+    let a = c .before .before .before .before .before .before .before .args in
+    c .stretch-rows .ensures
+    ∙ ap₂ (λ (t : Stretch) (k : Cut). stretchRows t k (a .len)) (c .before .before .decode-stretch .ensures) (c .before .fill-cut .ensures)
+    ∙ stretch-by (a .r) (a .len)
+    (sym (c .before .before .before .before .before .before .both-fine .ensures) ∙ not-false (c .before .before .before .before .before .before .both-fine .result) (c .before .before .before .before .before .if1 .left))
+    (sym (c .before .before .before .before .stretch-fault .ensures) ∙ c .before .before .before .if2 .left)
 
 pub stretch-verdict-spec : {M : Type 1} → statement M
 stretch-verdict-spec =

@@ -13,7 +13,7 @@ reach-of-requires-2 c κs = search needs
 
 returns : tie.Need-returns
 unfolding takenCut
-returns c = rw ((c .before .reach-of .ensures), (c .reach-of2 .ensures))
+returns c = rw (c .before .reach-of .ensures, c .reach-of2 .ensures)
 
 pub taken-cut-spec : {M : Type 1} → statement M
 taken-cut-spec = tie.close (tie.spec reach-of-requires reach-of-requires-2 returns)
