@@ -12,6 +12,8 @@ use Rattle.ink.specs.declared.Ink.{Ink}
 use Rattle.paint.specs.declared.Clip.{Clip}
 use Rattle.paint.specs.Paint.{State, state, paint}
 use Rattle.sweep.specs.Copy.{asBefore, CanPaint, Orderly}
+use Rattle.scale.specs.declared.Stretch.{Stretch}
+use Rattle.scale.specs.Stretch.{stretched, CanStretch}
 use Rattle.line.specs.declared.Line.{Line}
 use Rattle.line.specs.Draw.{Drawable}
 use Rattle.host.specs.declared.Feed.{Feed}
@@ -23,9 +25,10 @@ use Rattle.plain.proofs.PlainLaws.{plain-drawn, plain-waits}
 use Rattle.registers.specs.declared.Regs.{Regs}
 use Rattle.bank.specs.declared.Bank.{Bank}
 use Rattle.cuts.specs.declared.Cut.{Cut}
-use Rattle.command.specs.Decode.{target, inkOf, plainBlit, plainOf, fillTask, copyTask, lineOf, feedOf}
+use Rattle.command.specs.Decode.{target, inkOf, plainBlit, plainOf, fillTask, copyTask, stretchOf, lineOf, feedOf}
 use Rattle.cuts.specs.Cut.{clipOf, fillCut, copyCut, covered}
-use Rattle.table.specs.Table.{fillVerdict, copyVerdict, lineVerdict, hostVerdict}
+use Rattle.table.specs.Table.{fillVerdict, copyVerdict, stretchVerdict, lineVerdict, hostVerdict}
+use Rattle.table.proofs.Stretches.{stretch-can}
 use Rattle.table.proofs.Verdicts.{fill-can, copy-can, copy-orderly, line-can, host-can, feed-sizes, words-few, plain-ink}
 use Rattle.acts.specs.declared.Blit.{Blit}
 use Rattle.acts.specs.Deed.{Made, made, Deed, judged}
@@ -63,6 +66,18 @@ fill-ready r len e f g z = rect-ready e f (fill-can r len (sym g ∙ z), λ c. a
 
 pub copy-ready : (r : Regs) (len : ℕ) {t : Task} {c : Cut} {v : ℕ} → t ≡ copyTask r → c ≡ copyCut r → v ≡ copyVerdict r len → v ≡ 0 → CanRect t c len
 copy-ready r len e f g z = rect-ready e f (copy-can r len (sym g ∙ z), λ c. copy-orderly r len (sym g ∙ z))
+
+-- ---- stretches
+pub stretched-as : {t T : Stretch} {c C : Cut} (pattern m : List ℕ) {st : State} → t ≡ T → c ≡ C
+    → st ≡ paint (t .ink .target) (stretched t pattern m (rect false false (c .x) (c .y) (c .w) (c .h))) (state m 0)
+    → st ≡ paint (T .ink .target) (stretched T pattern m (covered C)) (state m 0)
+stretched-as pattern m e f p = p ∙ ap₂ (λ (t : Stretch) (c : Cut). paint (t .ink .target) (stretched t pattern m (covered c)) (state m 0)) e f
+
+pub stretch-ready : (r : Regs) (len : ℕ) {t : Stretch} {c : Cut} {v : ℕ} → t ≡ stretchOf r → c ≡ fillCut r → v ≡ stretchVerdict r len → v ≡ 0
+    → CanStretch t (c .x) (c .y) (c .w) (c .h) len
+stretch-ready r len {t} {c} e f g z =
+    subst⁻¹ (λ (t : Stretch). CanStretch t (c .x) (c .y) (c .w) (c .h) len) e
+    (subst⁻¹ (λ (c : Cut). CanStretch (stretchOf r) (c .x) (c .y) (c .w) (c .h) len) f (stretch-can r len (sym g ∙ z)))
 
 -- ---- lines
 pub line-ready : (r : Regs) (len : ℕ) {i : Ink} {c : Clip} {l : Line} {v : ℕ} → i ≡ inkOf r → c ≡ clipOf r → l ≡ lineOf r → v ≡ lineVerdict r len → v ≡ 0

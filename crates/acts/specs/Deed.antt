@@ -8,6 +8,7 @@ use lib.Dec.{eqb, leb, ltb}
 use lib.ListN.{length}
 use Rattle.paint.specs.Paint.{State, state, Touch, paint}
 use Rattle.sweep.specs.Copy.{asBefore}
+use Rattle.scale.specs.Stretch.{stretched}
 use Rattle.line.specs.Line.{points, pointCount}
 use Rattle.line.specs.Stipple.{styleAfter}
 use Rattle.line.specs.Draw.{lineTouches}
@@ -16,9 +17,9 @@ use Rattle.host.specs.Draw.{hostTouches}
 use Rattle.bank.specs.declared.Bank.{Bank}
 use Rattle.bank.specs.Bank.{stored}
 use Rattle.positions.specs.Position.{steppedXY}
-use Rattle.command.specs.Decode.{target, inkOf, fillTask, copyTask, lineOf, penOf, feedOf}
+use Rattle.command.specs.Decode.{target, inkOf, fillTask, copyTask, stretchOf, lineOf, penOf, feedOf}
 use Rattle.cuts.specs.Cut.{bit, number, clipOf, fillCut, copyCut, covered}
-use Rattle.table.specs.Table.{fillVerdict, copyVerdict, hostVerdict, lineVerdict}
+use Rattle.table.specs.Table.{fillVerdict, copyVerdict, stretchVerdict, hostVerdict, lineVerdict}
 use Rattle.acts.specs.declared.Blit.{Blit}
 use Rattle.acts.specs.declared.Act.{Act}
 
@@ -26,7 +27,7 @@ use Rattle.acts.specs.declared.Act.{Act}
 abbrev pub noBlit : Blit
 noBlit = record { waiting = false; taken = 0; last = 0 }
 
--- after a copy, a host blit or a fill: bits 10 and 11 step dstXY by dstSize
+-- after a copy, a stretch, a host blit or a fill: bits 10 and 11 step dstXY by dstSize
 unfoldable pub rectEnded : Bank → Bank
 rectEnded b = stored b 0x6c (steppedXY (b .regs .dstXY) (b .regs .dstSize) (bit (b .regs .command) 10) (bit (b .regs .command) 11))
 
@@ -40,6 +41,9 @@ touchedByFill b m = asBefore (fillTask (b .regs)) (b .pattern) m (covered (fillC
 
 abbrev pub touchedByCopy : Bank → List ℕ → List Touch
 touchedByCopy b m = asBefore (copyTask (b .regs)) (b .pattern) m (covered (copyCut (b .regs)))
+
+abbrev pub touchedByStretch : Bank → List ℕ → List Touch
+touchedByStretch b m = stretched (stretchOf (b .regs)) (b .pattern) m (covered (fillCut (b .regs)))
 
 abbrev pub touchedByLine : Bank → List Touch
 touchedByLine b = lineTouches (inkOf (b .regs)) (b .pattern) (clipOf (b .regs)) (penOf (b .regs)) (b .regs .lineStyle) (points (lineOf (b .regs)))
@@ -83,9 +87,8 @@ filling b k m = record { verdict = fillVerdict (b .regs) (length m); makes = mad
 abbrev pub copying : Bank → Blit → List ℕ → Deed
 copying b k m = record { verdict = copyVerdict (b .regs) (length m); makes = made (rectEnded b) k (paintedBy b (touchedByCopy b m) m) }
 
--- a stretch copy
 abbrev pub stretching : Bank → Blit → List ℕ → Deed
-stretching b k m = record { verdict = 4; makes = made b k (state m 0) }
+stretching b k m = record { verdict = stretchVerdict (b .regs) (length m); makes = made (rectEnded b) k (paintedBy b (touchedByStretch b m) m) }
 
 abbrev pub lining : Bank → Blit → List ℕ → Deed
 lining b k m = record {

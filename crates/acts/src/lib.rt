@@ -105,11 +105,26 @@ fn copy(bank: Bank, blit: Blit, mem: &mut [u8]) -> Act
 fn stretch(bank: Bank, blit: Blit, mem: &mut [u8]) -> Act
     ensures { λ r. ⌜ deed r (now (mem .exit)) ≡ judged (stretching bank blit (now (mem .entry))) bank blit (now (mem .entry)) ⌝ }
 {
+    let regs = bank.regs;
+    let verdict = table::stretch_verdict(mem.len(), regs);
+    if verdict != 0 {
+        return Act {
+            number: verdict,
+            bank: bank,
+            blit: blit,
+            count: 0,
+        };
+    }
+    let c = cuts::fill_cut(regs);
+    let t = command::decode_stretch(regs);
+    let pattern = bank.pattern;
+    let count = stretch::paint_stretch(mem, t, pattern, c.x, c.y, c.w, c.h);
+    let stepped = end_rect(bank);
     Act {
-        number: 4,
-        bank: bank,
+        number: 0,
+        bank: stepped,
         blit: blit,
-        count: 0,
+        count: count,
     }
 }
 

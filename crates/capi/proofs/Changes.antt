@@ -20,7 +20,7 @@ use Rattle.registers.proofs.RegsLaws.{registers, get-put, get-nowhere}
 use Rattle.host.specs.Host.{wordsOf}
 use Rattle.command.specs.Decode.{feedOf}
 use Rattle.cuts.specs.Cut.{bit, number}
-use Rattle.table.specs.Table.{fillVerdict, copyVerdict, hostVerdict, lineVerdict}
+use Rattle.table.specs.Table.{fillVerdict, copyVerdict, stretchVerdict, hostVerdict, lineVerdict}
 use Rattle.acts.specs.declared.Blit.{Blit}
 use Rattle.acts.specs.Deed.{rectEnded, lineEnded, Made, Deed, carrying, starting}
 use Rattle.engine.specs.declared.Engine.{Engine}
@@ -119,7 +119,7 @@ module _ (b : Engine) where
   copied-led old e m g h = picked (Leaves b) (eqb (copyVerdict (regs e) (length m)) 0) _ _ (λ _. rect-led e h) (λ _. g)
 
   stretched-led : (old e : Engine) (m : List ℕ) → Led b old → Led b e → Leaves b (stretched old e m)
-  stretched-led old e m g h = g
+  stretched-led old e m g h = picked (Leaves b) (eqb (stretchVerdict (regs e) (length m)) 0) _ _ (λ _. rect-led e h) (λ _. g)
 
   lined-led : (old e : Engine) (m : List ℕ) → Led b old → Led b e → Leaves b (lined old e m)
   lined-led old e m g h = picked (Leaves b) (eqb (lineVerdict (regs e) (length m)) 0) _ _ (λ _. like-then h (led-line e _)) (λ _. g)

@@ -1,7 +1,7 @@
 -- Each command, and each write, with the registers it is carried out with and the pixels it touches: its number is that of the first row that applies, and where
 -- that is 0 it has painted what it touches, all of it covered.
 -- Assumes nothing.
-use mathlib.Core.Path.{_≡_, refl, sym, ap, subst, subst⁻¹, _∙_}
+use mathlib.Core.Path.{_≡_, refl, sym, ap, ap₂, subst, subst⁻¹, _∙_}
 use mathlib.Core.Bool.{Bool, true, false, cond, not, _&&_, _||_, true≢false}
 use mathlib.Core.List.{List, [], _∷_, map, List·Memᴰ, List·Memᴰ·head, List·Memᴰ·tail, List·Memᴰ·not-nil, List·Memᴰ·cases-cons}
 use mathlib.Core.Logic.{⊎-elim}
@@ -20,6 +20,7 @@ use Rattle.sweep.specs.declared.Task.{Task}
 use Rattle.paint.specs.Clip.{origin}
 use Rattle.paint.specs.Paint.{state, Touch, paint}
 use Rattle.sweep.specs.Copy.{giving, asBefore}
+use Rattle.scale.specs.Stretch.{stretchGiving}
 use Rattle.paint.proofs.ClipLaws.{in-clip}
 use Rattle.paint.proofs.Frame.{pixels-of}
 use Rattle.line.specs.Line.{points, pointCount}
@@ -34,15 +35,16 @@ use Rattle.registers.specs.declared.Place.the-variants.{Register, Pattern, Laun
 use Rattle.registers.specs.Regs.{putReg}
 use Rattle.bank.specs.Bank.{stored, patterned}
 use Rattle.registers.specs.Offsets.{placeOf}
-use Rattle.command.specs.Decode.{target, origins, inkOf, fillTask, copyTask, lineOf, penOf, feedOf}
+use Rattle.command.specs.Decode.{target, origins, stretchOrigins, inkOf, fillTask, copyTask, stretchOf, lineOf, penOf, feedOf}
 use Rattle.cuts.specs.Cut.{bit, number, clipOf, cutAt, fillCut, copyCut, covered, needed}
-use Rattle.table.specs.Table.{targetFine, bothFine, allOnAt, pixels, sameSurface, hostFault, fillVerdict, copyVerdict, hostVerdict, lineVerdict}
+use Rattle.table.specs.Table.{targetFine, bothFine, allOnAt, pixels, sameSurface, stretchNeeded, stretchFault, hostFault, fillVerdict, copyVerdict, stretchVerdict, hostVerdict, lineVerdict}
+use Rattle.table.proofs.Stretches.{stretch-can}
 use Rattle.table.proofs.Verdicts.{fill-can, copy-can, line-can, host-can}
 use Rattle.engine.specs.declared.Engine.{Engine}
 use Rattle.engine.specs.declared.Answer.the-variants.{Taken, Memory, Waiting, NotBuilt}
 use Rattle.acts.specs.Deed.{noBlit, rectEnded, Made, made, paintedBy, idling, unbuilt, filling, copying, stretching, lining, opening, feeding, carrying, starting, byNumber}
 use Rattle.engine.specs.Step.{Step, step, done, making, judging, numberOf, countOf, refusal, regs, idle, withBank, storedIn, afterRect, afterLine, filled, copied, stretched, lined, begun, fed, carried, launched, commanded, toRegister, toPattern, toPlace, written}
-use Rattle.engine.specs.Orders.{fillTouches, copyTouches, drawTouches, wordTouches, launching, orderAt, order, coveredBy, carriedTouches, launchedTouches, touchesAt, touchesOf}
+use Rattle.engine.specs.Orders.{fillTouches, copyTouches, stretchTouches, drawTouches, wordTouches, launching, orderAt, order, coveredBy, carriedTouches, launchedTouches, touchesAt, touchesOf}
 use Rattle.engine.specs.Promises.{row1, row2, row3, row4, row5, row6, row7, row8, ordered}
 use Rattle.acts.proofs.Cases.{by-test, picked, Unbuilt, pick, by-tests}
 
@@ -55,22 +57,38 @@ abbrev pub commandRow : Regs → ℕ → ℕ
 commandRow r len = firstOf 4 (row4 r ∷ row5 r ∷ row6 r ∷ row7 len r ∷ row8 r ∷ [])
 
 -- rows 4 to 8 by the number, with what else they look at
-abbrev rows : ℕ → Bool → Bool → Bool → (List Px → Bool) → List Px → List Px → List Px → Bool → Bool → ℕ
-rows n both one fault on copy fill line need clash =
+abbrev rows : ℕ → Bool → Bool → Bool → Bool → (List Px → Bool) → List Px → List Px → List Px → Bool → Bool → Bool → Bool → ℕ
+rows n both one fault2 fault3 on copy fill line need1 need2 clash1 clash2 =
     firstOf 4
-    (byNumber n false false true false false false true
-    ∷ byNumber n false both false both one one false
-    ∷ (eqb n 3 && fault)
-    ∷ (not (on (byNumber n [] copy [] fill fill line [])) || (eqb n 1 && need))
-    ∷ (eqb n 1 && clash)
+    (byNumber n false false false false false false true
+    ∷ byNumber n false both both both one one false
+    ∷ ((eqb n 2 && fault2) || (eqb n 3 && fault3))
+    ∷ (not (on (byNumber n [] copy fill fill fill line [])) || ((eqb n 1 && need1) || (eqb n 2 && need2)))
+    ∷ ((eqb n 1 && clash1) || (eqb n 2 && clash2))
     ∷ [])
 
+or-false : (a : Bool) → (a || false) ≡ a
+or-false true = refl
+or-false false = refl
+
 module _ (r : Regs) (len : ℕ) where
+  -- the source of a copy and of a stretch: off its surface, or its span met
+  abbrev copyOff : Bool
+  copyOff = not (allOnAt (origins r) len (needed (copyCut r)))
+
+  abbrev stretchOff : Bool
+  stretchOff = not (allOnAt (stretchOrigins r) len (stretchNeeded r))
+
+  abbrev copyMeets : Bool
+  copyMeets = not (sameSurface (target r) (origins r)) && meet (spanOf (target r) (covered (copyCut r))) (spanOf (origins r) (pixels (needed (copyCut r))))
+
+  abbrev stretchMeets : Bool
+  stretchMeets = meet (spanOf (target r) (covered (fillCut r))) (spanOf (stretchOrigins r) (pixels (stretchNeeded r)))
+
   abbrev rowsAt : ℕ → ℕ
   rowsAt n =
-      rows n (not (bothFine r)) (not (targetFine r)) (hostFault r) (allOn (target r) len) (covered (copyCut r)) (covered (fillCut r)) (coveredPoints (clipOf r) (points (lineOf r)))
-      (not (allOnAt (origins r) len (needed (copyCut r))))
-      (not (sameSurface (target r) (origins r)) && meet (spanOf (target r) (covered (copyCut r))) (spanOf (origins r) (pixels (needed (copyCut r)))))
+      rows n (not (bothFine r)) (not (targetFine r)) (stretchFault r) (hostFault r) (allOn (target r) len) (covered (copyCut r)) (covered (fillCut r))
+      (coveredPoints (clipOf r) (points (lineOf r))) copyOff stretchOff copyMeets stretchMeets
 
   pub row-nop : number r ≡ 0 → commandRow r len ≡ 0
   unfolding coveredBy allOn firstOf
@@ -78,15 +96,15 @@ module _ (r : Regs) (len : ℕ) where
 
   pub row-copy : number r ≡ 1 → commandRow r len ≡ copyVerdict r len
   unfolding coveredBy copyVerdict firstOf
-  row-copy n = ap rowsAt n
+  row-copy n =
+      ap rowsAt n
+      ∙ ap₂ (λ s t. cond (not (bothFine r)) 5 (cond (not (allOn (target r) len (covered (copyCut r))) || s) 7 (cond t 8 0))) (or-false copyOff) (or-false copyMeets)
 
-  pub row-stretch : number r ≡ 2 → commandRow r len ≡ 4
-  unfolding coveredBy firstOf
-  row-stretch n = ap rowsAt n
-
-  or-false : (a : Bool) → (a || false) ≡ a
-  or-false true = refl
-  or-false false = refl
+  pub row-stretch : number r ≡ 2 → commandRow r len ≡ stretchVerdict r len
+  unfolding coveredBy stretchVerdict firstOf
+  row-stretch n =
+      ap rowsAt n
+      ∙ ap (λ t. cond (not (bothFine r)) 5 (cond t 6 (cond (not (allOn (target r) len (covered (fillCut r))) || stretchOff) 7 (cond stretchMeets 8 0)))) (or-false (stretchFault r))
 
   pub row-host : number r ≡ 3 → commandRow r len ≡ hostVerdict r len
   unfolding coveredBy hostVerdict firstOf
@@ -147,9 +165,6 @@ painting : (r : Regs) (e : Engine) (m : List ℕ) (ts : List Touch) (ps : List P
     → ((p : Px) → In p (map (λ t. t .at) ts) → In p ps) → Painting r ts m (done e (paint (target r) ts (state m 0)))
 painting r e m ts ps same colour inside = record { memory = refl; count = refl; touched = λ p i. (subst⁻¹ (In p) same (inside p i), colour) }
 
-not-built : (r : Regs) (e : Engine) (m : List ℕ) → commandRow r (length m) ≡ 4 → Carried r [] m (step e m NotBuilt)
-not-built r e m row = record { number = sym row; paints = λ z. let four : _≡_ {A = ℕ} 4 0 = sym row ∙ z in absurd (omega arith) }
-
 module _ (r : Regs) where
   pub covered-none : number r ≡ 0 → coveredBy r ≡ []
   unfolding coveredBy
@@ -160,13 +175,13 @@ module _ (r : Regs) where
   covered-other u = rw (u .not0, u .not1, u .not2, u .not3, u .not5, u .not6)
 
   covered-at : ℕ → List Px
-  covered-at n = byNumber n [] (covered (copyCut r)) [] (covered (fillCut r)) (covered (fillCut r)) (coveredPoints (clipOf r) (points (lineOf r))) []
+  covered-at n = byNumber n [] (covered (copyCut r)) (covered (fillCut r)) (covered (fillCut r)) (covered (fillCut r)) (coveredPoints (clipOf r) (points (lineOf r))) []
 
   pub covered-copy : number r ≡ 1 → coveredBy r ≡ covered (copyCut r)
   unfolding coveredBy covered-at
   covered-copy n = ap covered-at n
 
-  pub covered-stretch : number r ≡ 2 → coveredBy r ≡ []
+  pub covered-stretch : number r ≡ 2 → coveredBy r ≡ covered (fillCut r)
   unfolding coveredBy covered-at
   covered-stretch n = ap covered-at n
 
@@ -198,16 +213,23 @@ copied-carried : (old e : Engine) (m : List ℕ) → number (regs e) ≡ 1 → C
 unfolding copyVerdict copyTask inkOf
 copied-carried old e m n =
     let r = regs e in
-    judged old _ (not (bothFine r)) false
-    (not (allOn (target r) (length m) (covered (copyCut r))) || not (allOnAt (origins r) (length m) (needed (copyCut r))))
-    (not (sameSurface (target r) (origins r)) && meet (spanOf (target r) (covered (copyCut r))) (spanOf (origins r) (pixels (needed (copyCut r)))))
+    judged old _ (not (bothFine r)) false (not (allOn (target r) (length m) (covered (copyCut r))) || copyOff r (length m)) (copyMeets r (length m))
     (row-copy r (length m) n) refl
     (λ v. painting r (afterRect e) m (copyTouches e m) (covered (copyCut r)) (covered-copy r n) (copy-can r (length m) v .colour .some)
     (λ p i. subst (In p) (rect-pixels (copyTask r) (e .bank .pattern) m (covered (copyCut r))) i))
 
-stretched-carried : (old e : Engine) (m : List ℕ) → number (regs e) ≡ 2 → Carried (regs e) [] m (stretched old e m)
-unfolding refusal
-stretched-carried old e m n = not-built (regs e) old m (row-stretch (regs e) (length m) n)
+-- the pixels of a stretch's touches are those it covers
+pub stretch-pixels : (e : Engine) (m : List ℕ) → map (λ t. t .at) (stretchTouches e m) ≡ covered (fillCut (regs e))
+stretch-pixels e m = pixels-of (λ (q : Px) (now : List ℕ). stretchGiving (stretchOf (regs e)) (e .bank .pattern) m now q) (covered (fillCut (regs e)))
+
+stretched-carried : (old e : Engine) (m : List ℕ) → number (regs e) ≡ 2 → Carried (regs e) (stretchTouches e m) m (stretched old e m)
+unfolding stretchVerdict stretchOf inkOf
+stretched-carried old e m n =
+    let r = regs e in
+    judged old _ (not (bothFine r)) (stretchFault r) (not (allOn (target r) (length m) (covered (fillCut r))) || stretchOff r (length m)) (stretchMeets r (length m))
+    (row-stretch r (length m) n) refl
+    (λ v. painting r (afterRect e) m (stretchTouches e m) (covered (fillCut r)) (covered-stretch r n) (stretch-can r (length m) v .colour .some)
+    (λ p i. subst (In p) (stretch-pixels e m) i))
 
 pub line-pixels : (e : Engine) → map (λ t. t .at) (drawTouches e) ≡ coveredPoints (clipOf (regs e)) (points (lineOf (regs e)))
 line-pixels e = touches-covered (inkOf (regs e)) (e .bank .pattern) (clipOf (regs e)) (penOf (regs e)) (regs e .lineStyle) (points (lineOf (regs e)))
@@ -280,13 +302,16 @@ idle-carried : (r : Regs) (e : Engine) (m : List ℕ) → number r ≡ 0 → Car
 idle-carried r e m n = record { number = sym (row-nop r (length m) n); paints = λ _. nothing r e m }
 
 unbuilt-carried : (r : Regs) (e : Engine) (m : List ℕ) → Unbuilt (number r) → Carried r [] m (step e m NotBuilt)
-unbuilt-carried r e m u = not-built r e m (row-other r (length m) u)
+unbuilt-carried r e m u = record {
+  number = sym (row-other r (length m) u);
+  paints = λ z. let four : _≡_ {A = ℕ} 4 0 = sym (row-other r (length m) u) ∙ z in absurd (omega arith);
+}
 
 carried-carried : (old e : Engine) (m : List ℕ) → Carried (regs e) (carriedTouches e m) m (carried old e m)
 unfolding carried carrying carriedTouches refusal
 carried-carried old e m =
     by-tests
-    (λ a b c d f g. Carried (regs e) (pick a b c d f g [] (copyTouches e m) [] [] (fillTouches e m) (drawTouches e) []) m
+    (λ a b c d f g. Carried (regs e) (pick a b c d f g [] (copyTouches e m) (stretchTouches e m) [] (fillTouches e m) (drawTouches e) []) m
     (judging old e m
     (pick a b c d f g (idling (e .bank) (e .blit) m) (copying (e .bank) (e .blit) m) (stretching (e .bank) (e .blit) m) (opening (e .bank) m)
     (filling (e .bank) (e .blit) m) (lining (e .bank) (e .blit) m) (unbuilt (e .bank) (e .blit) m))))
@@ -300,8 +325,8 @@ launched-carried e m d =
     let toTarget = storedIn e 0x6c d in
     by-tests
     (λ a b c f g h. Carried (pick a b c f g h (regs e) (regs toSource) (regs toSource) (regs e) (regs toTarget) (regs toTarget) (regs e))
-    (pick a b c f g h [] (copyTouches toSource m) [] (cond (ltb (e .blit .taken) (wordsOf (feedOf (regs e)))) (wordTouches e d) []) (fillTouches toTarget m)
-    (drawTouches toTarget) [])
+    (pick a b c f g h [] (copyTouches toSource m) (stretchTouches toSource m) (cond (ltb (e .blit .taken) (wordsOf (feedOf (regs e)))) (wordTouches e d) [])
+    (fillTouches toTarget m) (drawTouches toTarget) [])
     m
     (judging e e m
     (pick a b c f g h (idling (e .bank) (e .blit) m) (copying (toSource .bank) (e .blit) m) (stretching (toSource .bank) (e .blit) m) (feeding (e .bank) (e .blit) m d)

@@ -23,11 +23,11 @@ use Rattle.command.specs.Decode.{target, copyTask, fillTask, feedOf}
 use Rattle.cuts.specs.Cut.{bit, number, covered, copyCut, fillCut}
 use Rattle.engine.specs.declared.Engine.{Engine}
 use Rattle.engine.specs.Step.{Step, regs, storedIn, written}
-use Rattle.engine.specs.Orders.{copyTouches, fillTouches, drawTouches, wordTouches, launching, orderAt, order, carriedTouches, launchedTouches, touchesAt, touchesOf, coveredBy}
+use Rattle.engine.specs.Orders.{copyTouches, stretchTouches, fillTouches, drawTouches, wordTouches, launching, orderAt, order, carriedTouches, launchedTouches, touchesAt, touchesOf, coveredBy}
 use Rattle.engine.specs.Promises.{given, wrote, Paints, CountsWritten, TouchesCovered, WordCovered}
 use Rattle.acts.proofs.Cases.{by-test, pick, by-tests, by-number}
 use Rattle.engine.proofs.Orders.{the-same, nothing-ordered}
-use Rattle.engine.proofs.Commands.{PaintingOf, covered-none, covered-copy, covered-stretch, covered-fill, covered-line, covered-other, rect-pixels, line-pixels, write-written}
+use Rattle.engine.proofs.Commands.{PaintingOf, covered-none, covered-copy, covered-stretch, covered-fill, covered-line, covered-other, rect-pixels, stretch-pixels, line-pixels, write-written}
 
 counts-from : (s : Surface) (ts : List Touch) (m : List ℕ) (n : ℕ) → paint s ts (state m n) .count ≡ n + length (wrote s ts m)
 unfolding paint wrote dab
@@ -56,13 +56,13 @@ touched-of k r ts m s h p q i = subst (λ (k : Option Regs). PaintingOf k ts m s
 pub word-covered : WordCovered
 word-covered e m o d r h z = touched-of (order e o d) r (touchesOf e m o d) m (written e m o d) h (write-written e m o d .paints z)
 
--- ---- a copy, a fill and a line touch what they cover
+-- ---- a copy, a stretch, a fill and a line touch what they cover
 module _ (e : Engine) where
   copy-covered : (m : List ℕ) → number (regs e) ≡ 1 → map (λ t. t .at) (copyTouches e m) ≡ coveredBy (regs e)
   copy-covered m n = rect-pixels (copyTask (regs e)) (e .bank .pattern) m (covered (copyCut (regs e))) ∙ sym (covered-copy (regs e) n)
 
-  stretch-covered : number (regs e) ≡ 2 → [] ≡ coveredBy (regs e)
-  stretch-covered n = sym (covered-stretch (regs e) n)
+  stretch-covered : (m : List ℕ) → number (regs e) ≡ 2 → map (λ t. t .at) (stretchTouches e m) ≡ coveredBy (regs e)
+  stretch-covered m n = stretch-pixels e m ∙ sym (covered-stretch (regs e) n)
 
   fill-covered : (m : List ℕ) → number (regs e) ≡ 5 → map (λ t. t .at) (fillTouches e m) ≡ coveredBy (regs e)
   fill-covered m n = rect-pixels (fillTask (regs e)) (e .bank .pattern) m (covered (fillCut (regs e))) ∙ sym (covered-fill (regs e) n)
@@ -76,7 +76,7 @@ Covers ts r = (number r ≡ 3 → ⊥) → map (λ t. t .at) ts ≡ coveredBy r
 carried-covers : (e : Engine) (m : List ℕ) → Covers (carriedTouches e m) (regs e)
 unfolding carriedTouches
 carried-covers e m =
-    by-number (λ ts. Covers ts (regs e)) (number (regs e)) _ _ _ _ _ _ _ (λ n _. sym (covered-none (regs e) n)) (λ n _. copy-covered e m n) (λ n _. stretch-covered e n)
+    by-number (λ ts. Covers ts (regs e)) (number (regs e)) _ _ _ _ _ _ _ (λ n _. sym (covered-none (regs e) n)) (λ n _. copy-covered e m n) (λ n _. stretch-covered e m n)
     (λ n other. absurd (other n)) (λ n _. fill-covered e m n) (λ low high _. draw-covered e low high) (λ u _. sym (covered-other (regs e) u))
 
 launched-covers : (e : Engine) (m : List ℕ) (d : ℕ) → Covers (launchedTouches e m d) (launching e d)
@@ -86,10 +86,10 @@ launched-covers e m d =
     let toTarget = storedIn e 0x6c d in
     by-tests
     (λ a b c f g h. Covers
-    (pick a b c f g h [] (copyTouches toSource m) [] (cond (ltb (e .blit .taken) (wordsOf (feedOf (regs e)))) (wordTouches e d) []) (fillTouches toTarget m)
-    (drawTouches toTarget) [])
+    (pick a b c f g h [] (copyTouches toSource m) (stretchTouches toSource m) (cond (ltb (e .blit .taken) (wordsOf (feedOf (regs e)))) (wordTouches e d) [])
+    (fillTouches toTarget m) (drawTouches toTarget) [])
     (pick a b c f g h (regs e) (regs toSource) (regs toSource) (regs e) (regs toTarget) (regs toTarget) (regs e)))
-    (number (regs e)) (λ n _. sym (covered-none (regs e) n)) (λ n _. copy-covered toSource m n) (λ n _. stretch-covered toSource n) (λ n other. absurd (other n))
+    (number (regs e)) (λ n _. sym (covered-none (regs e) n)) (λ n _. copy-covered toSource m n) (λ n _. stretch-covered toSource m n) (λ n other. absurd (other n))
     (λ n _. fill-covered toTarget m n) (λ low high _. draw-covered toTarget low high) (λ u _. sym (covered-other (regs e) u))
 
 place-covers : (p : Place) (e : Engine) (m : List ℕ) (o d : ℕ) (r : Regs) → orderAt p e o d ≡ some r → Covers (touchesAt p e m o d) r

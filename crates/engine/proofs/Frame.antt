@@ -50,8 +50,8 @@ pub covered-inside : (r : Regs) (p : Px) → In p (coveredBy r) → inClip (clip
 unfolding coveredBy
 covered-inside r p =
     by-number (λ (ps : List Px). In p ps → inClip (clipOf r) (origin + p .x) (origin + p .y) ≡ true) (number r) _ _ _ _ _ _ _
-    (λ _ i. absurd (List·Memᴰ·not-nil i)) (λ _. copy-in-clip r p) (λ _ i. absurd (List·Memᴰ·not-nil i)) (λ _. fill-in-clip r p) (λ _. fill-in-clip r p) (λ _ _. covered-in-clip (clipOf r) (points (lineOf r)) p)
-    (λ _ i. absurd (List·Memᴰ·not-nil i))
+    (λ _ i. absurd (List·Memᴰ·not-nil i)) (λ _. copy-in-clip r p) (λ _. fill-in-clip r p) (λ _. fill-in-clip r p) (λ _. fill-in-clip r p)
+    (λ _ _. covered-in-clip (clipOf r) (points (lineOf r)) p) (λ _ i. absurd (List·Memᴰ·not-nil i))
 
 -- ---- one write: what is left
 pub record Left (m : List ℕ) (k : Option Regs) (now : List ℕ) : Type 0 where

@@ -18,7 +18,7 @@ use Rattle.line.specs.Stipple.{styleAfter}
 use Rattle.host.specs.Host.{wordsOf}
 use Rattle.command.specs.Decode.{lineOf, penOf, feedOf}
 use Rattle.cuts.specs.Cut.{bit, number}
-use Rattle.table.specs.Table.{fillVerdict, copyVerdict, hostVerdict, lineVerdict}
+use Rattle.table.specs.Table.{fillVerdict, copyVerdict, stretchVerdict, hostVerdict, lineVerdict}
 use Rattle.acts.specs.declared.Blit.{Blit}
 use Rattle.acts.specs.Deed.{noBlit, Made, Deed, carrying, starting}
 use Rattle.engine.specs.declared.Engine.{Engine}
@@ -53,7 +53,7 @@ copied-sound : (old e : Engine) (m : List ℕ) → Sound old → e .blit ≡ noB
 copied-sound old e m s h = picked SoundAfter (eqb (copyVerdict (regs e) (length m)) 0) _ _ (λ _. resting (afterRect e) h) (λ _. s)
 
 stretched-sound : (old e : Engine) (m : List ℕ) → Sound old → e .blit ≡ noBlit → Sound (stretched old e m .engine)
-stretched-sound old e m s h = s
+stretched-sound old e m s h = picked SoundAfter (eqb (stretchVerdict (regs e) (length m)) 0) _ _ (λ _. resting (afterRect e) h) (λ _. s)
 
 lined-sound : (old e : Engine) (m : List ℕ) → Sound old → e .blit ≡ noBlit → Sound (lined old e m .engine)
 lined-sound old e m s h =

@@ -17,7 +17,7 @@ use Rattle.registers.specs.Offsets.{placeOf}
 use Rattle.command.specs.Decode.{lineOf, feedOf}
 use Rattle.cuts.specs.Cut.{bit, number, clipOf, fillCut, copyCut, covered}
 use Rattle.engine.specs.declared.Engine.{Engine}
-use Rattle.acts.specs.Deed.{touchedByFill, touchedByCopy, touchedByLine, touchedByWord, byNumber}
+use Rattle.acts.specs.Deed.{touchedByFill, touchedByCopy, touchedByStretch, touchedByLine, touchedByWord, byNumber}
 use Rattle.engine.specs.Step.{regs, storedIn}
 
 -- ---- the registers with which it is carried out: those of a write to command with bit 8; of a launch write, which puts its data into srcXY or dstXY first
@@ -37,7 +37,7 @@ order e o d = orderAt (placeOf o) e o d
 -- ---- the pixels that a command covers
 unfoldable pub coveredBy : Regs → List Px
 coveredBy r =
-    byNumber (number r) [] (covered (copyCut r)) [] (covered (fillCut r)) (covered (fillCut r)) (coveredPoints (clipOf r) (points (lineOf r))) []
+    byNumber (number r) [] (covered (copyCut r)) (covered (fillCut r)) (covered (fillCut r)) (covered (fillCut r)) (coveredPoints (clipOf r) (points (lineOf r))) []
 
 -- ---- what each command touches
 abbrev pub fillTouches : Engine → List ℕ → List Touch
@@ -45,6 +45,9 @@ fillTouches e m = touchedByFill (e .bank) m
 
 abbrev pub copyTouches : Engine → List ℕ → List Touch
 copyTouches e m = touchedByCopy (e .bank) m
+
+abbrev pub stretchTouches : Engine → List ℕ → List Touch
+stretchTouches e m = touchedByStretch (e .bank) m
 
 abbrev pub drawTouches : Engine → List Touch
 drawTouches e = touchedByLine (e .bank)
@@ -54,12 +57,12 @@ wordTouches e word = touchedByWord (e .bank) (e .blit) word
 
 -- ---- what a write touches, if it is taken: a host blit touches with each word of data, and not when it is opened
 unfoldable pub carriedTouches : Engine → List ℕ → List Touch
-carriedTouches e m = byNumber (number (regs e)) [] (copyTouches e m) [] [] (fillTouches e m) (drawTouches e) []
+carriedTouches e m = byNumber (number (regs e)) [] (copyTouches e m) (stretchTouches e m) [] (fillTouches e m) (drawTouches e) []
 
 unfoldable pub launchedTouches : Engine → List ℕ → ℕ → List Touch
 launchedTouches e m d =
-    byNumber (number (regs e)) [] (copyTouches (storedIn e 0x5c d) m) [] (cond (ltb (e .blit .taken) (wordsOf (feedOf (regs e)))) (wordTouches e d) [])
-    (fillTouches (storedIn e 0x6c d) m) (drawTouches (storedIn e 0x6c d)) []
+    byNumber (number (regs e)) [] (copyTouches (storedIn e 0x5c d) m) (stretchTouches (storedIn e 0x5c d) m)
+    (cond (ltb (e .blit .taken) (wordsOf (feedOf (regs e)))) (wordTouches e d) []) (fillTouches (storedIn e 0x6c d) m) (drawTouches (storedIn e 0x6c d)) []
 
 abbrev pub touchesAt : Place → Engine → List ℕ → ℕ → ℕ → List Touch
 touchesAt Register e m o d = cond (eqb o 0x70 && bit d 8) (carriedTouches (storedIn e 0x70 d) m) []

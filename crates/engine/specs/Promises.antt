@@ -20,9 +20,9 @@ use Rattle.registers.specs.declared.Place.{Place}
 use Rattle.registers.specs.declared.Place.the-variants.{Register, Pattern, Launch, Nowhere}
 use Rattle.registers.specs.Offsets.{placeOf}
 use Rattle.host.specs.Host.{wordsOf}
-use Rattle.command.specs.Decode.{target, origins, feedOf}
-use Rattle.cuts.specs.Cut.{number, clipOf, copyCut, covered, needed}
-use Rattle.table.specs.Table.{targetFine, bothFine, allOnAt, pixels, sameSurface, hostFault, hostVerdict}
+use Rattle.command.specs.Decode.{target, origins, stretchOrigins, feedOf}
+use Rattle.cuts.specs.Cut.{number, clipOf, fillCut, copyCut, covered, needed}
+use Rattle.table.specs.Table.{targetFine, bothFine, allOnAt, pixels, sameSurface, stretchNeeded, stretchFault, hostFault, hostVerdict}
 use Rattle.acts.specs.Deed.{noBlit, byNumber}
 use Rattle.engine.specs.declared.Engine.{Engine}
 use Rattle.engine.specs.Step.{Step, written, numberOf, countOf, regs, freshEngine, readFrom}
@@ -72,26 +72,29 @@ row3 Nowhere e o = e .blit .waiting
 
 -- 4: the command is not built
 abbrev pub row4 : Regs → Bool
-row4 r = byNumber (number r) false false true false false false true
+row4 r = byNumber (number r) false false false false false false true
 
 -- 5: a surface it uses is tiled or has a format not listed, or the conversion is not allowed; nop uses none
 abbrev pub row5 : Regs → Bool
-row5 r = byNumber (number r) false (not (bothFine r)) false (not (bothFine r)) (not (targetFine r)) (not (targetFine r)) false
+row5 r = byNumber (number r) false (not (bothFine r)) (not (bothFine r)) (not (bothFine r)) (not (targetFine r)) (not (targetFine r)) false
 
--- 6: a fault of a host blit
+-- 6: a stretch copy of a source with no width or no height to a target that has both; a fault of a host blit
 abbrev pub row6 : Regs → Bool
-row6 r = eqb (number r) 3 && hostFault r
+row6 r = (eqb (number r) 2 && stretchFault r) || (eqb (number r) 3 && hostFault r)
 
--- 7: a covered pixel, or a source pixel it needs from memory, is off its surface
+-- 7: a covered pixel is off its surface, or a source pixel that a screen copy or a stretch copy needs from memory is off its own
 abbrev pub row7 : ℕ → Regs → Bool
 row7 len r =
-    not (allOn (target r) len (coveredBy r)) || (eqb (number r) 1 && not (allOnAt (origins r) len (needed (copyCut r))))
+    not (allOn (target r) len (coveredBy r))
+    || ((eqb (number r) 1 && not (allOnAt (origins r) len (needed (copyCut r))))
+    || (eqb (number r) 2 && not (allOnAt (stretchOrigins r) len (stretchNeeded r))))
 
--- 8: a screen copy between different surfaces whose spans meet
+-- 8: the spans of the covered pixels and of the source pixels meet: of a screen copy between different surfaces, or of a stretch copy, on one surface too
 abbrev pub row8 : Regs → Bool
 row8 r =
-    eqb (number r) 1
-    && (not (sameSurface (target r) (origins r)) && meet (spanOf (target r) (covered (copyCut r))) (spanOf (origins r) (pixels (needed (copyCut r)))))
+    (eqb (number r) 1
+    && (not (sameSurface (target r) (origins r)) && meet (spanOf (target r) (covered (copyCut r))) (spanOf (origins r) (pixels (needed (copyCut r))))))
+    || (eqb (number r) 2 && meet (spanOf (target r) (covered (fillCut r))) (spanOf (stretchOrigins r) (pixels (stretchNeeded r))))
 
 -- whether a row applies to the command that the write has carried out, if it has one
 abbrev pub ordered : Option Regs → (Regs → Bool) → Bool
@@ -166,7 +169,7 @@ Paints (some r) ts m s = (s .memory ≡ paint (target r) ts (state m 0) .mem) ×
 abbrev pub CountsWritten : Type 0
 CountsWritten = (e : Engine) (m : List ℕ) (o d : ℕ) → numberOf (written e m o d .answer) ≡ 0 → Paints (order e o d) (touchesOf e m o d) m (written e m o d)
 
--- a copy, a fill and a line touch their covered pixels, in order; a host blit's word touches some of its covered pixels
+-- a copy, a stretch, a fill and a line touch their covered pixels, in order; a host blit's word touches some of its covered pixels
 abbrev pub TouchesCovered : Type 0
 TouchesCovered = (e : Engine) (m : List ℕ) (o d : ℕ) (r : Regs) → order e o d ≡ some r → (number r ≡ 3 → ⊥) → map (λ t. t .at) (touchesOf e m o d) ≡ coveredBy r
 

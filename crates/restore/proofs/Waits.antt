@@ -18,7 +18,7 @@ use Rattle.registers.specs.Offsets.{placeOf}
 use Rattle.bank.specs.Bank.{patterned}
 use Rattle.command.specs.Decode.{lineOf, penOf, feedOf}
 use Rattle.cuts.specs.Cut.{bit, number}
-use Rattle.table.specs.Table.{fillVerdict, copyVerdict, hostVerdict, lineVerdict}
+use Rattle.table.specs.Table.{fillVerdict, copyVerdict, stretchVerdict, hostVerdict, lineVerdict}
 use Rattle.acts.specs.Deed.{Made, Deed, carrying, starting}
 use Rattle.engine.specs.declared.Engine.{Engine}
 use Rattle.engine.specs.declared.Answer.{Answer}
@@ -62,7 +62,8 @@ module _ {t : Rectangle} (old e : Engine) (m : List ℕ) (o : e .opened ≡ old 
   copied-next = picked (Next t old) (eqb (copyVerdict r (length m)) 0) _ _ (λ _. goes old (afterRect e) o (not-waiting (afterRect e) rests)) (λ _. goes old old refl before)
 
   stretched-next : Next t old (stretched old e m)
-  stretched-next = goes old old refl before
+  stretched-next =
+      picked (Next t old) (eqb (stretchVerdict r (length m)) 0) _ _ (λ _. goes old (afterRect e) o (not-waiting (afterRect e) rests)) (λ _. goes old old refl before)
 
   lined-next : Next t old (lined old e m)
   lined-next =

@@ -1,13 +1,53 @@
--- `acts::stretch` meets its contract: refused.
+-- `acts::stretch` meets its contract: refused by the verdict, or painted.
 -- Assumes nothing.
-use mathlib.Core.Path.{refl}
-use Rattle.acts.specs.Deed.{judged}
+use borrow.Author.Needs.{needs}
+use lib.ListN.{length}
+use Rattle.command.specs.Decode.{inkOf, stretchOf}
+use Rattle.acts.proofs.Laws.{judged-no, judged-yes, carried-out, stretched-as, stretch-ready}
 use Rattle.acts.proofs.stretch.Statement.{statement}
 use Rattle.acts.proofs.stretch.Tie as tie
 
+stretch-verdict-requires : tie.Need-stretch-verdict-requires
+stretch-verdict-requires c κs = search needs
+
 returns : tie.Need-returns
-unfolding judged
-returns c = refl
+returns c =
+    let a = (c .before .before .before .before .args) in
+    judged-no _ (a .bank) (a .blit) (a .mem .now) (c .before .stretch-verdict .result) (c .before .stretch-verdict .ensures) (c .if1 .taken)
+
+fill-cut-requires : tie.Need-fill-cut-requires
+fill-cut-requires c κs = search needs
+
+decode-stretch-requires : tie.Need-decode-stretch-requires
+decode-stretch-requires c κs = search needs
+
+paint-stretch-requires : tie.Need-paint-stretch-requires
+paint-stretch-requires c κs =
+    let a = (c .before .before .before .before .before .before .before .before .args) in
+    stretch-ready (a .bank .regs) (length (a .mem .now)) (c .before .before .decode-stretch .ensures) (c .before .before .before .fill-cut .ensures) (c .before .before .before .before .before .stretch-verdict .ensures) (c .before .before .before .before .if1 .left)
+
+end-rect-requires : tie.Need-end-rect-requires
+end-rect-requires c κs = search needs
+
+same-length : tie.Need-same-length
+same-length c = search needs
+
+returns-2 : tie.Need-returns-2
+unfolding stretchOf inkOf
+returns-2 c =
+    let a = (c .before .before .before .before .before .before .before .before .before .before .before .before .args) in
+    judged-yes _ (a .bank) (a .blit) (a .mem .now) (c .before .before .before .before .before .before .before .before .before .stretch-verdict .result) (c .before .before .before .before .before .before .before .before .before .stretch-verdict .ensures) _ (c .before .before .before .before .before .before .before .before .if1 .left)
+    (carried-out (a .blit) (c .end-rect .ensures) (stretched-as (a .bank .pattern) (a .mem .now) (c .before .before .before .before .before .before .decode-stretch .ensures) (c .before .before .before .before .before .before .before .fill-cut .ensures) (c .before .before .before .paint-stretch .ensures)))
 
 pub stretch-spec : {M : Type 1} → statement M
-stretch-spec = tie.close (tie.spec returns)
+stretch-spec =
+    tie.close
+    (tie.spec
+    stretch-verdict-requires
+    returns
+    fill-cut-requires
+    decode-stretch-requires
+    paint-stretch-requires
+    end-rect-requires
+    same-length
+    returns-2)
