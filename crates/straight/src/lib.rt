@@ -52,6 +52,15 @@ pub fn straight_pixel(mem: &mut [u8], t: Straight, from: u32, to: u32, d: usize,
     surface::put_bytes(mem, d, to, colour::convert_by_rule(from, to, v));
 }
 
+// The same of a copy without a key.
+pub fn plain_pixel(mem: &mut [u8], t: Straight, from: u32, to: u32, d: usize, s: usize)
+    requires { ⌜ PixelCopies t from to d s (length (now mem)) × (t .key ≡ false) ⌝ }
+    ensures { λ _. ⌜ now (mem .exit) ≡ copied t d s (now (mem .entry)) ⌝ }
+{
+    let v = surface::get_bytes(mem, s, from);
+    surface::put_bytes(mem, d, to, colour::convert_by_rule(from, to, v));
+}
+
 // The w pixels of row j, of `to` bytes each from d on, and their sources, of `from` bytes each from s on, after n that were written: from the left.
 fn straight_up(
     mem: &mut [u8],

@@ -33,13 +33,17 @@ fn task_of(t: Stretch) -> Task
     }
 }
 
-// The pixel whose `to` bytes begin at d, from the source whose `from` bytes begin at s.
-fn straight_pixel(mem: &mut [u8], t: Stretch, from: u32, to: u32, d: usize, s: usize)
-    requires { ⌜ PixelCopies (straightOf (openTask t)) from to d s (length (now mem)) ⌝ }
+// The pixel whose `to` bytes begin at d, from the source whose `from` bytes begin at s; `keyed` where there is a source key.
+fn straight_pixel(mem: &mut [u8], t: Stretch, keyed: bool, from: u32, to: u32, d: usize, s: usize)
+    requires { ⌜ PixelCopies (straightOf (openTask t)) from to d s (length (now mem)) × (keyed ≡ t .ink .srcKey) ⌝ }
     ensures { λ _. ⌜ now (mem .exit) ≡ copied (straightOf (openTask t)) d s (now (mem .entry)) ⌝ }
 {
     let k = rect::straight_of(task_of(t));
-    straight::straight_pixel(mem, k, from, to, d, s);
+    if keyed {
+        straight::straight_pixel(mem, k, from, to, d, s);
+        return;
+    }
+    straight::plain_pixel(mem, k, from, to, d, s);
 }
 
 // The w pixels of row y from column x on, of `to` bytes each from d on: each gets its source, of `from` bytes in the row that begins at s, or stays as it is
@@ -48,6 +52,7 @@ fn straight_across(
     mem: &mut [u8],
     t: Stretch,
     columns: Walk,
+    keyed: bool,
     from: u32,
     to: u32,
     d: usize,
@@ -57,7 +62,7 @@ fn straight_across(
     w: u32,
     n: u32,
 ) -> u32
-    requires { ⌜ RowTakes t x y w (length (now mem)) n × (ColumnsAt t columns x × RunAt t from to d s x y) ⌝ }
+    requires { ⌜ RowTakes t x y w (length (now mem)) n × (ColumnsAt t columns x × (RunAt t from to d s x y × (keyed ≡ t .ink .srcKey))) ⌝ }
     ensures { λ r. ⌜ RowTaken t x y w n (now (mem .entry)) (now (mem .exit)) r ⌝ }
 {
     let mut walk = columns;
@@ -65,14 +70,14 @@ fn straight_across(
     while i < w {
         let at = straight::pixel_at(d, to, i);
         let source = straight::pixel_at(s, from, walk.at - 16384);
-        straight_pixel(mem, t, from, to, at, source);
+        straight_pixel(mem, t, keyed, from, to, at, source);
         walk = scale::next(walk);
         i += 1;
     }
     n + w
 }
 
-// Row y, with loops of their own for one format and for 16 and 32 bits; its source is row sy.
+// Row y, without a key in loops of their own for one format and for 16 and 32 bits; its source is row sy.
 fn straight_row(
     mem: &mut [u8],
     t: Stretch,
@@ -90,15 +95,18 @@ fn straight_row(
     let to = t.ink.target.bytes;
     let d = surface::byte_of(t.ink.target, x, y, 0);
     let s = surface::byte_of(t.from, 0, sy, 0);
+    if t.ink.srcKey {
+        return straight_across(mem, t, columns, true, from, to, d, s, x, y, w, n);
+    }
     let pair = from * 8 + to;
     match pair {
-        9 => straight_across(mem, t, columns, 1, 1, d, s, x, y, w, n),
-        18 => straight_across(mem, t, columns, 2, 2, d, s, x, y, w, n),
-        20 => straight_across(mem, t, columns, 2, 4, d, s, x, y, w, n),
-        27 => straight_across(mem, t, columns, 3, 3, d, s, x, y, w, n),
-        34 => straight_across(mem, t, columns, 4, 2, d, s, x, y, w, n),
-        36 => straight_across(mem, t, columns, 4, 4, d, s, x, y, w, n),
-        _ => straight_across(mem, t, columns, from, to, d, s, x, y, w, n),
+        9 => straight_across(mem, t, columns, false, 1, 1, d, s, x, y, w, n),
+        18 => straight_across(mem, t, columns, false, 2, 2, d, s, x, y, w, n),
+        20 => straight_across(mem, t, columns, false, 2, 4, d, s, x, y, w, n),
+        27 => straight_across(mem, t, columns, false, 3, 3, d, s, x, y, w, n),
+        34 => straight_across(mem, t, columns, false, 4, 2, d, s, x, y, w, n),
+        36 => straight_across(mem, t, columns, false, 4, 4, d, s, x, y, w, n),
+        _ => straight_across(mem, t, columns, false, from, to, d, s, x, y, w, n),
     }
 }
 

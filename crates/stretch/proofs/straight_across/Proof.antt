@@ -11,10 +11,10 @@ use Rattle.stretch.proofs.straight_across.Statement.{statement}
 use Rattle.stretch.proofs.straight_across.Tie as tie
 
 abbrev Inv-loop : tie.InvT-loop
-Inv-loop mem₀ t from to d s x y w n walk₀ i₀ mem walk i = RowLeft t (straightTouch t) x y w n i (n + i) mem₀ mem walk
+Inv-loop mem₀ t keyed from to d s x y w n walk₀ i₀ mem walk i = RowLeft t (straightTouch t) x y w n i (n + i) mem₀ mem walk
 
 abbrev μ-loop : tie.MeasureT-loop
-μ-loop mem₀ t from to d s x y w n walk₀ i₀ mem walk i = w - i
+μ-loop mem₀ t keyed from to d s x y w n walk₀ i₀ mem walk i = w - i
 
 loop-holds : tie.Need-loop-holds Inv-loop μ-loop
 loop-holds c =
@@ -26,7 +26,7 @@ pixel-at-requires : tie.Need-pixel-at-requires Inv-loop μ-loop
 pixel-at-requires c κs =
     let begin = (c .before .before .before) in
     let k = (c .before .loop) in
-    omega (arith, pixel-copies (begin .pre .0) (begin .pre .1 .1) (k .i) (c .loop-test .taken) .stored, begin)
+    omega (arith, pixel-copies (begin .pre .0) (begin .pre .1 .1 .0) (k .i) (c .loop-test .taken) .stored, begin)
 
 sub-pixel-at : tie.Need-sub-pixel-at Inv-loop μ-loop
 sub-pixel-at c =
@@ -38,13 +38,13 @@ pixel-at-requires-2 : tie.Need-pixel-at-requires-2 Inv-loop μ-loop
 pixel-at-requires-2 c κs =
     let begin = (c .before .before .before .before .before) in
     let k = (c .before .before .before .loop) in
-    rw (walk-place (begin .args .t .columns) _ (k .inv .here)) (omega (arith, pixel-copies (begin .pre .0) (begin .pre .1 .1) (k .i) (c .before .before .loop-test .taken) .read, begin))
+    rw (walk-place (begin .args .t .columns) _ (k .inv .here)) (omega (arith, pixel-copies (begin .pre .0) (begin .pre .1 .1 .0) (k .i) (c .before .before .loop-test .taken) .read, begin))
 
 straight-pixel-requires : tie.Need-straight-pixel-requires Inv-loop μ-loop
 straight-pixel-requires c κs =
     let begin = (c .before .before .before .before .before .before .before) in
     let k = (c .before .before .before .before .before .loop) in
-    rw ((c .before .before .before .pixel-at .ensures), (c .before .pixel-at2 .ensures), k .inv .long, walk-place (begin .args .t .columns) _ (k .inv .here)) (pixel-copies (begin .pre .0) (begin .pre .1 .1) (k .i) (c .before .before .before .before .loop-test .taken))
+    rw ((c .before .before .before .pixel-at .ensures), (c .before .pixel-at2 .ensures), k .inv .long, walk-place (begin .args .t .columns) _ (k .inv .here)) ((pixel-copies (begin .pre .0) (begin .pre .1 .1 .0) (k .i) (c .before .before .before .before .loop-test .taken)), begin .pre .1 .1 .1)
 
 next-requires : tie.Need-next-requires Inv-loop μ-loop
 next-requires c κs =
@@ -64,7 +64,7 @@ loop-again c =
     let k = (c .before .before .before .before .before .before .before .before .before .loop) in
     let put = (c .before .before .before .straight-pixel) in
     let more = (c .before .before .before .before .before .before .before .before .loop-test .taken) in
-    straight-again (k .inv) (begin .pre .0) (begin .pre .1 .1) _ _ more (rw ((c .before .before .before .before .before .before .before .pixel-at .ensures), (c .before .before .before .before .before .pixel-at2 .ensures)) at (put .ensures)) (put .kept .0)
+    straight-again (k .inv) (begin .pre .0) (begin .pre .1 .1 .0) _ _ more (rw ((c .before .before .before .before .before .before .before .pixel-at .ensures), (c .before .before .before .before .before .pixel-at2 .ensures)) at (put .ensures)) (put .kept .0)
     (steps-on (begin .args .x) (begin .args .w) (k .i) (begin .pre .0 .first) (begin .pre .0 .last) (k .inv .here) more (c .next .ensures))
 
 add-result : tie.Need-add-result Inv-loop μ-loop
