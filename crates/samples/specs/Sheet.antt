@@ -1,4 +1,4 @@
--- The marked lines of the sample sheet of document 01, as a list: what the definitions give beside what the sheet says.
+-- The marked lines of the sample sheet of document 01, and those of the requests that followed, as a list: what the definitions give beside what the sheet says.
 -- Assumes nothing.
 use mathlib.Core.List.{List, [], _∷_, map}
 use mathlib.Core.Bool.{true, false, cond}
@@ -12,6 +12,8 @@ use Rattle.views.specs.View.{viewAnswer}
 use Rattle.line.specs.Line.{lineFrom, flat, points}
 use Rattle.line.specs.Stipple.{styleAfter}
 use Rattle.positions.specs.Position.{origin, placed, steppedXY}
+use Rattle.scale.specs.declared.Scale.{Scale}
+use Rattle.scale.specs.Scale.{scaled}
 
 -- a line of the sheet: the numbers that the definitions give, and those that the sheet says
 pub record Line : Type 0 where
@@ -30,6 +32,10 @@ ones (suc n) x row = cond (eqb (monoBit row (surface 0 4 0) x 0) 1) (x ∷ ones 
 abbrev pub monoPixels : ℕ → List ℕ
 monoPixels word =
     ones 32 0 (word % 256 ∷ word / 256 % 256 ∷ word / 65536 % 256 ∷ word / 16777216 ∷ [])
+
+-- so many columns of a source stretched to so many of a target, both from column 0 on
+abbrev pub stretching : ℕ → ℕ → Scale
+stretching sourceSize size = record { to = 0; size = size; from = 0; sourceSize = sourceSize }
 
 abbrev pub sheet : List Line
 sheet =
@@ -54,4 +60,7 @@ sheet =
     ∷ is (map (λ packing. dataWords 0 (stepOf packing 0 9 0) 9 2) (1 ∷ 3 ∷ [])) (1 ∷ 2 ∷ [])
     -- 24 bpp, stride 7: x = 1 taken, x = 2 refused 7
     ∷ is (map (λ x. viewAnswer 65536 0 0x40007 x 0 1) (1 ∷ 2 ∷ [])) (0 ∷ 7 ∷ [])
+    -- request One, a stretch of 4 to 2 columns takes 0, 2; of 3 to 5 it takes 0, 0, 1, 1, 2
+    ∷ is (map (scaled (stretching 4 2)) (0 ∷ 1 ∷ [])) (0 ∷ 2 ∷ [])
+    ∷ is (map (scaled (stretching 3 5)) (0 ∷ 1 ∷ 2 ∷ 3 ∷ 4 ∷ [])) (0 ∷ 0 ∷ 1 ∷ 1 ∷ 2 ∷ [])
     ∷ []
