@@ -57,8 +57,8 @@ pub fn plain_pixel(mem: &mut [u8], t: Straight, from: u32, to: u32, d: usize, s:
     requires { ⌜ PixelCopies t from to d s (length (now mem)) × (t .key ≡ false) ⌝ }
     ensures { λ _. ⌜ now (mem .exit) ≡ copied t d s (now (mem .entry)) ⌝ }
 {
-    let v = surface::get_bytes(mem, s, from);
-    surface::put_bytes(mem, d, to, colour::convert_by_rule(from, to, v));
+    let value = surface::get_bytes(mem, s, from);
+    surface::put_bytes(mem, d, to, colour::convert_by_rule(from, to, value));
 }
 
 // The w pixels of row j, of `to` bytes each from d on, and their sources, of `from` bytes each from s on, after n that were written: from the left.
