@@ -1,16 +1,15 @@
 -- Laws of stretches: the box of the source positions that pixels take decides their rows of the table, and what a verdict of 0 gives the painter.
 -- Assumes nothing.
 use mathlib.Core.Path.{_≡_, sym, ap, _∙_}
-use mathlib.Core.Bool.{Bool, true, false, cond, not, _||_}
+use mathlib.Core.Bool.{true, false, cond, not, _||_}
 use mathlib.Core.List.{map, map-map, Memᴰ·map}
 use Prim.Native.Nat.{ℕ, _+_, _-_, _^_, _<_, _≤_}
 use native.Mathlib.Omega.{arith}
 use Rattle.surface.specs.declared.Surface.{Surface}
-use Rattle.surface.specs.Place.{Small}
 use Rattle.spans.specs.Span.{allOn, spanOf, meet}
 use Rattle.surface.proofs.OnLaws.{on-column}
 use Rattle.surface.proofs.Rects.{rect-in}
-use Rattle.spans.proofs.Corner.{Corners, corners-map, rect-corners}
+use Rattle.spans.proofs.Corner.{Corners, corners-map, rect-corners, rect-none}
 use Rattle.spans.proofs.Spans.{corners-span}
 use Rattle.formats.proofs.FormatLaws.{target-colour, target-small, source-small}
 use Rattle.paint.specs.Clip.{origin, pixelAt}
@@ -24,9 +23,10 @@ use Rattle.scale.specs.Scale.{scaled}
 use Rattle.scale.specs.Stretch.{takenAt, CanStretch}
 use Rattle.scale.proofs.ScaleLaws.{scaled-mono}
 use Rattle.command.specs.Decode.{target, stretchOrigins, inkOf, stretchOf}
-use Rattle.table.specs.Table.{bothFine, allOnAt, pixels, stretchNeeded, stretchFault, reachOf, takenCut, stretchRows, stretchVerdict, InRows, Reaches, OnScales}
+use Rattle.table.specs.Table.{bothFine, allOnAt, pixels, stretchNeeded, stretchFault, reachOf, takenCut, sourceRows, stretchRows, stretchVerdict, Reaches, OnScales}
 use Rattle.table.proofs.Sources.{each-at, not-negative, corners-at, pixel-corners, needed-corners, no-clash}
-use Rattle.table.proofs.Verdicts.{passed, spared, neither, target-named, fill-bounded, in-rows}
+use Rattle.table.proofs.Rows.{same-rows}
+use Rattle.table.proofs.Verdicts.{passed, spared, neither, target-named, fill-bounded}
 
 -- ---- the box: positions go up, so that those of the first and the last pixel are its corners
 pub reach-up : (s : Scale) (at n : ℕ) → scaled s (origin + at) ≤ scaled s (origin + (at + (n - 1)))
@@ -65,36 +65,19 @@ module _ (t : Stretch) (c : Cut) (w : 0 < c .w) (h : 0 < c .h) where
       let column = on-column s len _ _ on in
       corners-span s (pixel-corners taken-corners) column ∙ sym (corners-span s (pixel-corners box-corners) column)
 
--- ---- rows 7 and 8: one line for each way through the tests
-module _ (t : Stretch) (c : Cut) (len : ℕ) where
-  pub rows-off : allOn (t .ink .target) len (covered c) ≡ false → 7 ≡ stretchRows t c len
-  unfolding stretchRows
-  rows-off a = rw a
+-- ---- rows 7 and 8: none applies where no pixel is left, and elsewhere the box stands for the positions
+pub rows-none : (t : Stretch) (c : Cut) (len : ℕ) → (0 < c .w → 0 < c .h → ⊥) → 0 ≡ stretchRows t c len
+unfolding sourceRows allOnAt
+rows-none t c len none =
+    let on = rect-none false false (t .ink .target) len (c .x) (c .y) (c .w) (c .h) none in
+    let clash = no-clash (t .ink .target) c (spanOf (t .from) (pixels (map (takenAt t) (covered c)))) none in
+    rw (on, clash, none-left c none (takenAt t))
 
-  pub rows-none : allOn (t .ink .target) len (covered c) ≡ true → (0 < c .w → 0 < c .h → ⊥) → 0 ≡ stretchRows t c len
-  unfolding stretchRows allOnAt
-  rows-none a none =
-      let clash = no-clash (t .ink .target) c (spanOf (t .from) (pixels (map (takenAt t) (covered c)))) none in
-      rw (a, clash, none-left c none (takenAt t))
-
-module _ (t : Stretch) (c b : Cut) (len : ℕ) (box : b ≡ takenCut t c) (w : 0 < c .w) (h : 0 < c .h) (on : allOn (t .ink .target) len (covered c) ≡ true) where
-  box-at : allOnAt (t .from) len (map (takenAt t) (covered c)) ≡ allOnAt (t .from) len (needed b)
-  box-at = box-on t c w h (t .from) len ∙ ap (λ (k : Cut). allOnAt (t .from) len (needed k)) (sym box)
-
-  pub rows-source-off : allOnAt (t .from) len (needed b) ≡ false → 7 ≡ stretchRows t c len
-  unfolding stretchRows
-  rows-source-off s = rw (on, box-at ∙ s)
-
-  pub rows-by : {clash : Bool} → allOnAt (t .from) len (needed b) ≡ true → meet (spanOf (t .ink .target) (covered c)) (spanOf (t .from) (pixels (needed b))) ≡ clash
-      → cond clash 8 0 ≡ stretchRows t c len
-  unfolding stretchRows
-  rows-by s m =
-      let there = ap (λ (k : Cut). allOnAt (t .from) len (needed k)) (sym box) ∙ s in
-      let same = box-span t c w h (t .from) len there ∙ ap (λ (k : Cut). spanOf (t .from) (pixels (needed k))) (sym box) in
-      rw (on, box-at ∙ s, same, m)
-
-  pub rows-in : Small (t .ink .target) → Small (t .from) → allOnAt (t .from) len (needed b) ≡ true → InRows (t .ink .target) (t .from) c b
-  rows-in ts ss s = in-rows (t .ink .target) (t .from) len c b ts ss (λ w h. rw box (box-some t c w h)) on s
+pub rows-box : (t : Stretch) (c : Cut) (len : ℕ) → 0 < c .w → 0 < c .h
+    → sourceRows (t .ink .target) (t .from) len c (needed (takenCut t c)) false ≡ stretchRows t c len
+rows-box t c len w h =
+    same-rows (t .ink .target) (t .from) len c false (needed (takenCut t c)) (map (takenAt t) (covered c))
+    (sym (box-on t c w h (t .from) len)) (λ e. sym (box-span t c w h (t .from) len e))
 
 -- ---- the registers' stretch: what the clip leaves of an axis are places of it
 -- an axis with the sizes and the source place that registers can name
@@ -133,7 +116,7 @@ module _ (r : Regs) (len : ℕ) where
   stretch-faulty f h = rw (f, h)
 
   pub stretch-by : bothFine r ≡ true → stretchFault r ≡ false → stretchRows (stretchOf r) (fillCut r) len ≡ stretchVerdict r len
-  unfolding stretchVerdict stretchRows stretchOf inkOf
+  unfolding stretchVerdict sourceRows stretchOf inkOf
   stretch-by f h = rw (f, h)
 
 -- ---- what a verdict of 0 gives

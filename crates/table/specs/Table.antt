@@ -1,6 +1,6 @@
 -- Rows 5 to 8 of the table of answers, for each command: the number of the first row that applies, 0 where none does.
 -- Assumes nothing.
-use mathlib.Core.Bool.{Bool, true, cond, not, _&&_, _||_}
+use mathlib.Core.Bool.{Bool, true, false, cond, not, _&&_, _||_}
 use mathlib.Core.List.{List, [], _∷_, map}
 use Prim.Native.Nat.{ℕ, _+_, _-_, _/_, _%_, _^_, _<_, _≤_}
 use lib.Dec.{eqb, leb, ltb}
@@ -89,13 +89,17 @@ hostVerdict r len =
 unfoldable pub lineVerdict : Regs → ℕ → ℕ
 lineVerdict r len = cond (not (targetFine r)) 5 (cond (lineOff (target r) len (clipOf r) (points (lineOf r))) 7 0)
 
+-- ---- rows 7 and 8 of a command that paints the pixels of a cut and takes source positions; a lenient one may have both on one surface
+unfoldable pub sourceRows : Surface → Surface → ℕ → Cut → List Px → Bool → ℕ
+sourceRows t s len c qs lenient =
+    cond (not (allOn t len (covered c)) || not (allOnAt s len qs)) 7
+    (cond (not (lenient && sameSurface t s) && meet (spanOf t (covered c)) (spanOf s (pixels qs))) 8
+    0)
+
 -- ---- a stretch to the pixels of a cut
 -- its rows 7 and 8
-unfoldable pub stretchRows : Stretch → Cut → ℕ → ℕ
-stretchRows t c len =
-    cond (not (allOn (t .ink .target) len (covered c)) || not (allOnAt (t .from) len (map (takenAt t) (covered c)))) 7
-    (cond (meet (spanOf (t .ink .target) (covered c)) (spanOf (t .from) (pixels (map (takenAt t) (covered c))))) 8
-    0)
+abbrev pub stretchRows : Stretch → Cut → ℕ → ℕ
+stretchRows t c len = sourceRows (t .ink .target) (t .from) len c (map (takenAt t) (covered c)) false
 
 -- on one axis: the source place that the first of n target places takes, and how many there are from it to that of the last
 unfoldable pub reachOf : Scale → ℕ → ℕ → Reach

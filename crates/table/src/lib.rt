@@ -9,7 +9,7 @@ ghost use Prim.Native.Nat.{_-_, _<_};
 ghost use Rattle.surface.specs.Place.{Small};
 ghost use Rattle.spans.specs.Span.{spanOf, meet};
 ghost use Rattle.cuts.specs.Cut.{covered, needed};
-ghost use Rattle.table.specs.Table.{bothFine, allOnAt, pixels, sameSurface, reachOf, takenCut, stretchRows, stretchFault, hostFault, InRows, Reaches, OnScales, fillVerdict, copyVerdict, stretchVerdict, hostVerdict, lineVerdict};
+ghost use Rattle.table.specs.Table.{bothFine, allOnAt, pixels, sameSurface, reachOf, takenCut, sourceRows, stretchRows, stretchFault, hostFault, InRows, Reaches, OnScales, fillVerdict, copyVerdict, stretchVerdict, hostVerdict, lineVerdict};
 
 fn both_fine(r: Regs) -> bool
     ensures { λ b. ⌜ b ≡ bothFine r ⌝ }
@@ -63,6 +63,21 @@ fn spans_clash(t: Surface, s: Surface, c: Cut, b: Cut) -> bool
     spans::spans_meet(painted, taken)
 }
 
+// Rows 7 and 8 of a command that paints cut c of t and takes box b of s: something is off its surface, or the spans meet.
+// A lenient command may have both on one surface.
+fn source_rows(len: usize, t: Surface, s: Surface, c: Cut, b: Cut, lenient: bool) -> u32
+    requires { ⌜ Small t × Small s × (0 < c .w → 0 < c .h → (0 < b .w) × (0 < b .h)) ⌝ }
+    ensures { λ n. ⌜ n ≡ sourceRows t s len c (needed b) lenient ⌝ }
+{
+    if !spans::rect_on(len, t, c.x, c.y, c.w, c.h) | !needed_on(len, s, b) {
+        return 7;
+    }
+    if !(lenient & same_surface(t, s)) & spans_clash(t, s, c, b) {
+        return 8;
+    }
+    0
+}
+
 pub fn fill_verdict(len: usize, r: Regs) -> u32
     ensures { λ n. ⌜ n ≡ fillVerdict r len ⌝ }
 {
@@ -86,19 +101,7 @@ pub fn copy_verdict(len: usize, r: Regs) -> u32
     let t = command::target_surface(r);
     let s = command::source_surface(r);
     let c = cuts::copy_cut(r);
-    if !spans::rect_on(len, t, c.x, c.y, c.w, c.h) {
-        return 7;
-    }
-    if !needed_on(len, s, c) {
-        return 7;
-    }
-    if same_surface(t, s) {
-        return 0;
-    }
-    if spans_clash(t, s, c, c) {
-        return 8;
-    }
-    0
+    source_rows(len, t, s, c, c, true)
 }
 
 // The source places that target places take, on one axis: the first, and how many there are from it to the last.
@@ -146,9 +149,6 @@ fn stretch_rows(len: usize, t: Stretch, c: Cut) -> u32
     let ink = t.ink;
     let target = ink.target;
     let from = t.from;
-    if !spans::rect_on(len, target, c.x, c.y, c.w, c.h) {
-        return 7;
-    }
     if c.w == 0 {
         return 0;
     }
@@ -156,13 +156,7 @@ fn stretch_rows(len: usize, t: Stretch, c: Cut) -> u32
         return 0;
     }
     let b = taken_cut(t, c);
-    if !needed_on(len, from, b) {
-        return 7;
-    }
-    if spans_clash(target, from, c, b) {
-        return 8;
-    }
-    0
+    source_rows(len, target, from, c, b, false)
 }
 
 // Whether row 6 applies to a stretch: its source has no width or no height, and its target has both.
