@@ -1,8 +1,9 @@
-"""A plain model of the 2D engine, written from the scope paper alone, to be read beside
-the paper and compared with other programs; it is not meant to be fast.
+"""A plain model of the 2D engine, written from the scope paper and the first change request
+alone, to be read beside them and compared with other programs; it is not meant to be fast.
 
-Names in quotes in the comments are sections of the paper. "Point N" is a numbered open
-point of the source facts, part 3.3. Run as a program it plays a stream from its input.
+Names in quotes in the comments are sections of the paper; "Thumbnails" is that request.
+"Point N" is a numbered open point of the source facts, part 3.3. Run as a program it plays
+a stream from its input.
 """
 
 import copy
@@ -32,8 +33,9 @@ KEPT = dict(REGISTERS.values())
 COMMAND = OFFSETS["command"]
 ALIASES = {0x44: 0x100, 0x48: 0x104}
 
-# "The card's part that we need": the numbers that are built.
-NOP, COPY, HOST, FILL, LINE, POLYLINE = BUILT = (0, 1, 3, 5, 6, 7)
+# "The card's part that we need", and "Thumbnails" for 2: the numbers that are built.
+NOP, COPY, STRETCH, HOST, FILL, LINE, POLYLINE = BUILT = (0, 1, 2, 3, 5, 6, 7)
+FROM_MEMORY = (COPY, STRETCH)  # screen copies: their source is in the memory
 
 # "Registers": format number to bits of a pixel. A target is the same without mono.
 SOURCE_BITS = {0: 1, 1: 8, 3: 16, 4: 24, 5: 32}
@@ -214,7 +216,7 @@ class Engine:
         data = word.to_bytes(4, "little")  # host data comes low byte first
         if self.waiting is not None:
             return 0, self.feed(mem, data)
-        if self.number() == COPY:
+        if self.number() in FROM_MEMORY:
             self.store("srcXY", word)
         elif self.number() in (FILL, LINE, POLYLINE):
             self.store("dstXY", word)
@@ -229,10 +231,11 @@ class Engine:
             return 0, []
 
         target = self.target()  # row 5
-        source = self.source() if number in (COPY, HOST) else None
+        has_source = number in FROM_MEMORY or number == HOST
+        source = self.source() if has_source else None
         if target is None:
             return 5, []
-        if number in (COPY, HOST) and (source is None or not allowed(source.depth, target.depth)):
+        if has_source and (source is None or not allowed(source.depth, target.depth)):
             return 5, []
 
         if number == HOST:  # row 6
@@ -242,17 +245,23 @@ class Engine:
             swizzled = bits(form, 21, 20) != 0
             if swizzled or self.flag(14) or self.flag(15) or self.registers["srcXY"] != 0 or short:
                 return 6, []
+        if number == STRETCH:  # row 6 by "Thumbnails": the target rectangle, clipped or not, is not empty
+            width, height = halves(self.registers["dstSize"])
+            source_width, source_height = halves(self.registers["srcSize"])
+            if width > 0 and height > 0 and (source_width == 0 or source_height == 0):
+                return 6, []
 
         covered: list[Pixel] = []  # row 7; the first pixel off its surface settles it
         for x, y in self.covered_pixels():
             if not target.has(x, y, length):
                 return 7, []
             covered.append((x, y))
-        needed = [self.source_of(x, y) for x, y in covered] if number == COPY else []
+        needed = [self.source_of(x, y) for x, y in covered] if number in FROM_MEMORY else []
         if not all(source.has(x, y, length) for x, y in needed):
             return 7, []
 
-        if needed and source != target:  # row 8; an empty span meets nothing
+        # row 8, for a stretch also on one surface; an empty span meets nothing
+        if needed and (source != target or number == STRETCH):
             source_low, source_high = source.span(needed)
             target_low, target_high = target.span(covered)
             if source_low <= target_high and target_low <= source_high:
@@ -282,7 +291,8 @@ class Engine:
         return target_surface(self.registers["dstBaseAddr"], self.registers["dstFormat"])
 
     def source(self) -> Surface | None:
-        """The source surface or none (answer 5); its step by the packing, from dstSize's width."""
+        """The source surface or none (answer 5); its step by the packing, from the width of the
+        source: srcSize's in a stretch, dstSize's elsewhere."""
         base, form = self.registers["srcBaseAddr"], self.registers["srcFormat"]
         depth, packing = SOURCE_BITS.get(bits(form, 19, 16)), bits(form, 23, 22)
         if bits(base, 31, 31) or depth is None:
@@ -290,7 +300,7 @@ class Engine:
         if packing == 0:
             return Surface(base, bits(form, 13, 0), depth)
         unit = {1: 1, 2: 2, 3: 4}[packing]
-        width, _ = halves(self.registers["dstSize"])
+        width, _ = halves(self.registers["srcSize" if self.number() == STRETCH else "dstSize"])
         return Surface(base, (row_bytes(width, depth) + unit - 1) // unit * unit, depth)
 
     # --- "Which pixels" ---
@@ -305,7 +315,7 @@ class Engine:
         return left <= x < right and top <= y < bottom
 
     def rectangle(self) -> tuple[int, int, int, int]:
-        """Target rectangle, max excluded. Bits 14 and 15 matter in screen copies only."""
+        """Target rectangle, max excluded. Bits 14 and 15 matter in plain screen copies only."""
         x, y = self.place("dstXY")
         width, height = halves(self.registers["dstSize"])
         if self.number() == COPY and self.flag(14):
@@ -326,9 +336,16 @@ class Engine:
                 yield x, y
 
     def source_of(self, x: int, y: int) -> Pixel:
-        """The source pixel of a screen copy's target pixel: both XY name the same corner."""
+        """The source pixel of a screen copy's target pixel. In a plain one both XY name the same
+        corner. By "Thumbnails", in a stretch target column i of w takes source column
+        floor(i x sw / w), and rows likewise; i counts from the rectangle's edge, clipped or not."""
         source, target = self.place("srcXY"), self.place("dstXY")
-        return x + source[0] - target[0], y + source[1] - target[1]
+        i, j = x - target[0], y - target[1]
+        if self.number() == STRETCH:
+            width, height = halves(self.registers["dstSize"])
+            source_width, source_height = halves(self.registers["srcSize"])
+            i, j = i * source_width // width, j * source_height // height
+        return source[0] + i, source[1] + j
 
     def points(self) -> list[Pixel]:
         """Lines run from srcXY to dstXY; a polyline leaves out point n."""
@@ -348,7 +365,7 @@ class Engine:
         before = bytes(mem)  # a copy gives each pixel from the source as it was before the command
         count = 0
         for x, y in covered:
-            if self.number() == COPY:
+            if self.number() in FROM_MEMORY:
                 count += self.draw_from_source(mem, x, y, self.source().get(before, *self.source_of(x, y)))
             else:  # a fill's source is colorFore; its transparency is by the mono pattern
                 bit = self.mono_pattern_bit(x, y) if self.flag(13) else None
