@@ -1,5 +1,6 @@
-"""Samples and vectors for the model: the scope paper's sheets, part 3.5's vectors V1 to V9
-and part 3.3's open points (their numbers in the comments). Run: python3 test_model.py"""
+"""Samples and vectors for the model: the scope paper's sheets, part 3.5's vectors V1 to V9,
+part 3.3's open points (their numbers in the comments) and the stretched copy of the first
+change request, worked out by hand. Run: python3 test_model.py"""
 
 import struct
 import unittest
@@ -9,6 +10,7 @@ from model import OFFSETS, Engine, line_points, play, row_view
 
 TO8 = "0C=FFF0FFF 14=10020 60=1 64=2 "  # 8 bpp, stride 32, back 1, fore 2
 DOT = TO8 + "68=10001 "  # a rectangle of one pixel
+FROM8 = TO8 + "34=800 54=10020 "  # and a source of 8 bpp, stride 32, at 800
 
 
 class Card:
@@ -239,6 +241,144 @@ class OpenPoints(unittest.TestCase):
         self.assertEqual(play(example + stream("101=0") + b"\0"), "refused 2 at 6\n")
         grey = stream("0C=10001 14=30002 68=10001 64=8410 70=CC000105")
         self.assertEqual(play(grey), "P3\n1 1\n255\n132 130 132\n")
+
+
+def sizes(source, target):
+    """The writes of srcSize and dstSize, each from (width, height)."""
+    return "".join(f"{offset}={height << 16 | width:X} " for offset, (width, height) in ((58, source), (68, target)))
+
+
+def stretched(text, source=b"abcdefgh", target=b""):
+    """A card with these bytes of the source and of the target, after the writes."""
+    return Card(FROM8 + text, start=target + bytes(0x800 - len(target)) + source)
+
+
+class Thumbnails(unittest.TestCase):
+    def test_columns_and_rows(self):
+        column = bytes(31).join(b"%c" % letter for letter in b"abcdefgh")
+        for of, to, taken in ((4, 2, b"ac"), (3, 5, b"aabbc"), (5, 3, b"abd"), (2, 7, b"aaaabbb"), (7, 2, b"ad"),
+                              (4, 4, b"abcd"), (1, 3, b"aaa"), (8, 1, b"a"), (1, 1, b"a")):
+            card = stretched(sizes((of, 1), (to, 1)) + f"70=CC000102+{to}")
+            self.assertEqual(card.mem[:9], taken.ljust(9, b"\0"))
+            card = stretched(sizes((1, of), (1, to)) + f"70=CC000102+{to}", column)
+            self.assertEqual(card.mem[:288:32], taken.ljust(9, b"\0"))
+        rows = b"abcd".ljust(32) + b"efgh".ljust(32) + b"ijkl"
+        card = stretched(sizes((4, 3), (2, 5)) + "6C=10003 70=CC000102+10", rows)
+        self.assertEqual([card.mem[32 * y + 3:32 * y + 6] for y in range(1, 7)],
+                         [b"ac\0", b"ac\0", b"eg\0", b"eg\0", b"ik\0", b"\0\0\0"])
+
+    def test_clip(self):  # columns and rows count from the rectangle's own edge
+        wide, high = sizes((3, 1), (5, 1)), sizes((1, 3), (1, 5))
+        column = bytes(31).join((b"a", b"b", b"c"))
+        for clip, taken in (("08=2 70=CC000102+3", b"\0\0bbc"), ("0C=FFF0003 70=CC000102+3", b"aab\0\0"),
+                            ("4C=1 50=FFF0004 70=CC800102+3", b"\0abb\0"), ("6C=1FFE 70=CC000102+3", b"bbc\0\0")):
+            self.assertEqual(stretched(wide + clip).mem[:5], taken)
+        for clip, taken in (("08=20000 70=CC000102+3", b"\0\0bbc"), ("0C=30FFF 70=CC000102+3", b"aab\0\0"),
+                            ("6C=1FFE0000 70=CC000102+3", b"bbc\0\0")):
+            self.assertEqual(stretched(high + clip, column).mem[:160:32], taken)
+        far = stretched(sizes((8191, 1), (8191, 1)) + "0C=FFF0020 6C=1000 5C=1000 70=CC000102+32", bytes(range(65, 97)))
+        self.assertEqual(far.mem[:32], bytes(range(65, 97)))  # dstX and srcX are -4096
+
+    def test_mono(self):
+        card = stretched("54=1 " + sizes((4, 1), (8, 1)) + "70=CC000102+8", b"\xA0")
+        self.assertEqual(card.mem[:8].hex(), "0202010102020101")
+        card = stretched("54=2 5C=6 " + sizes((6, 1), (3, 1)) + "70=CC010102+2", b"\x02\x80", b"xyz")  # pixels 6, 8, 10
+        self.assertEqual(card.mem[:3], b"\2\2z")
+
+    def test_conversion(self):
+        card = stretched("14=50040 54=30020 " + sizes((3, 1), (2, 1)) + "70=CC000102+2", bytes.fromhex("00F8E0071F00"))
+        self.assertEqual(card.mem[:12].hex(), "0000ff0000ff000000000000")
+        card = stretched("14=30020 54=50040 " + sizes((1, 1), (2, 1)) + "70=CC000102+2", bytes.fromhex("0800FF77"))
+        self.assertEqual(card.mem[:6].hex(), "01f801f80000")
+
+    def test_keys(self):
+        half = sizes((4, 1), (2, 1))
+        for key, left in (("63", b"ay"), ("62", b"ac")):  # a source pixel that is not taken matches nothing
+            card = stretched(half + f"38=1 18={key} 1C={key} 30=AA00 70=CC000102+2", target=b"xy")
+            self.assertEqual(card.mem[:2], left)
+        self.assertEqual(stretched(half + "38=2 20=78 24=78 30=AA 70=CC000102+2", target=b"xy").mem[:2], b"xc")
+        four = sizes((8, 1), (4, 1)) + "38=3 18=63 1C=63 20=79 24=79 30=55FF00 70=CC000102+4"
+        self.assertEqual(stretched(four, b"a.a.c.c.", b"xyxy").mem[:4].hex(), "6100ff86")
+        wide = "14=50040 54=30020 38=1 18=F800 1C=F800 30=AA00 " + sizes((2, 1), (2, 1))  # before conversion
+        self.assertEqual(stretched(wide + "70=CC000102+2", bytes.fromhex("00F8E007")).mem[:8].hex(), "0000000000ff0000")
+
+    def test_pattern(self):  # by the target's place; 3C is pattern xor source
+        card = stretched("100=654321 " + sizes((4, 1), (2, 1)) + "6C=1 70=3C000102+2")
+        self.assertEqual(card.mem[:4].hex(), "00220600")
+
+    def test_packed(self):  # five source columns; the target's two would give c, c, e
+        for packing, second in ((1, b"f"), (2, b"g"), (3, b"i")):
+            text = f"54={packing << 22 | 0x10000:X} " + sizes((5, 2), (2, 2)) + "70=CC000102+4"
+            card = stretched(text, b"abcdefghijkl")
+            self.assertEqual((card.mem[:1], card.mem[32:33]), (b"a", second))
+        card.do("54=410000 70=CC000101+4")  # a plain copy still goes by dstSize
+        self.assertEqual(card.mem[32:34], b"cd")
+        stretched("54=410000 5C=3 " + sizes((5, 1), (2, 1)) + "70=CC000102!7 5C=2 70=CC000102+2")
+
+    def test_directions(self):
+        cards = [stretched(sizes((4, 2), (2, 3)) + f"6C=20003 5C=1 70={word}+6", bytes(range(1, 100)))
+                 for word in ("CC000102", "CC004102", "CC008102", "CC00C102")]
+        self.assertEqual(cards[0].mem[67:69].hex() + cards[0].mem[131:133].hex(), "02042224")
+        self.assertEqual([card.mem for card in cards[1:]], [cards[0].mem] * 3)
+
+    def test_launch(self):
+        card = stretched(sizes((4, 1), (2, 1)) + "6C=20003 70=CC000002 80=E001E001+2 FC=2+2", bytes(range(1, 100)))
+        self.assertEqual((card.get("srcXY"), card.get("dstXY"), card.mem[67:69].hex()), (2, 0x20003, "0305"))
+        card.do("80=1E!7")
+        self.assertEqual(card.get("srcXY"), 2)
+
+    def test_steps(self):
+        for word, after in (("CC000102", 0x20003), ("CC000502", 0x20005), ("CC000902", 0x50003), ("CC00CD02", 0x50005)):
+            self.assertEqual(stretched(sizes((4, 1), (2, 3)) + f"6C=20003 70={word}+6").get("dstXY"), after)
+        self.assertEqual(stretched(sizes((0, 0), (0, 3)) + "6C=20003 70=CC000D02").get("dstXY"), 0x50003)
+        card = stretched(sizes((4, 1), (2, 1)) + "70=CC000402 80=0+2 80=1+2")
+        self.assertEqual((card.mem[:5], card.get("dstXY")), (b"acbd\0", 4))
+
+    def test_answer_4(self):
+        for number in (4, 8, 9, 10, 11, 12, 13, 14, 15):
+            stretched(sizes((1, 1), (1, 1)) + f"70=CC0001{number:02X}!4 70=CC0000{number:02X} 80=0!4")
+
+    def test_answer_5(self):
+        one, none, empty = (sizes(*pair) + "70=CC000102" for pair in (((1, 1),) * 2, ((0, 0), (1, 1)), ((1, 1), (0, 0))))
+        for text in (one, none, empty):  # before a 6, and with nothing covered
+            for fault in ("54=20020", "54=90020", "54=30020", "34=80000800", "10=80000000", "14=20020", "14=30020"):
+                stretched(f"{fault} {text}!5")
+        stretched(one + "+1")
+
+    def test_answer_6(self):
+        for source in ((0, 0), (0, 1), (1, 0)):
+            stretched(sizes(source, (1, 1)) + "70=CC000102!6")
+            stretched("0C=0 " + sizes(source, (1, 1)) + "70=CC000102!6")  # emptied by the clip alone
+            stretched("6C=20 " + sizes(source, (1, 1)) + "70=CC000102!6")  # before a 7
+            for target in ((0, 0), (0, 1), (1, 0)):
+                stretched(sizes(source, target) + "70=CC000102")
+        stretched("5C=10001 54=310020 " + sizes((1, 1), (1, 1)) + "70=CC00C102+1")  # what makes a host blit a 6
+
+    def test_answer_7(self):
+        even, half = sizes((2, 2), (2, 2)), sizes((2, 2), (1, 1))
+        for place in ("6C=1F", "6C=7F0000", "5C=1F", "5C=1FFF", "5C=3F0000", "5C=1FFF0000"):
+            stretched(f"{place} {even}70=CC000102!7")
+        for place in ("5C=1F", "5C=3F0000"):  # the second column or row is not taken
+            stretched(f"{place} {half}70=CC000102+1")
+        for place, clip in (("6C=1F", "0C=FFF0020"), ("6C=7F0000", "0C=800FFF"), ("5C=1F", "0C=FFF0001"),
+                            ("5C=1FFF", "08=1"), ("5C=3F0000", "0C=10FFF"), ("5C=1FFF0000", "08=10000")):  # clipped away
+            stretched(f"{place} {clip} {even}70=CC000102+2")
+        stretched("5C=FFF " + sizes((8, 8), (0, 8)) + "70=CC000102 0C=0 " + even + "70=CC000102")  # nothing covered
+        stretched("34=0 5C=1F " + even + "70=CC000102!7")  # before an 8
+
+    def test_answer_8(self):
+        eight, half = sizes((8, 1), (8, 1)), sizes((8, 1), (4, 1))
+        for of, to, text in (("8", "0", eight), ("0", "8", eight), ("0", "7", half), ("4", "0", half)):
+            stretched(f"34={of} 10={to} {text}70=CC000102+{8 if text is eight else 4}")  # spans that touch
+        for of, to, text in (("7", "0", eight), ("0", "7", eight), ("0", "6", half), ("3", "0", half)):
+            stretched(f"34={of} 10={to} {text}70=CC000102!8")
+        one = "34=0 "  # one surface
+        stretched(one + sizes((1, 1), (1, 1)) + "70=CC000101+1 70=CC000102!8 5C=1 70=CC000102+1")
+        stretched(one + sizes((2, 1), (2, 1)) + "6C=1 70=CC000102!8 6C=2 70=CC000102+2 6C=10000 70=CC000102+2")
+        rows = "6C=8 70=CC000101+4 70=CC000102!8 6C=20000 70=CC000102+4"  # they interleave, then they do not
+        stretched(one + sizes((2, 2), (2, 2)) + rows)
+        stretched(one + sizes((4, 4), (0, 4)) + "70=CC000102 0C=0 " + sizes((4, 4), (4, 4)) + "70=CC000102")
+        stretched("34=0 54=1 " + sizes((8, 1), (8, 1)) + "6C=1 70=CC000102+8 6C=0 70=CC000102!8")  # mono
 
 
 if __name__ == "__main__":
