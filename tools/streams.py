@@ -20,17 +20,19 @@ import textwrap
 from collections import Counter
 from pathlib import Path
 
-from model import (BUILT, COMMAND, COPY, FILL, HOST, KEPT, LIMIT, LINE, NOP, OFFSETS, POLYLINE, SOURCE_BITS, Engine,
-                   allowed, bits, halves, is_launch, row_bytes)
+from model import (BUILT, COMMAND, COPY, FILL, FROM_MEMORY, HOST, KEPT, LIMIT, LINE, NOP, OFFSETS, POLYLINE, SOURCE_BITS,
+                   STRETCH, Engine, allowed, bits, halves, is_launch, row_bytes)
 
-STREAMS, LENGTH = 336, 72  # streams, and the least number of writes of an ordinary one
-SWEEPS = 4  # so many streams begin with one
+MIXED, STRETCHED = 336, 64  # streams of all commands, and after them streams of stretched copies
+STREAMS, LENGTH = MIXED + STRETCHED, 72  # streams, and the least number of writes of an ordinary one
+SWEEPS = 4  # so many streams of each of the two begin with one
 TINY = (0, 1, 3, 64)  # lengths of memory
 ROOM = 65_536  # the longest memory there is
-BIG = {STREAMS - 5: ROOM, STREAMS - 3: LIMIT, STREAMS - 2: LIMIT + 1, STREAMS - 1: ROOM}
-THEMES = (("fill",), ("copy", "copy", "touch"), ("host",), ("line",), ("copy", "host"),
-          ("fill", "copy", "host", "line", "wild"))
-NAMES = {NOP: "nop", COPY: "copy", HOST: "host", FILL: "fill", LINE: "line", POLYLINE: "polyline"}
+BIG = {MIXED - 5: ROOM, MIXED - 3: LIMIT, MIXED - 2: LIMIT + 1, MIXED - 1: ROOM, STREAMS - 2: ROOM, STREAMS - 1: ROOM}
+EVERYTHING = ("fill", "copy", "stretch", "host", "line", "wild")
+THEMES = (("fill",), ("copy", "copy", "touch"), ("host",), ("line",), ("copy", "host"), EVERYTHING)
+STRETCHES = ("stretch", "stretch", "stretch", "far", "meet")  # the theme of streams of stretched copies
+NAMES = {NOP: "nop", COPY: "copy", STRETCH: "stretch", HOST: "host", FILL: "fill", LINE: "line", POLYLINE: "polyline"}
 NOT_BUILT = [number for number in range(16) if number not in BUILT]
 FORMAT = {depth: number for number, depth in SOURCE_BITS.items()}
 
@@ -54,6 +56,12 @@ def register_bytes(engine: Engine) -> bytes:
 
 def xy(x: int, y: int) -> int:
     return (y & 0x1FFF) << 16 | x & 0x1FFF
+
+
+def packed(width: int, depth: int, packing: int) -> int:
+    """The step of a packed source of this width."""
+    unit = {1: 1, 2: 2, 3: 4}[packing]
+    return -(-row_bytes(width, depth) // unit) * unit
 
 
 class Maker:
@@ -192,7 +200,7 @@ class Maker:
             packing, width, x = 1, self.columns, 0  # the same surface, packed
         self.set(srcBaseAddr=base, srcFormat=packing << 22 | FORMAT[depth] << 16 | stride, dstSize=xy(width, height))
         if packing:
-            step = self.engine.source().step if self.engine.source() else 0
+            step = packed(width, depth, packing)
             columns, rows = step * 8 // depth, min(rows, 512 // max(1, step))
         right, below = (width - 1) * bits(word, 14, 14), (height - 1) * bits(word, 15, 15)
         self.set(dstXY=xy(x + right, y + below))
@@ -218,6 +226,99 @@ class Maker:
         self.set(clip0Min=0, clip0Max=xy(self.columns, self.rows), dstSize=xy(width, height), dstXY=xy(0, y), srcXY=0)
         self.set(srcBaseAddr=base, srcFormat=FORMAT[depth] << 16 | stride)
         self.put(COMMAND, self.word(COPY, 0) & ~(1 << 23) | 0x100)
+
+    def share(self, size: int, covered: range, most: int) -> int:
+        """A side of the source: one, as the target's, less, or more, up to what keeps the taken pixels below most."""
+        most = min(8191, most * size // max(1, len(covered)))
+        side = self.pick((1, size, self.near(1, size), self.near(size, most), self.near(1, most)))
+        return 0 if self.chance(0.02) else max(1, min(side, most))
+
+    def begin(self, size: int, covered: range, side: int, low: int, high: int) -> int:
+        """Where a side of the source begins: what is taken of it lies from low to high, the latter excluded, often right
+        at one of the two, and now and then one pixel past it."""
+        if not covered or not size:
+            return self.near(-2, high)
+        first, last = low - covered[0] * side // size, high - 1 - covered[-1] * side // size
+        start = self.pick((first, max(first, last), self.near(first, last), self.near(first, last)))
+        if self.chance(0.05):
+            start = self.pick((first - 1, last + 1))
+        return min(max(start, -4096), 4095)
+
+    def cut(self, x: int, y: int, width: int, height: int) -> str:
+        """A clip: the whole target, or one that takes something off some sides of the rectangle there. Gives its name."""
+        low, high = [], []
+        for at, side, most in ((x, width, self.columns), (y, height, self.rows)):
+            first, past, off = 0, most, 0
+            if self.chance(0.5):
+                first, past = max(at, 0), min(max(at + side, 0), most)
+                off = max(past - first, 0) // 4 + 1
+            low.append(first + self.pick((0, self.near(0, off))))
+            high.append(max(0, past - self.pick((0, self.near(0, off)))))
+        name = self.pick(("clip0", "clip0", "clip1"))
+        self.set(**{name + "Min": xy(*low), name + "Max": xy(*high)})
+        return name
+
+    def covered(self, clip: str, x: int, y: int, width: int, height: int) -> tuple[range, range]:
+        """The columns and rows of a rectangle that the clip leaves, counted from the rectangle's edges."""
+        left, top = halves(self.engine.registers[clip + "Min"])
+        right, bottom = halves(self.engine.registers[clip + "Max"])
+        return range(max(left - x, 0), min(right - x, width)), range(max(top - y, 0), min(bottom - y, height))
+
+    def stretch(self) -> None:
+        width, height = self.sides()
+        self.stretch_to(*self.spot(width, height), width, height)
+
+    def far(self) -> None:
+        """A target rectangle of which the clip leaves a small part, deep inside."""
+        width, height = self.near(1000, 8191), self.pick((self.near(1, 9), self.near(1000, 8191)))
+        x, y = self.near(max(-4096, -width), 0), self.near(max(-4096, -height), 0)
+        self.stretch_to(x, y, width, height)
+
+    def stretch_to(self, x: int, y: int, width: int, height: int) -> None:
+        clip = self.cut(x, y, width, height)
+        across, down = self.covered(clip, x, y, width, height)
+        depth, packing, low = self.source_depth(), self.pick((0, 0, 0, 1, 2, 3)), 0
+        base, stride, columns, rows = self.surface(depth, self.parts[self.chance(0.95)])
+        if self.chance(0.25):  # within one surface, from the rows above or below, or now and then from any
+            depth, packing, base, stride, columns, rows = self.depth, 0, self.base, self.stride, self.columns, self.rows
+            if down and self.chance(0.9):
+                top, bottom = y + down[0], y + down[-1] + 1
+                low, rows = self.pick(((0, top), (bottom, rows)))
+        wide, high = self.share(width, across, columns), self.share(height, down, rows - low)
+        if packing:
+            step = packed(wide, depth, packing)
+            columns, rows = step * 8 // depth, min(rows, 512 // max(1, step))
+        self.set(srcBaseAddr=base, srcFormat=packing << 22 | FORMAT[depth] << 16 | stride, srcSize=xy(wide, high),
+                 dstSize=xy(width, height), dstXY=xy(x, y))
+        word = self.word(STRETCH) & ~(1 << 23) | (clip == "clip1") << 23
+        by_bit_8 = self.chance(0.4)
+        for i in range(self.near(1, 3)):
+            across, down = self.covered(clip, *self.engine.place("dstXY"), width, height)
+            place = xy(self.begin(width, across, wide, 0, columns), self.begin(height, down, high, low, rows))
+            if i == 0 and by_bit_8:
+                self.set(srcXY=place)
+                self.put(COMMAND, word | 0x100)
+                continue
+            if i == 0:
+                self.put(COMMAND, word)
+            self.launch(place)
+
+    def meet(self) -> None:
+        """A stretched copy of one row whose taken pixels end or begin at the covered ones or one byte or pixel off them,
+        between surfaces or on one."""
+        width, wide = self.near(1, self.columns // 2), self.near(1, self.columns // 2)
+        y, last = self.near(0, self.rows - 1), (width - 1) * wide // width
+        depth, base, x, from_x, from_y = self.depth, self.base, 0, 0, y
+        if self.chance(0.4):
+            x, from_x = self.pick(((0, width - self.near(0, 1)), (last + self.near(0, 1), 0)))
+        else:
+            depth, from_y = self.pick((1, self.depth)), 0
+            long = row_bytes(last + 1, depth)
+            base += y * self.stride + self.pick((row_bytes(width, self.depth) - self.near(0, 1), self.near(0, 1) - long))
+        self.set(clip0Min=0, clip0Max=xy(self.columns, self.rows), srcSize=xy(wide, self.near(1, 9)),
+                 dstSize=xy(width, 1), dstXY=xy(x, y), srcXY=xy(from_x, from_y))
+        self.set(srcBaseAddr=max(0, base), srcFormat=FORMAT[depth] << 16 | self.stride)
+        self.put(COMMAND, self.word(STRETCH) & ~(1 << 23) | 0x100)
 
     def host(self) -> None:
         depth, packing = self.source_depth(), self.pick((0, 0, 1, 2, 3))
@@ -283,7 +384,7 @@ class Maker:
             self.set(**{self.pick([name for name in OFFSETS if name != "command"]): self.draw(32)})
         else:
             self.set(srcXY=self.draw(29), bresError0=self.draw(32), bresError1=self.draw(32), srcSize=self.draw(32))
-        self.put(COMMAND, self.word(self.pick((COPY, HOST, FILL, FILL, LINE)), 0.1) | self.chance(0.5) << 8)
+        self.put(COMMAND, self.word(self.pick((COPY, STRETCH, HOST, FILL, FILL, LINE)), 0.1) | self.chance(0.5) << 8)
         self.launch(self.draw(32) if self.chance(0.3) else xy(*self.spot(4, 4)))
         self.settle()
         if self.engine.waiting is None:
@@ -297,16 +398,21 @@ class Maker:
             self.put(COMMAND, self.word(number) | 0x100)
             self.put(COMMAND, self.word(number))
             self.launch(self.draw(32))
-        self.set(clip0Min=0, clip0Max=xy(self.columns, self.rows), dstXY=0, srcXY=0, dstSize=xy(1, 1),
+        self.set(clip0Min=0, clip0Max=xy(self.columns, self.rows), dstXY=0, srcXY=0, dstSize=xy(1, 1), srcSize=xy(2, 3),
                  srcBaseAddr=self.parts[1][0])
         for source in range(16):
             self.set(srcFormat=source << 16 | 8)
             for target in range(8):
                 self.set(dstFormat=target << 16 | self.stride)
                 self.put(COMMAND, 0xCC000100 | COPY)
+                self.put(COMMAND, 0xCC000100 | STRETCH)
                 self.put(COMMAND, 0xCC000000 | HOST)
                 self.launch(self.draw(32))
-        self.set(dstFormat=FORMAT[self.depth] << 16 | self.stride)
+        for target, number in itertools.product(range(8), (FILL, LINE, POLYLINE)):
+            self.set(dstFormat=target << 16 | self.stride)
+            self.put(COMMAND, 0xCC000100 | number)
+            self.launch(0)
+        self.set(srcXY=0, dstFormat=FORMAT[self.depth] << 16 | self.stride)
         for packing, (width, height) in itertools.product(range(4), ((0, 0), (0, 3), (3, 0))):
             self.set(srcFormat=packing << 22 | 5, dstSize=xy(width, height))
             self.put(COMMAND, self.word(HOST, 0) | 0xD00)
@@ -316,6 +422,26 @@ class Maker:
             self.set(dstXY=xy(2, 2))
             self.put(COMMAND, self.word(COPY, 0) & ~(1 << 23) | turn << 14)
             self.launch(xy(x, y))
+
+    def stretch_sweep(self) -> None:
+        """All small widths and heights against each other, sizes of 0, and tiled surfaces."""
+        while self.columns < 8 or self.rows < 8 or self.parts[1][1] - self.parts[1][0] < 80 * self.depth // 8:
+            self.scene()
+        self.set(clip0Min=0, clip0Max=xy(self.columns, self.rows), commandExtra=0, dstXY=0,
+                 srcBaseAddr=self.parts[1][0], srcFormat=FORMAT[self.depth] << 16 | self.depth)
+        self.put(COMMAND, 0xCC000000 | STRETCH)
+        for wide, width in itertools.product(range(1, 9), repeat=2):
+            high, height = 9 - width, wide
+            self.set(srcSize=xy(wide, high), dstSize=xy(width, height))
+            self.launch(0)
+        for side, size in itertools.product(((0, 0), (0, 2), (2, 0), (2, 2)), repeat=2):
+            self.set(srcSize=xy(*side), dstSize=xy(*size))
+            self.launch(0)
+        for name in ("dstBaseAddr", "srcBaseAddr"):
+            base = self.engine.registers[name]
+            self.set(**{name: base | 1 << 31})
+            self.launch(0)
+            self.set(**{name: base})
 
 
 def note(tally: Counter, before: dict[str, int], waited: bool, offset: int, word: int, answer: tuple[int, int],
@@ -327,8 +453,8 @@ def note(tally: Counter, before: dict[str, int], waited: bool, offset: int, word
     asked.registers = before
     if offset == COMMAND:
         asked.store("command", word)
-    elif is_launch(offset) and asked.number() in (COPY, FILL, LINE, POLYLINE):
-        asked.store("srcXY" if asked.number() == COPY else "dstXY", word)
+    elif is_launch(offset) and asked.number() in (*FROM_MEMORY, FILL, LINE, POLYLINE):
+        asked.store("srcXY" if asked.number() in FROM_MEMORY else "dstXY", word)
     kind, command = asked.number(), before["command"]
     name, way = NAMES.get(kind, "not built"), "by bit 8" if offset == COMMAND else "by launch"
     source, target, (width, height) = asked.source(), asked.target(), halves(before["dstSize"])
@@ -342,7 +468,7 @@ def note(tally: Counter, before: dict[str, int], waited: bool, offset: int, word
         return
     if number != 0:
         tally["refusals", f"{number} {name} {way}"] += number >= 4
-        if number == 5 and kind in (COPY, HOST) and source and target:
+        if number == 5 and kind in (*FROM_MEMORY, HOST) and source and target:
             tally["format pairs refused", f"{name} {source.depth}-{target.depth}"] += 1
         return
     tally["taken", f"{name} {way}"] += 1
@@ -350,7 +476,7 @@ def note(tally: Counter, before: dict[str, int], waited: bool, offset: int, word
     if kind == NOP:
         return
     tally["keys", f"{name} {before['commandExtra'] & 3}"] += 1
-    place = ("mono source" if kind in (COPY, HOST) and source.depth == 1 else
+    place = ("mono source" if kind in (*FROM_MEMORY, HOST) and source.depth == 1 else
              "mono pattern" if kind == FILL and asked.flag(13) else
              "stipple" if kind in (LINE, POLYLINE) and asked.flag(12) else "no effect")
     tally["transparency", f"{name} {place}"] += asked.flag(16)
@@ -373,33 +499,44 @@ def note(tally: Counter, before: dict[str, int], waited: bool, offset: int, word
     tally["steps", "x wrapped"] += asked.flag(10) and to_x + width > 4095
     if kind == HOST:
         tally["host blits", "opened" if width * height else "zero data"] += 1
-    if kind in (COPY, HOST):
+    if kind in (*FROM_MEMORY, HOST):
         tally["format pairs", f"{name} {source.depth}-{target.depth}"] += 1
         tally["packing", f"{name} {bits(before['srcFormat'], 23, 22)}"] += 1
     if kind == COPY and count:
         apart = "between surfaces" if source != target else "one surface, apart"
         overlap = source == target and abs(across) < width and abs(down) < height
         tally["copies", f"overlap {way} bits {bits(command, 15, 14)}" if overlap else apart] += 1
+    if kind == STRETCH and count:
+        tally["stretches", "between surfaces" if source != target else "one surface"] += 1
+        for axis, size, side in zip(("columns", "rows"), (width, height), halves(before["srcSize"])):
+            change = "reduced" if side > size else "enlarged" if side < size else "as they are"
+            tally["stretches", f"{axis} {change}"] += 1
+            tally["stretches", f"{axis} from 1"] += side == 1
+            tally["stretches", f"{axis} to 1"] += size == 1
+        for edge, cut in (("left", to_x < left), ("top", to_y < top), ("right", to_x + width > right),
+                          ("bottom", to_y + height > bottom)):
+            tally["stretches", f"clipped {edge}"] += cut
 
 
 def build(k: int, tally: Counter) -> Maker:
     """Stream k, by its number alone."""
     rng = random.Random(1000 + k)
     size = TINY[k // 19 % 4] if k % 19 == 7 else rng.randint(1024, rng.choice((2048, 4096, 16384)))
-    maker, theme = Maker(k, BIG.get(k, size), tally), THEMES[k % len(THEMES)]
-    for offset in range(0x100, 0x200, 4) if theme == ("fill",) else ():
+    maker, theme = Maker(k, BIG.get(k, size), tally), THEMES[k % len(THEMES)] if k < MIXED else STRETCHES
+    for offset in range(0x100, 0x200, 4) if theme == ("fill",) or k >= MIXED and k % 4 == 0 else ():
         maker.put(offset, maker.draw(32))
     maker.scene()
     if k < SWEEPS:
         maker.sweep()
+    if MIXED <= k < MIXED + SWEEPS:
+        maker.stretch_sweep()
     length = len(maker.records) + LENGTH
     while len(maker.records) < length:
         if maker.chance(0.12):
             maker.scene()
         if maker.chance(0.1):
             maker.keys()
-        everything = ("fill", "copy", "host", "line", "wild")
-        getattr(maker, maker.pick(everything if maker.chance(0.12) else theme))()
+        getattr(maker, maker.pick(EVERYTHING if maker.chance(0.12) else theme))()
         while maker.engine.waiting is not None and maker.chance(0.95):
             maker.settle()
     return maker
