@@ -245,7 +245,7 @@ class Maker:
         return min(max(start, -4096), 4095)
 
     def cut(self, x: int, y: int, width: int, height: int) -> str:
-        """A clip: the whole target, or one that takes something off some sides of the rectangle there. Gives its name."""
+        """A clip: the whole target, or one that takes something off some sides of the rectangle. Gives its name."""
         low, high = [], []
         for at, side, most in ((x, width, self.columns), (y, height, self.rows)):
             first, past, off = 0, most, 0
