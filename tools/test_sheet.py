@@ -26,6 +26,7 @@ FILL = "68=00040005 64=00C3A5F1 70=CC000005 80=00010002 "  # 5 by 4 pixels at (2
 DOT = "68=00010001 64=FFFFFFFF 70=CC000005 "
 TO8, TO16, TO24, TO32 = "14=00010010 ", "14=00030020 ", "14=00040031 ", "14=00050040 "
 CLIP = "0C=00080008 "
+THUMB = "68=00040004 70=CC000002 "  # a stretched copy to 4 by 4 pixels
 EXAMPLE = "14=00050008 0C=00020002 68=00010001 64=00FF8000 70=CC000005 80=00010000 "
 
 NAMED = {
@@ -83,11 +84,17 @@ NAMED = {
     "a mono host blit": pairs(TO32 + CLIP + "54=00400000 68=00040008 6C=0 64=FFFFFF 60=102030 70=CC000003 80=A55A3CC3"),
     "a host blit that still waits": pairs(TO32 + CLIP + "54=00050020 68=00040008 6C=0 70=CC000003 80=112233 80=445566"),
     "answer 3": pairs(TO32 + CLIP + "54=00050020 68=00040008 70=CC000003 80=112233 64=0"),
-    "answer 4": pairs(TO32 + CLIP + "70=CC000102"),
+    "answer 4": pairs(TO32 + CLIP + "70=CC000104"),
     "answer 5": pairs("14=00020010 0C=00080008 70=CC000105"),
     "answer 6": pairs(TO32 + CLIP + "54=00150020 68=00040008 70=CC000103"),
     "answer 7": pairs(TO32 + "0C=00080FFF 68=00010020 70=CC000105"),
     "answer 8": pairs(TO32 + CLIP + "34=4 54=00050040 68=00020002 70=CC000101"),
+    "a reduced copy": pairs(TO24 + "0C=00100010 34=1000 54=00050040 10=1000 14=00050040 " + FILL + "10=0 " + TO24 + THUMB + "58=00080008 80=0"),
+    "an enlarged copy": pairs(TO16 + "0C=00100010 54=00030020 " + FILL + THUMB + "58=00020003 6C=00080000 80=00010005"),
+    "an enlarged mono copy": pairs(TO8 + "0C=00100010 54=2 34=100 60=3 64=FA 10=100 68=00010002 70=CC000105 10=0 " + THUMB + "58=0001000B 80=0"),
+    "answer 6 of a stretched copy": pairs(TO32 + CLIP + "54=00050040 58=00000001 68=00020002 70=CC000102"),
+    "answer 7 of a stretched copy": pairs(TO32 + CLIP + "34=1000 54=00050040 58=00010020 5C=9 68=00010020 70=CC000102"),
+    "answer 8 of a stretched copy": pairs(TO32 + CLIP + "54=00050040 58=00020002 68=00010001 70=CC000102"),
     "a refusal after many writes": pairs("14=00050008 " * 12345 + "78=0"),
 }
 
