@@ -14,7 +14,7 @@
 enum { MEMORY = 1 << 24, SOURCE = 1 << 23, RUNS = 7, GLYPHS = 64 };
 enum {
     clip0Max = 0x0c, dstBaseAddr = 0x10, dstFormat = 0x14, srcColorkeyMin = 0x18, srcColorkeyMax = 0x1c, dstColorkeyMin = 0x20, dstColorkeyMax = 0x24, rop = 0x30, srcBaseAddr = 0x34,
-    commandExtra = 0x38, lineStipple = 0x3c, lineStyle = 0x40, srcFormat = 0x54, srcXY = 0x5c, colorBack = 0x60, colorFore = 0x64,
+    commandExtra = 0x38, lineStipple = 0x3c, lineStyle = 0x40, srcFormat = 0x54, srcSize = 0x58, srcXY = 0x5c, colorBack = 0x60, colorFore = 0x64,
     dstSize = 0x68, dstXY = 0x6c, command = 0x70, launch = 0x80, pattern = 0x100
 };
 
@@ -156,6 +156,30 @@ static void widen_plain(void)
     sink += plain_copy_16_32(target(), (struct plain_surface){theirs + SOURCE, n * 2}, 0, 0, n, n);
 }
 
+/* A square of the source to one of the target, by command 2. */
+static void stretch_set(u32 from, u32 to)
+{
+    registers(n * bytes);
+    out(srcSize, both(from, from));
+    out(dstSize, both(to, to));
+    out(command, 0xcc000002);
+}
+static void thumbnail_set(void) { stretch_set(n, n / 8); }
+static void thumbnail_plain(void) { sink += plain_stretch(bytes, target(), source(), n / 8, n / 8, n, n); }
+
+static void enlarged_set(void) { stretch_set(n / 8, n / 2); }
+static void enlarged_plain(void) { sink += plain_stretch(bytes, target(), source(), n / 2, n / 2, n / 8, n / 8); }
+
+static void thumbnail_16_set(void)
+{
+    stretch_set(n, n / 8);
+    out(srcFormat, 5 << 16 | n * 4);
+}
+static void thumbnail_16_plain(void)
+{
+    sink += plain_stretch_32_16(target(), (struct plain_surface){theirs + SOURCE, n * 4}, n / 8, n / 8, n, n);
+}
+
 static void mono_set(void)
 {
     registers(n * bytes);
@@ -251,7 +275,7 @@ struct work {
     const char *name;
     int sizes;     /* bit 0: 64, bit 1: 1024 */
     int formats;   /* bit b: b bytes a pixel */
-    double unit;   /* pieces in one run; 0: the pixels of the square, -1: the points of both lines */
+    double unit;   /* pieces in one run, as the target's pixels of a stretched copy; 0: the pixels of the square, -1: the points of both lines */
     void (*set)(void), (*ours)(void), (*plain)(void);
     int (*pixman)(void), (*limit)(void);
 };
@@ -266,6 +290,9 @@ static const struct work works[] = {
     {"copy 66", 3, 30, 0, invert_set, launch_at_0, invert_plain, 0, 0},
     {"copy with target key", 3, 30, 0, into_key_set, launch_at_0, into_key_plain, 0, 0},
     {"copy 16 to 32", 3, 16, 0, widen_set, launch_at_0, widen_plain, 0, 0},
+    {"thumbnail 1/8 x 1/8", 2, 16, 128 * 128, thumbnail_set, launch_at_0, thumbnail_plain, 0, 0},
+    {"thumbnail 32 to 16", 2, 4, 128 * 128, thumbnail_16_set, launch_at_0, thumbnail_16_plain, 0, 0},
+    {"enlarged 4 x 4", 2, 16, 512 * 512, enlarged_set, launch_at_0, enlarged_plain, 0, 0},
     {"mono copy", 3, 30, 0, mono_set, launch_at_0, mono_plain, 0, 0},
     {"host glyph 11 x 7, mono", 1, 30, GLYPHS, glyph_set, glyph_ours, glyph_plain, 0, 0},
     {"host image", 3, 30, 0, host_set, host_ours, host_plain, 0, 0},

@@ -223,6 +223,51 @@ u32 plain_copy_16_32(struct plain_surface to, struct plain_surface from, u32 x, 
     return w * h;
 }
 
+INLINE u32 narrowed(u32 v)
+{
+    return (v >> 8 & 0xf800) | (v >> 5 & 0x07e0) | (v >> 3 & 0x001f);
+}
+
+/* Pixel i of w from pixel i * sw / w of its source row, and rows likewise, each by a running remainder. */
+INLINE u32 stretch(int bytes, int source, struct plain_surface to, struct plain_surface from, u32 w, u32 h, u32 sw, u32 sh)
+{
+    u32 right = sw / w, rest = sw % w, down = sh / h, left_over = sh % h;
+    u32 y = 0, below = 0;
+    for (u32 j = 0; j < h; j++) {
+        u8 *d = row_of(bytes, to, 0, j);
+        const u8 *s = row_of(source, from, 0, y);
+        u32 x = 0, past = 0;
+        for (u32 i = 0; i < w; i++) {
+            u32 v = get(source, s + (u64)x * source);
+            put(bytes, d + (u64)i * bytes, source == bytes ? v : narrowed(v));
+            x += right;
+            past += rest;
+            if (past >= w) {
+                past -= w;
+                x++;
+            }
+        }
+        y += down;
+        below += left_over;
+        if (below >= h) {
+            below -= h;
+            y++;
+        }
+    }
+    return w * h;
+}
+
+u32 plain_stretch(int bytes, struct plain_surface to, struct plain_surface from, u32 w, u32 h, u32 sw, u32 sh)
+{
+    BY_BYTES(stretch(1, 1, to, from, w, h, sw, sh), stretch(2, 2, to, from, w, h, sw, sh), stretch(3, 3, to, from, w, h, sw, sh),
+             stretch(4, 4, to, from, w, h, sw, sh))
+}
+
+u32 plain_stretch_32_16(struct plain_surface to, struct plain_surface from, u32 w, u32 h, u32 sw, u32 sh)
+{
+    return stretch(2, 4, to, from, w, h, sw, sh);
+}
+
 INLINE u32 copy_mono(int bytes, struct plain_surface to, struct plain_surface from, u32 x, u32 y, u32 w, u32 h, u32 fore, u32 back)
 {
     for (u32 j = 0; j < h; j++) {

@@ -42,6 +42,8 @@ u32 plain_copy_key(int bytes, struct plain_surface to, struct plain_surface from
 u32 plain_copy_xor(int bytes, struct plain_surface to, struct plain_surface from, u32 x, u32 y, u32 w, u32 h);
 u32 plain_copy_into_key(int bytes, struct plain_surface to, struct plain_surface from, u32 x, u32 y, u32 w, u32 h, u32 low, u32 high);
 u32 plain_copy_16_32(struct plain_surface to, struct plain_surface from, u32 x, u32 y, u32 w, u32 h);
+u32 plain_stretch(int bytes, struct plain_surface to, struct plain_surface from, u32 w, u32 h, u32 sw, u32 sh);
+u32 plain_stretch_32_16(struct plain_surface to, struct plain_surface from, u32 w, u32 h, u32 sw, u32 sh);
 u32 plain_copy_mono(int bytes, struct plain_surface to, struct plain_surface from, u32 x, u32 y, u32 w, u32 h, u32 fore, u32 back);
 u32 plain_line(int bytes, struct plain_surface to, int x0, int y0, int x1, int y1, int right, int bottom, struct plain_pen *pen);
 void plain_blit_open(struct plain_blit *b, int bytes, struct plain_surface to, u32 x, u32 y, u32 w, u32 h, u32 fore, u32 back);
