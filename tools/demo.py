@@ -1,4 +1,5 @@
-"""A proof sheet of three picture discs as a recorded stream of register writes, for the program that prints pictures.
+"""A proof sheet of three picture discs, with forty thumbnails of sleeves, as a recorded stream of register writes, for the
+program that prints pictures.
 
 python3 tools/demo.py docs/demo.stream    writes it: pairs of little-endian words, offset then data
 """
@@ -13,15 +14,19 @@ from model import OFFSETS
 Colour = tuple[float, float, float]  # red, green, blue, 0 to 255
 Shade = Callable[[float, float], Colour]  # a picture over the unit square, v downward
 
-WIDTH, HEIGHT, STRIDE = 208, 152, 416  # 16 bits a pixel; the five rows below are spare
-LAUNCH, PATTERN = 0x80, 0x44
-COPY, HOST, FILL, LINE = 0xCC000001, 0xCC000003, 0xCC000005, 0xCC000006
+WIDTH, HEIGHT, STRIDE = 202, 162, 404  # 16 bits a pixel; the memory has room for no row more
+SLEEVES, SLEEVE_SIDE = 20, 48  # the first row and the side of the three sleeves
+PAINTED, PAINTED_SIDE = 70, 36  # those of five more, which stand below them until the captions are drawn
+STRIP, THUMB = 108, 12  # the first row of the strip of thumbnails, and a thumbnail's side
+LAUNCH, PATTERN, COLOUR_PATTERN = 0x80, 0x44, 0x100
+COPY, STRETCH, HOST, FILL, LINE = 0xCC000001, 0xCC000002, 0xCC000003, 0xCC000005, 0xCC000006
 STEP_X, STIPPLED, MONO_PATTERN, TRANSPARENT = 1 << 10, 1 << 12, 1 << 13, 1 << 16
 PATTERN_COPY = 0xF0000000 | FILL & 0xFF
 FORMAT_16, MONO_BYTES, COLOUR_WORDS = 0x30000, 0x400000, 0xC30000
 
 INK, GOLD, CREAM, PAPER, SHADE = (30, 32, 48), (236, 190, 92), (250, 244, 228), (240, 233, 214), (206, 196, 170)
 KEY = (248, 0, 248)  # keyed out: no picture has it
+RED, BLUE, YELLOW, TEAL = (206, 58, 48), (36, 70, 150), (244, 196, 60), (40, 130, 128)
 
 LARGE = {  # 5 by 7 glyphs, a row to two digits
     "A": "0E11111F111111", "B": "1E11111E11111E", "C": "0E11101010110E", "D": "1E11111111111E", "E": "1F10101E10101F",
@@ -97,6 +102,13 @@ class Stream:
     def copy(self, x: int, y: int, width: int, height: int, to_x: int, to_y: int) -> None:
         self.set(srcFormat=FORMAT_16 | STRIDE, dstSize=height << 16 | width, dstXY=to_y << 16 | to_x)
         self.launch(COPY, y << 16 | x)
+
+    def stretch(self, x: int, y: int, size: tuple[int, int], to_x: int, to_y: int, to_size: tuple[int, int],
+                command: int = STRETCH) -> None:
+        """A rectangle of the sheet, reduced or enlarged to another size."""
+        self.set(srcFormat=FORMAT_16 | STRIDE, srcSize=size[1] << 16 | size[0], dstSize=to_size[1] << 16 | to_size[0],
+                 dstXY=to_y << 16 | to_x)
+        self.launch(command, y << 16 | x)
 
     def image(self, x: int, y: int, rows: list[list[int]]) -> None:
         """A host blit of 16 bit pixels, rows packed to whole words."""
@@ -253,31 +265,129 @@ def wave(sheet: Stream, x: int, y: int, width: int, height: int, title: str, col
             sheet.line(x + i, middle - reach, x + i, middle + reach, tint)
 
 
-def sleeve(sheet: Stream, x: int, title: str, side: str, shade: Shade, colour: Colour) -> None:
-    """A sleeve with its disc showing at the right, its captions, and its waveform below."""
-    y, size, out = 27, 48, 10
+def sleeve(sheet: Stream, x: int, shade: Shade) -> None:
+    """A sleeve with its disc showing at the right."""
+    out = 10
     sheet.keyed(KEY)
-    sheet.image(x + size, y + 2, disc(shade, 44, range(44 - out, 44)))
+    sheet.image(x + SLEEVE_SIDE, SLEEVES + 2, disc(shade, 44, range(44 - out, 44)))
     sheet.keyed(None)
-    sheet.fill(x + 1, y + size, size, 1, SHADE)
-    sheet.image(x, y, drawn(shade, size, range(size)))
-    sheet.text(x, y + 53, title, INK)
-    sheet.text(x, y + 63, side, mix(INK, PAPER, 0.35), SMALL)
-    wave(sheet, x, y + 71, 58, 32, title, colour)
+    sheet.fill(x + 1, SLEEVES + SLEEVE_SIDE, SLEEVE_SIDE, 1, SHADE)
+    sheet.image(x, SLEEVES, drawn(shade, SLEEVE_SIDE, range(SLEEVE_SIDE)))
+
+
+def captions(sheet: Stream, x: int, title: str, side: str, colour: Colour) -> None:
+    """What stands below a sleeve: its captions and its waveform."""
+    sheet.text(x, 71, title, INK)
+    sheet.text(x, 80, side, mix(INK, PAPER, 0.35), SMALL)
+    wave(sheet, x, 87, 58, 18, title, colour)
 
 
 def marks(sheet: Stream) -> None:
-    """A register mark, drawn once below the sheet, copied to the corners without its ground."""
-    sheet.clip(0, 0, WIDTH, HEIGHT + 5)
-    sheet.fill(0, HEIGHT, 5, 5, KEY)
-    sheet.line(2, HEIGHT, 2, HEIGHT + 4, GOLD)
-    sheet.line(0, HEIGHT + 2, 4, HEIGHT + 2, GOLD)
-    sheet.fill(2, HEIGHT + 2, 1, 1, CREAM)
+    """A register mark, drawn once where the paper will be, copied to the corners without its ground."""
+    x, y = WIDTH // 2, HEIGHT // 2
+    sheet.fill(x, y, 5, 5, KEY)
+    sheet.line(x + 2, y, x + 2, y + 4, GOLD)
+    sheet.line(x, y + 2, x + 4, y + 2, GOLD)
+    sheet.fill(x + 2, y + 2, 1, 1, CREAM)
     sheet.keyed(KEY)
-    for x in (1, WIDTH - 6):
-        for y in (1, HEIGHT - 6):
-            sheet.copy(0, HEIGHT, 5, 5, x, y)
+    for to_x in (0, WIDTH - 5):
+        for to_y in (0, HEIGHT - 5):
+            sheet.copy(x, y, 5, 5, to_x, to_y)
     sheet.keyed(None)
+
+
+# --- forty thumbnails ---
+
+def round_fill(sheet: Stream, x: int, y: int, size: int, radius: float, colour: Colour) -> None:
+    """A disc in the middle of a square, row by row."""
+    for row in range(size):
+        away = abs(row + 0.5 - size / 2)
+        half = round(math.sqrt(radius * radius - away * away)) if away < radius else 0
+        if half:
+            sheet.fill(x + size // 2 - half, y + row, 2 * half, 1, colour)
+
+
+def record(sheet: Stream, x: int, y: int, size: int) -> None:
+    """A record without a sleeve, on the key's colour."""
+    sheet.fill(x, y, size, size, KEY)
+    for radius, colour in ((18, (40, 40, 52)), (14, (78, 78, 96)), (12, (40, 40, 52)), (7, RED), (2, CREAM)):
+        round_fill(sheet, x, y, size, radius, colour)
+
+
+def sunburst(sheet: Stream, x: int, y: int, size: int) -> None:
+    """Rays from the middle of the lower edge, and a sun."""
+    sheet.fill(x, y, size, size, YELLOW)
+    ends = [(0, row) for row in range(size - 1, -1, -1)] + [(column, 0) for column in range(1, size)]
+    ends += [(size - 1, row) for row in range(1, size)]
+    for number, (column, row) in enumerate(ends):
+        if number // 9 % 2:
+            sheet.line(x + size // 2, y + size - 1, x + column, y + row, RED)
+    for row in range(12):
+        half = round(math.sqrt(12 * 12 - row * row))
+        sheet.fill(x + size // 2 - half, y + size - 1 - row, 2 * half, 1, CREAM)
+
+
+def blocks(sheet: Stream, x: int, y: int, size: int) -> None:
+    """Fields of colour between bars."""
+    sheet.fill(x, y, size, size, CREAM)
+    for left, top, width, height, colour in ((12, 0, 24, 21, RED), (0, 24, 9, 12, BLUE), (27, 30, 9, 6, YELLOW),
+                                             (9, 0, 3, 36, INK), (0, 21, 36, 3, INK), (0, 9, 9, 3, INK),
+                                             (24, 24, 3, 12, INK), (27, 27, 9, 3, INK)):
+        sheet.fill(x + left, y + top, width, height, colour)
+
+
+def letter(sheet: Stream, x: int, y: int, size: int) -> None:
+    """A glyph enlarged four times, without its ground, over a hatch."""
+    sheet.hatch(x, y, size, size, bytes.fromhex("F0F0F0F00F0F0F0F"), (30, 92, 98), TEAL)
+    sheet.fill(x, STRIP, 6, 7, KEY)
+    sheet.text(x, STRIP, "R", CREAM)
+    sheet.keyed(KEY)
+    sheet.stretch(x, STRIP, (5, 7), x + 8, y + 4, (20, 28))
+    sheet.keyed(None)
+
+
+def tiles(sheet: Stream, x: int, y: int, size: int) -> None:
+    """A tile, copied to the eight other places."""
+    third = size // 3
+    sheet.fill(x, y, third, third, BLUE)
+    for row in range(third):
+        sheet.fill(x, y + row, third - row, 1, (120, 176, 216))
+    sheet.fill(x + 3, y + 3, 6, 6, GOLD)
+    for number in range(1, 9):
+        sheet.copy(x, y, third, third, x + number % 3 * third, y + number // 3 * third)
+
+
+PRINTS = [  # whole; source and pattern, twice; source or pattern; negative
+    (STRETCH, None), (0xC0000002, (255, 255, 0)), (0xC0000002, (0, 255, 255)), (0xFC000002, (255, 0, 0)), (0x33000002, None),
+]
+
+
+def thumbnails(sheet: Stream, columns: tuple[int, ...]) -> None:
+    """A sheet of eight large sleeves, three at the columns and five painted below them, each reduced in five prints. What
+    has the key's colour shows the strip's ground."""
+    sources = [(x, SLEEVES, SLEEVE_SIDE) for x in columns]
+    for number, paint in enumerate((record, sunburst, blocks, letter, tiles)):
+        x = columns[0] + number * (PAINTED_SIDE + 2)
+        paint(sheet, x, PAINTED, PAINTED_SIDE)
+        sources.append((x, PAINTED, PAINTED_SIDE))
+    sheet.fill(columns[0], STRIP, 186, 3 * (THUMB + 1) + 1, INK)
+    places = [(columns[0] + 3 + slot % 14 * (THUMB + 1), STRIP + 1 + slot // 14 * (THUMB + 1)) for slot in range(2, 42)]
+    sheet.keyed(KEY)
+    for first, (command, ink) in enumerate(PRINTS):
+        for at in range(0, 128, 4) if ink else ():
+            sheet.put(COLOUR_PATTERN + at, word16(ink) * 0x10001)
+        for number in range(first, 40, len(PRINTS)):
+            x, y, side = sources[number % len(sources)]
+            sheet.stretch(x, y, (side, side), *places[number], (THUMB, THUMB), command)
+    sheet.keyed(None)
+
+
+def count(sheet: Stream, x: int, y: int) -> None:
+    """The strip's own caption, its number enlarged twice from a small one that is painted over later."""
+    sheet.fill(x, PAINTED, 8, 5, INK)
+    sheet.text(x, PAINTED, "40", GOLD, SMALL)
+    sheet.stretch(x, PAINTED, (7, 5), x, y, (14, 10))
+    sheet.text(x + 16, y + 5, "UP", CREAM, SMALL)
 
 
 def colour_bar(sheet: Stream, x: int, y: int, to_x: int) -> None:
@@ -293,21 +403,26 @@ def proof_sheet() -> Stream:
     sheet.set(dstBaseAddr=0, srcBaseAddr=0, dstFormat=FORMAT_16 | STRIDE)
     sheet.clip(0, 0, WIDTH, HEIGHT)
     sheet.hatch(0, 0, WIDTH, HEIGHT, bytes.fromhex("8800220088002200"), (58, 62, 84), (24, 26, 38))
-    sheet.fill(10, 10, 192, 136, (8, 8, 14))
-    sheet.fill(8, 8, 192, 136, PAPER)
-    sheet.fill(8, 8, 192, 13, INK)
-    sheet.text(14, 11, "RIMEBARROW", GOLD)
-    sheet.text(112, 12, "PICTURE DISCS - PROOF", CREAM, SMALL)
-    sleeve(sheet, 11, "FOX FIRE", "SIDE A 3:42", fox, (240, 128, 48))
-    sleeve(sheet, 75, "NORTH RIM", "SIDE A 5:07", mountain, (214, 96, 150))
-    sleeve(sheet, 139, "SLOW WAX", "SIDE B 4:18", rings, (60, 170, 176))
-    for x in (72, 136):
-        sheet.dashes(x, 22, x, 132, (170, 40, 40))
-    sheet.dashes(9, 133, 198, 133, (170, 40, 40))
-    colour_bar(sheet, 11, 136, 155)
-    sheet.text(68, 137, "CUT ALONG THE DASHES", INK, SMALL)
     marks(sheet)
-    sheet.clip(0, 0, WIDTH, HEIGHT)
+    sheet.fill(8, 8, 190, 150, (8, 8, 14))
+    sheet.fill(6, 6, 190, 150, PAPER)
+    sheet.fill(6, 6, 190, 12, INK)
+    sheet.text(11, 8, "RIMEBARROW", GOLD)
+    sheet.text(109, 9, "PICTURE DISCS - PROOF", CREAM, SMALL)
+    columns = (8, 72, 136)
+    for x, shade in zip(columns, (fox, mountain, rings)):
+        sleeve(sheet, x, shade)
+    thumbnails(sheet, columns)
+    count(sheet, columns[0] + 3, STRIP + 2)
+    sheet.fill(6, PAINTED, 190, PAINTED_SIDE + 2, PAPER)
+    captions(sheet, columns[0], "FOX FIRE", "SIDE A 3:42", (240, 128, 48))
+    captions(sheet, columns[1], "NORTH RIM", "SIDE A 5:07", (214, 96, 150))
+    captions(sheet, columns[2], "SLOW WAX", "SIDE B 4:18", (60, 170, 176))
+    for x in (69, 133):
+        sheet.dashes(x, 19, x, 105, (170, 40, 40))
+    sheet.dashes(7, 106, 194, 106, (170, 40, 40))
+    colour_bar(sheet, 8, 149, 152)
+    sheet.text(61, 150, "CUT ALONG THE DASHES", INK, SMALL)
     return sheet
 
 
