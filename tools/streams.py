@@ -424,7 +424,7 @@ class Maker:
             self.launch(xy(x, y))
 
     def stretch_sweep(self) -> None:
-        """All small widths and heights against each other, sizes of 0, and tiled surfaces."""
+        """All small widths and heights against each other, sizes of 0, and which of two refusals comes first."""
         while self.columns < 8 or self.rows < 8 or self.parts[1][1] - self.parts[1][0] < 80 * self.depth // 8:
             self.scene()
         self.set(clip0Min=0, clip0Max=xy(self.columns, self.rows), commandExtra=0, dstXY=0,
@@ -437,11 +437,17 @@ class Maker:
         for side, size in itertools.product(((0, 0), (0, 2), (2, 0), (2, 2)), repeat=2):
             self.set(srcSize=xy(*side), dstSize=xy(*size))
             self.launch(0)
-        for name in ("dstBaseAddr", "srcBaseAddr"):
-            base = self.engine.registers[name]
-            self.set(**{name: base | 1 << 31})
-            self.launch(0)
-            self.set(**{name: base})
+        usual = dict(dstXY=0, clip0Max=xy(self.columns, self.rows), srcBaseAddr=self.parts[1][0], dstBaseAddr=self.base)
+        for side, size in itertools.product(((0, 2), (2, 2)), ((2, 2), (0, 2))):
+            self.set(srcSize=xy(*side), dstSize=xy(*size))
+            for fault in (dict(srcBaseAddr=1 << 31), dict(dstBaseAddr=1 << 31), dict(clip0Max=0),
+                          dict(clip0Max=0x0FFF0FFF, dstXY=xy(self.columns - 1, 0))):
+                self.set(**fault)
+                self.launch(0)
+                self.set(**{name: usual[name] for name in fault})
+        self.set(srcBaseAddr=self.base, srcFormat=FORMAT[self.depth] << 16 | self.stride, dstSize=xy(2, 2))
+        for x in (self.columns - 1, self.columns - 2):
+            self.launch(xy(x, 0))
 
 
 def note(tally: Counter, before: dict[str, int], waited: bool, offset: int, word: int, answer: tuple[int, int],
