@@ -411,8 +411,9 @@ class Maker:
         for target, number in itertools.product(range(8), (FILL, LINE, POLYLINE)):
             self.set(dstFormat=target << 16 | self.stride)
             self.put(COMMAND, 0xCC000100 | number)
+            self.put(COMMAND, 0xCC000000 | number)
             self.launch(0)
-        self.set(srcXY=0, dstFormat=FORMAT[self.depth] << 16 | self.stride)
+        self.set(dstFormat=FORMAT[self.depth] << 16 | self.stride)
         for packing, (width, height) in itertools.product(range(4), ((0, 0), (0, 3), (3, 0))):
             self.set(srcFormat=packing << 22 | 5, dstSize=xy(width, height))
             self.put(COMMAND, self.word(HOST, 0) | 0xD00)
