@@ -14,9 +14,9 @@
      3  a host blit waits, and the write is neither launch data nor to command
      4  the command is not built
      5  a surface is tiled or has a format that is not listed, or the conversion is not allowed
-     6  a host blit whose registers do not fit
+     6  a host blit whose registers do not fit, or a stretch copy of a source without pixels
      7  a pixel is off its surface
-     8  a screen copy between two surfaces whose spans meet
+     8  a screen copy between two surfaces whose spans meet, or a stretch copy whose spans meet
    and one more, of these functions alone:
    255  the state has another length than RIMEBARROW_STATE_SIZE, or rimebarrow_open did not make it
    Whatever is answered with a number other than 0 has changed nothing. */

@@ -28,9 +28,9 @@ ANSWERS = {
     4: "the command is not built",
     5: "a surface it uses is tiled or has a format that is not listed, or the conversion is not allowed",
     6: "host blit: swizzle bits, direction bits or srcXY not 0, or a stride below the row's bytes; "
-       "stretched copy: a source width or height of 0",
+       "stretch copy: a source of no width or no height, and a target that has both",
     7: "a covered pixel, or a source pixel that it needs, is off its surface",
-    8: "a screen copy between different surfaces, or a stretched one, whose spans meet",
+    8: "a screen copy between different surfaces, or a stretch copy, whose spans meet",
 }
 
 
