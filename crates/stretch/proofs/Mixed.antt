@@ -4,19 +4,18 @@ use mathlib.Core.Path.{_≡_, refl, sym, ap, ap₂, _∙_}
 use mathlib.Core.Bool.{true, cond}
 use mathlib.Core.List.{List}
 use mathlib.Core.Option.{none, some}
-use Prim.Native.Nat.{ℕ, _+_, _-_, _/_, _%_, _^_}
-use lib.ListN.{getD}
+use Prim.Native.Nat.{ℕ, _-_, _/_, _%_, _^_}
 use Rattle.surface.specs.Place.{readPx}
 use Rattle.surface.specs.Pixels.{Px, px}
 use Rattle.paint.specs.declared.Source.{Source}
 use Rattle.paint.specs.Mix.{patternless}
 use Rattle.ink.specs.Pattern.{patternColumn, patternRow, RowOf}
 use Rattle.plan.specs.Plan.{MasksOf, QuadsFrom, quadAt, mergedAt}
-use Rattle.sweep.specs.Copy.{sourceBy, giving}
+use Rattle.sweep.specs.Copy.{sourceBy}
 use Rattle.sweep.specs.Row.{rowGiving}
 use Rattle.sweep.proofs.TaskLaws.{by-row, by-no-row, pixel-given}
 use Rattle.scale.specs.declared.Stretch.{Stretch}
-use Rattle.scale.specs.Stretch.{takenAt, taken, pixelTask, stretchGiving}
+use Rattle.scale.specs.Stretch.{taken, pixelTask, stretchGiving}
 use Rattle.stretch.specs.Row.{sourceFrom}
 use Rattle.stretch.proofs.Order.{own-place}
 

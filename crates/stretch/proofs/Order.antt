@@ -7,7 +7,7 @@ use Prim.Native.Nat.{ℕ, _+_, _-_, _<_}
 use native.Mathlib.Omega.{arith}
 use borrow.Author.Tests.{lt-ltb}
 use Rattle.surface.specs.Pixels.{Px, px, rect}
-use Rattle.surface.proofs.Lists.{In, Pairs, pairs-all}
+use Rattle.surface.proofs.Lists.{In, pairs-all}
 use Rattle.surface.proofs.Rects.{same-px, in-rect}
 use Rattle.spans.specs.Span.{spanOf}
 use Rattle.spans.proofs.Spans.{IsByte, span-holds}
@@ -20,7 +20,7 @@ use Rattle.straight.specs.Straight.{straightGiving}
 use Rattle.rect.proofs.Order.{giving-local}
 use Rattle.rect.proofs.Straight.{straight-gives}
 use Rattle.scale.specs.declared.Stretch.{Stretch}
-use Rattle.scale.specs.Stretch.{takenAt, taken, pixelTask, stretchGiving, stretched, stretchedInTurn, CanStretch}
+use Rattle.scale.specs.Stretch.{taken, pixelTask, stretchGiving, stretched, stretchedInTurn, CanStretch}
 use Rattle.stretch.specs.Row.{openTask, straightly}
 
 -- the copy of one pixel takes its source from the place that the stretch says

@@ -18,7 +18,7 @@ use Rattle.scale.specs.declared.Walk.{Walk}
 use Rattle.scale.specs.Scale.{scaled, walkAt, Next, OnScale, Steps}
 use Rattle.scale.specs.Stretch.{takenAt, CanStretch}
 use Rattle.scale.proofs.ScaleLaws.{walk-steps}
-use Rattle.stretch.specs.Row.{TakesFrom, RowTakes, Begins}
+use Rattle.stretch.specs.Row.{TakesFrom, RowTakes}
 
 -- a place between two
 pub on-between : {s : Scale} {a b : ℕ} → OnScale s a → OnScale s b → (c : ℕ) → a ≤ c → c ≤ b → OnScale s c

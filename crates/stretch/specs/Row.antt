@@ -6,7 +6,7 @@ use mathlib.Core.List.{List, map}
 use Prim.Native.Nat.{ℕ, _+_, _-_, _^_, _<_, _≤_}
 use lib.Dec.{eqb}
 use Rattle.surface.specs.Place.{byteOf, readPx, monoBit, onSurface, Small, Colour, OnColour}
-use Rattle.surface.specs.Pixels.{Px, px, across}
+use Rattle.surface.specs.Pixels.{Px, across}
 use Rattle.paint.specs.declared.Source.{Source}
 use Rattle.paint.specs.Clip.{origin}
 use Rattle.paint.specs.Paint.{Touch, touch, state, paint}
