@@ -11,27 +11,26 @@ use Rattle.paint.specs.declared.Source.{Source}
 use Rattle.paint.specs.Mix.{patternless}
 use Rattle.ink.specs.Pattern.{patternColumn, patternRow, RowOf}
 use Rattle.plan.specs.Plan.{MasksOf, QuadsFrom, quadAt, mergedAt}
-use Rattle.sweep.specs.Copy.{sourceBy}
+use Rattle.sweep.specs.Copy.{sourceFrom, sourceBy}
 use Rattle.sweep.specs.Row.{rowGiving}
 use Rattle.sweep.proofs.TaskLaws.{by-row, by-no-row, pixel-given}
 use Rattle.scale.specs.declared.Stretch.{Stretch}
 use Rattle.scale.specs.Stretch.{taken, pixelTask, stretchGiving}
-use Rattle.stretch.specs.Row.{sourceFrom}
 use Rattle.stretch.proofs.Order.{own-place}
 
 -- the source of the copy of one pixel
-source-taken : (t : Stretch) (bit : ℕ) (m : List ℕ) (p : Px) → sourceFrom t m (taken t p) ≡ sourceBy (pixelTask t p) bit m p
+source-taken : (t : Stretch) (bit : ℕ) (m : List ℕ) (p : Px) → sourceFrom (t .ink) (t .from) m (taken t p) ≡ sourceBy (pixelTask t p) bit m p
 unfolding sourceBy pixelTask
-source-taken t bit m p = ap (λ (q : Px). sourceFrom t m q) (sym (own-place t p))
+source-taken t bit m p = ap (λ (q : Px). sourceFrom (t .ink) (t .from) m q) (sym (own-place t p))
 
 -- what a pixel is given, by the steps of the code
 pub taken-given : (t : Stretch) (quads now : List ℕ) (x y : ℕ) {sx sy column old k v : ℕ} {s : Source} → sx ≡ taken t (px x y) .x → sy ≡ taken t (px x y) .y
-    → s ≡ sourceFrom t now (px sx sy) → old ≡ readPx now (t .ink .target) x y → column ≡ patternColumn (t .ink) x → k ≡ quadAt (t .ink) (s .key) old column
+    → s ≡ sourceFrom (t .ink) (t .from) now (px sx sy) → old ≡ readPx now (t .ink .target) x y → column ≡ patternColumn (t .ink) x → k ≡ quadAt (t .ink) (s .key) old column
     → v ≡ mergedAt quads k (s .value) old → cond (s .left) none (some v) ≡ rowGiving (pixelTask t (px x y)) quads 0 now (px x y)
 unfolding pixelTask
 taken-given t quads now x y {sx} {sy} {column} {s = made} e f s o c k v =
     let bit = 0 / 2 ^ (7 - column) % 2 in
-    let here : made ≡ sourceBy (pixelTask t (px x y)) bit now (px x y) = s ∙ ap₂ (λ (i j : ℕ). sourceFrom t now (px i j)) e f ∙ source-taken t bit now (px x y) in
+    let here : made ≡ sourceBy (pixelTask t (px x y)) bit now (px x y) = s ∙ ap₂ (λ (i j : ℕ). sourceFrom (t .ink) (t .from) now (px i j)) e f ∙ source-taken t bit now (px x y) in
     pixel-given (pixelTask t (px x y)) quads now 0 x y c refl here o k v
 
 -- the values of the pattern's row give what the pattern does, and any values where no raster operation looks at it

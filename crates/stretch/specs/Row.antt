@@ -1,16 +1,13 @@
 -- A row of a stretch: what its pixels are given, and what the functions that paint it ask for.
 -- Assumes nothing.
 use mathlib.Core.Path.{_≡_}
-use mathlib.Core.Bool.{true, false, cond}
+use mathlib.Core.Bool.{true, false}
 use mathlib.Core.List.{List, map}
 use Prim.Native.Nat.{ℕ, _+_, _-_, _^_, _<_, _≤_}
-use lib.Dec.{eqb}
-use Rattle.surface.specs.Place.{byteOf, readPx, monoBit, onSurface, Small, Colour, OnColour}
+use Rattle.surface.specs.Place.{byteOf, onSurface, Small, Colour, OnColour}
 use Rattle.surface.specs.Pixels.{Px, across}
-use Rattle.paint.specs.declared.Source.{Source}
 use Rattle.paint.specs.Clip.{origin}
 use Rattle.paint.specs.Paint.{Touch, touch, state, paint}
-use Rattle.paint.specs.Mix.{bitSource, colourSource}
 use Rattle.sweep.specs.declared.Task.{Task}
 use Rattle.sweep.specs.Row.{rowGiving}
 use Rattle.scale.specs.declared.Stretch.{Stretch}
@@ -23,11 +20,6 @@ use Rattle.rect.specs.Fast.{straightOf}
 -- the copy of a pixel, with its places left open
 abbrev pub openTask : Stretch → Task
 openTask t = record { ink = t .ink; copies = true; from = t .from; sx = 0; sy = 0; x = 0; y = 0 }
-
--- the source at pixel q of its surface
-abbrev pub sourceFrom : Stretch → List ℕ → Px → Source
-sourceFrom t m q =
-    cond (eqb (t .from .bytes) 0) (bitSource (t .ink) (monoBit m (t .from) (q .x) (q .y))) (colourSource (t .ink) (t .from .bytes) (readPx m (t .from) (q .x) (q .y)))
 
 -- what pixels are given by the values of the pattern's row
 abbrev pub rowTouch : Stretch → List ℕ → Px → Touch

@@ -10,11 +10,12 @@ ghost use Prim.Native.Nat.{_+_, _≤_, _<_};
 ghost use lib.ListN.{length};
 ghost use Rattle.surface.specs.Pixels.{px, across, rect};
 ghost use Rattle.paint.specs.Paint.{state, paint};
+ghost use Rattle.sweep.specs.Copy.{sourceFrom};
 ghost use Rattle.sweep.specs.Row.{SourceKey, TargetKey, Laid};
 ghost use Rattle.scale.specs.Stretch.{stretched, stretchedInTurn, CanStretch};
 ghost use Rattle.straight.specs.Straight.{copied, PixelCopies};
 ghost use Rattle.rect.specs.Fast.{straightOf};
-ghost use Rattle.stretch.specs.Row.{openTask, sourceFrom, inRow, straightly, rowOf, RowTakes, ColumnsAt, RunAt, OnSource, Begins, RowTaken};
+ghost use Rattle.stretch.specs.Row.{openTask, inRow, straightly, rowOf, RowTakes, ColumnsAt, RunAt, OnSource, Begins, RowTaken};
 
 // The copy of a pixel, with its places left open.
 fn task_of(t: Stretch) -> Task
@@ -138,7 +139,7 @@ fn straight_rows(
 // The source at (sx, sy); `range` is that of the source key.
 fn source_at(mem: &[u8], t: Stretch, range: Range, sx: u32, sy: u32) -> Source
     requires { ⌜ OnSource t sx sy (length (now mem)) × SourceKey (openTask t) range ⌝ }
-    ensures { λ r. ⌜ r ≡ sourceFrom t (now (mem .entry)) (px sx sy) ⌝ }
+    ensures { λ r. ⌜ r ≡ sourceFrom (t .ink) (t .from) (now (mem .entry)) (px sx sy) ⌝ }
 {
     let ink = t.ink;
     let from = t.from;

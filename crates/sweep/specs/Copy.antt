@@ -10,6 +10,8 @@ use lib.Dec.{eqb, ltb}
 use Rattle.surface.specs.Place.{readPx, monoBit, onSurface, Small, Colour, OnColour}
 use Rattle.surface.specs.Pixels.{Px, px, rect}
 use Rattle.spans.specs.Span.{allOn, spanOf, meet}
+use Rattle.surface.specs.declared.Surface.{Surface}
+use Rattle.ink.specs.declared.Ink.{Ink}
 use Rattle.paint.specs.declared.Source.{Source}
 use Rattle.sweep.specs.declared.Task.{Task}
 use Rattle.paint.specs.Paint.{Touch, touch}
@@ -20,14 +22,13 @@ use Rattle.ink.specs.Pattern.{patternColumn, patternRow, patternBit, patternVal
 unfoldable pub sourcePlace : Task → Px → Px
 sourcePlace t p = px (t .sx + (p .x - t .x)) (t .sy + (p .y - t .y))
 
--- its source, read in the memory m: a mono bit, a colour pixel, or the fill's, for which `bit` is the pattern's
+-- the source that pixel q of a surface makes, read in the memory m: a mono bit or a colour pixel
+abbrev pub sourceFrom : Ink → Surface → List ℕ → Px → Source
+sourceFrom ink from m q = cond (eqb (from .bytes) 0) (bitSource ink (monoBit m from (q .x) (q .y))) (colourSource ink (from .bytes) (readPx m from (q .x) (q .y)))
+
+-- a pixel's source: that of its source pixel, or the fill's, for which `bit` is the pattern's
 unfoldable pub sourceBy : Task → ℕ → List ℕ → Px → Source
-sourceBy t bit m p =
-    cond (t .copies)
-    (cond (eqb (t .from .bytes) 0)
-    (bitSource (t .ink) (monoBit m (t .from) (sourcePlace t p .x) (sourcePlace t p .y)))
-    (colourSource (t .ink) (t .from .bytes) (readPx m (t .from) (sourcePlace t p .x) (sourcePlace t p .y))))
-    (fillSource (t .ink) bit)
+sourceBy t bit m p = cond (t .copies) (sourceFrom (t .ink) (t .from) m (sourcePlace t p)) (fillSource (t .ink) bit)
 
 -- what pixel p is given, its source read in the memory m, and the pixel itself in the memory now
 unfoldable pub giving : Task → List ℕ → List ℕ → List ℕ → Px → Option ℕ
