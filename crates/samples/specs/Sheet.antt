@@ -34,8 +34,8 @@ monoPixels word =
     ones 32 0 (word % 256 ∷ word / 256 % 256 ∷ word / 65536 % 256 ∷ word / 16777216 ∷ [])
 
 -- so many columns of a source stretched to so many of a target, both from column 0 on
-abbrev pub stretching : ℕ → ℕ → Scale
-stretching sourceSize size = record { to = 0; size = size; from = 0; sourceSize = sourceSize }
+abbrev pub columnsTo : ℕ → ℕ → Scale
+columnsTo sourceSize size = record { to = 0; size = size; from = 0; sourceSize = sourceSize }
 
 abbrev pub sheet : List Line
 sheet =
@@ -61,6 +61,6 @@ sheet =
     -- 24 bpp, stride 7: x = 1 taken, x = 2 refused 7
     ∷ is (map (λ x. viewAnswer 65536 0 0x40007 x 0 1) (1 ∷ 2 ∷ [])) (0 ∷ 7 ∷ [])
     -- request One, a stretch of 4 to 2 columns takes 0, 2; of 3 to 5 it takes 0, 0, 1, 1, 2
-    ∷ is (map (scaled (stretching 4 2)) (0 ∷ 1 ∷ [])) (0 ∷ 2 ∷ [])
-    ∷ is (map (scaled (stretching 3 5)) (0 ∷ 1 ∷ 2 ∷ 3 ∷ 4 ∷ [])) (0 ∷ 0 ∷ 1 ∷ 1 ∷ 2 ∷ [])
+    ∷ is (map (scaled (columnsTo 4 2)) (0 ∷ 1 ∷ [])) (0 ∷ 2 ∷ [])
+    ∷ is (map (scaled (columnsTo 3 5)) (0 ∷ 1 ∷ 2 ∷ 3 ∷ 4 ∷ [])) (0 ∷ 0 ∷ 1 ∷ 1 ∷ 2 ∷ [])
     ∷ []
