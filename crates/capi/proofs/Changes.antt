@@ -24,7 +24,8 @@ use Rattle.table.specs.Table.{fillVerdict, copyVerdict, stretchVerdict, hostVer
 use Rattle.acts.specs.declared.Blit.{Blit}
 use Rattle.acts.specs.Deed.{rectEnded, lineEnded, Made, Deed, carrying, starting}
 use Rattle.engine.specs.declared.Engine.{Engine}
-use Rattle.engine.specs.Step.{Step, making, judging, regs, withBlit, idle, storedIn, afterRect, afterLine, filled, copied, stretched, lined, begun, fed, carried, launched, commanded, toRegister, toPlace, written}
+use Rattle.engine.specs.Step.{Step, making, judging, regs, withBlit, idle, storedIn, carried, launched, commanded, toRegister, toPlace, written}
+use Rattle.engine.proofs.Short.{afterRect, afterLine, filled, copied, stretched, lined, begun, fed}
 use Rattle.acts.proofs.Cases.{by-test, picked, by-number}
 use Rattle.state.specs.Layout.{slot, byteIn, encoded, withSlots, commandSlots}
 use Rattle.capi.specs.Calls.{Draws}

@@ -43,9 +43,10 @@ use Rattle.table.proofs.Verdicts.{fill-can, copy-can, line-can, host-can}
 use Rattle.engine.specs.declared.Engine.{Engine}
 use Rattle.engine.specs.declared.Answer.the-variants.{Taken, Memory, Waiting, NotBuilt}
 use Rattle.acts.specs.Deed.{noBlit, rectEnded, Made, made, paintedBy, idling, unbuilt, filling, copying, stretching, lining, opening, feeding, carrying, starting, byNumber}
-use Rattle.engine.specs.Step.{Step, step, done, making, judging, numberOf, countOf, refusal, regs, idle, withBank, storedIn, afterRect, afterLine, filled, copied, stretched, lined, begun, fed, carried, launched, commanded, toRegister, toPattern, toPlace, written}
-use Rattle.engine.specs.Orders.{fillTouches, copyTouches, stretchTouches, drawTouches, wordTouches, launching, orderAt, order, coveredBy, carriedTouches, launchedTouches, touchesAt, touchesOf}
+use Rattle.engine.specs.Step.{Step, step, done, making, judging, numberOf, countOf, refusal, regs, idle, withBank, storedIn, carried, launched, commanded, toRegister, toPattern, toPlace, written}
+use Rattle.engine.specs.Orders.{launching, orderAt, order, coveredBy, carriedTouches, launchedTouches, touchesAt, touchesOf}
 use Rattle.engine.specs.Promises.{row1, row2, row3, row4, row5, row6, row7, row8, ordered}
+use Rattle.engine.proofs.Short.{afterRect, afterLine, filled, copied, stretched, lined, begun, fed, fillTouches, copyTouches, stretchTouches, drawTouches, wordTouches}
 use Rattle.acts.proofs.Cases.{by-test, picked, Unbuilt, pick, by-tests}
 
 -- ---- the first of the rows from number k on

@@ -23,8 +23,9 @@ use Rattle.command.specs.Decode.{target, copyTask, fillTask, feedOf}
 use Rattle.cuts.specs.Cut.{bit, number, covered, copyCut, fillCut}
 use Rattle.engine.specs.declared.Engine.{Engine}
 use Rattle.engine.specs.Step.{Step, regs, storedIn, written}
-use Rattle.engine.specs.Orders.{copyTouches, stretchTouches, fillTouches, drawTouches, wordTouches, launching, orderAt, order, carriedTouches, launchedTouches, touchesAt, touchesOf, coveredBy}
+use Rattle.engine.specs.Orders.{launching, orderAt, order, carriedTouches, launchedTouches, touchesAt, touchesOf, coveredBy}
 use Rattle.engine.specs.Promises.{given, wrote, Paints, CountsWritten, TouchesCovered, WordCovered}
+use Rattle.engine.proofs.Short.{copyTouches, stretchTouches, fillTouches, drawTouches, wordTouches}
 use Rattle.acts.proofs.Cases.{by-test, pick, by-tests, by-number}
 use Rattle.engine.proofs.Orders.{the-same, nothing-ordered}
 use Rattle.engine.proofs.Commands.{PaintingOf, covered-none, covered-copy, covered-stretch, covered-fill, covered-line, covered-other, rect-pixels, stretch-pixels, line-pixels, write-written}

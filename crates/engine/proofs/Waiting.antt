@@ -22,9 +22,10 @@ use Rattle.table.specs.Table.{fillVerdict, copyVerdict, stretchVerdict, hostVer
 use Rattle.acts.specs.declared.Blit.{Blit}
 use Rattle.acts.specs.Deed.{noBlit, Made, Deed, carrying, starting}
 use Rattle.engine.specs.declared.Engine.{Engine}
-use Rattle.engine.specs.Step.{Step, making, judging, freshEngine, withBank, withBlit, afterRect, afterLine, regs, idle, storedIn, filled, copied, stretched, lined, begun, fed, carried, launched, commanded, toRegister, toPattern, toPlace, written}
+use Rattle.engine.specs.Step.{Step, making, judging, freshEngine, withBank, withBlit, regs, idle, storedIn, carried, launched, commanded, toRegister, toPattern, toPlace, written}
 use Rattle.engine.specs.Orders.{orderAt, order}
 use Rattle.engine.specs.Promises.{row1, row2, row3, Sound, SoundFresh, SoundKept, WordsTaken}
+use Rattle.engine.proofs.Short.{afterRect, afterLine, filled, copied, stretched, lined, begun, fed}
 use Rattle.acts.proofs.Cases.{picked, by-number}
 use Rattle.engine.proofs.Orders.{launch-host}
 use Rattle.engine.proofs.Commands.{firstOf, laterRows, commandRow, row-host, write-written}

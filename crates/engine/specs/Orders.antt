@@ -39,30 +39,15 @@ unfoldable pub coveredBy : Regs → List Px
 coveredBy r =
     byNumber (number r) [] (covered (copyCut r)) (covered (fillCut r)) (covered (fillCut r)) (covered (fillCut r)) (coveredPoints (clipOf r) (points (lineOf r))) []
 
--- ---- what each command touches
-abbrev pub fillTouches : Engine → List ℕ → List Touch
-fillTouches e m = touchedByFill (e .bank) m
-
-abbrev pub copyTouches : Engine → List ℕ → List Touch
-copyTouches e m = touchedByCopy (e .bank) m
-
-abbrev pub stretchTouches : Engine → List ℕ → List Touch
-stretchTouches e m = touchedByStretch (e .bank) m
-
-abbrev pub drawTouches : Engine → List Touch
-drawTouches e = touchedByLine (e .bank)
-
-abbrev pub wordTouches : Engine → ℕ → List Touch
-wordTouches e word = touchedByWord (e .bank) (e .blit) word
-
 -- ---- what a write touches, if it is taken: a host blit touches with each word of data, and not when it is opened
 unfoldable pub carriedTouches : Engine → List ℕ → List Touch
-carriedTouches e m = byNumber (number (regs e)) [] (copyTouches e m) (stretchTouches e m) [] (fillTouches e m) (drawTouches e) []
+carriedTouches e m = byNumber (number (regs e)) [] (touchedByCopy (e .bank) m) (touchedByStretch (e .bank) m) [] (touchedByFill (e .bank) m) (touchedByLine (e .bank)) []
 
 unfoldable pub launchedTouches : Engine → List ℕ → ℕ → List Touch
 launchedTouches e m d =
-    byNumber (number (regs e)) [] (copyTouches (storedIn e 0x5c d) m) (stretchTouches (storedIn e 0x5c d) m)
-    (cond (ltb (e .blit .taken) (wordsOf (feedOf (regs e)))) (wordTouches e d) []) (fillTouches (storedIn e 0x6c d) m) (drawTouches (storedIn e 0x6c d)) []
+    byNumber (number (regs e)) [] (touchedByCopy (storedIn e 0x5c d .bank) m) (touchedByStretch (storedIn e 0x5c d .bank) m)
+    (cond (ltb (e .blit .taken) (wordsOf (feedOf (regs e)))) (touchedByWord (e .bank) (e .blit) d) [])
+    (touchedByFill (storedIn e 0x6c d .bank) m) (touchedByLine (storedIn e 0x6c d .bank)) []
 
 abbrev pub touchesAt : Place → Engine → List ℕ → ℕ → ℕ → List Touch
 touchesAt Register e m o d = cond (eqb o 0x70 && bit d 8) (carriedTouches (storedIn e 0x70 d) m) []

@@ -25,8 +25,9 @@ use Rattle.acts.proofs.Numbers.{carry-copy}
 use Rattle.engine.specs.declared.Engine.{Engine}
 use Rattle.engine.specs.declared.Answer.{Answer}
 use Rattle.engine.specs.declared.Answer.the-variants.{Taken, Waiting}
-use Rattle.engine.specs.Step.{Step, step, judging, regs, idle, storedIn, copied, carried, launched, commanded, toRegister, toPlace, written}
+use Rattle.engine.specs.Step.{Step, step, judging, regs, idle, storedIn, carried, launched, commanded, toRegister, toPlace, written}
 use Rattle.engine.specs.Orders.{launching}
+use Rattle.engine.proofs.Short.{copied}
 use Rattle.restore.specs.Rectangles.{sourceRect, targetRect, Apart}
 use Rattle.restore.specs.Writes.{Write, by, startAt, starts}
 use Rattle.restore.specs.Restore.{Plain}
