@@ -52,18 +52,25 @@ fn end_line(bank: Bank, style: u32) -> Bank
     styled.store(0x5c, xy)
 }
 
+// A command that paints nothing: refused by the row of that number, or 0 where none refuses it.
+fn unpainted(number: u32, bank: Bank, blit: Blit) -> Act
+    ensures { λ r. ⌜ r ≡ record { number = number; bank = bank; blit = blit; count = 0 } ⌝ }
+{
+    Act {
+        number: number,
+        bank: bank,
+        blit: blit,
+        count: 0,
+    }
+}
+
 fn fill(bank: Bank, blit: Blit, mem: &mut [u8]) -> Act
     ensures { λ r. ⌜ deed r (now (mem .exit)) ≡ judged (filling bank blit (now (mem .entry))) bank blit (now (mem .entry)) ⌝ }
 {
     let regs = bank.regs;
     let verdict = table::fill_verdict(mem.len(), regs);
     if verdict != 0 {
-        return Act {
-            number: verdict,
-            bank: bank,
-            blit: blit,
-            count: 0,
-        };
+        return unpainted(verdict, bank, blit);
     }
     let cut = cuts::fill_cut(regs);
     let task = command::fill_task(regs);
@@ -83,12 +90,7 @@ fn copy(bank: Bank, blit: Blit, mem: &mut [u8]) -> Act
     let regs = bank.regs;
     let verdict = table::copy_verdict(mem.len(), regs);
     if verdict != 0 {
-        return Act {
-            number: verdict,
-            bank: bank,
-            blit: blit,
-            count: 0,
-        };
+        return unpainted(verdict, bank, blit);
     }
     let c = cuts::copy_cut(regs);
     let task = command::copy_task(regs);
@@ -108,12 +110,7 @@ fn stretch(bank: Bank, blit: Blit, mem: &mut [u8]) -> Act
     let regs = bank.regs;
     let verdict = table::stretch_verdict(mem.len(), regs);
     if verdict != 0 {
-        return Act {
-            number: verdict,
-            bank: bank,
-            blit: blit,
-            count: 0,
-        };
+        return unpainted(verdict, bank, blit);
     }
     let c = cuts::fill_cut(regs);
     let t = command::decode_stretch(regs);
@@ -134,12 +131,7 @@ fn draw(bank: Bank, blit: Blit, mem: &mut [u8]) -> Act
     let regs = bank.regs;
     let verdict = table::line_verdict(mem.len(), regs);
     if verdict != 0 {
-        return Act {
-            number: verdict,
-            bank: bank,
-            blit: blit,
-            count: 0,
-        };
+        return unpainted(verdict, bank, blit);
     }
     let ink = command::decode_ink(regs);
     let clip = cuts::decode_clip(regs);
@@ -162,12 +154,7 @@ fn begin(bank: Bank, blit: Blit, mem: &[u8]) -> Act
     let regs = bank.regs;
     let verdict = table::host_verdict(mem.len(), regs);
     if verdict != 0 {
-        return Act {
-            number: verdict,
-            bank: bank,
-            blit: blit,
-            count: 0,
-        };
+        return unpainted(verdict, bank, blit);
     }
     let feed = command::decode_feed(regs);
     if 0 < host::words_needed(feed) {
@@ -182,12 +169,7 @@ fn begin(bank: Bank, blit: Blit, mem: &[u8]) -> Act
             count: 0,
         };
     }
-    Act {
-        number: 0,
-        bank: end_rect(bank),
-        blit: no_blit(),
-        count: 0,
-    }
+    unpainted(0, end_rect(bank), no_blit())
 }
 
 // The pixels that a word of data finishes; how many were written.
@@ -216,23 +198,13 @@ fn feed(bank: Bank, blit: Blit, mem: &mut [u8], word: u32) -> Act
     let regs = bank.regs;
     let verdict = table::host_verdict(mem.len(), regs);
     if verdict != 0 {
-        return Act {
-            number: verdict,
-            bank: bank,
-            blit: blit,
-            count: 0,
-        };
+        return unpainted(verdict, bank, blit);
     }
     let feed = command::decode_feed(regs);
     let words = host::words_needed(feed);
     let taken = blit.taken;
     if words <= taken {
-        return Act {
-            number: 0,
-            bank: end_rect(bank),
-            blit: no_blit(),
-            count: 0,
-        };
+        return unpainted(0, end_rect(bank), no_blit());
     }
     let count = paint_word(bank, blit, mem, word);
     if taken + 1 < words {
@@ -261,23 +233,13 @@ pub fn carry(bank: Bank, blit: Blit, mem: &mut [u8]) -> Act
 {
     let number = bank.regs.command % 16;
     match number {
-        0 => Act {
-            number: 0,
-            bank: bank,
-            blit: blit,
-            count: 0,
-        },
+        0 => unpainted(0, bank, blit),
         1 => copy(bank, blit, mem),
         2 => stretch(bank, blit, mem),
         3 => begin(bank, blit, mem),
         5 => fill(bank, blit, mem),
         6 | 7 => draw(bank, blit, mem),
-        _ => Act {
-            number: 4,
-            bank: bank,
-            blit: blit,
-            count: 0,
-        },
+        _ => unpainted(4, bank, blit),
     }
 }
 

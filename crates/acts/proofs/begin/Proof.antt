@@ -1,7 +1,10 @@
 -- `acts::begin` meets its contract: refused by the verdict, waiting, or ended at once.
 -- Assumes nothing.
 use borrow.Author.Needs.{needs}
+use mathlib.Core.Path.{ap, _∙_}
 use borrow.Author.Tests.{lt-ltb, le-ltb}
+use Rattle.acts.specs.declared.Act.{Act}
+use Rattle.acts.specs.Deed.{deed}
 use Rattle.acts.proofs.Laws.{judged-no, judged-yes, feed-ready}
 use Rattle.acts.proofs.begin.Statement.{statement}
 use Rattle.acts.proofs.begin.Tie as tie
@@ -9,10 +12,14 @@ use Rattle.acts.proofs.begin.Tie as tie
 host-verdict-requires : tie.Need-host-verdict-requires
 host-verdict-requires c κs = search needs
 
+unpainted-requires : tie.Need-unpainted-requires
+unpainted-requires c κs = search needs
+
 returns : tie.Need-returns
 returns c =
-    let a = (c .before .before .before .before .args) in
-    judged-no _ (a .bank) (a .blit) (a .mem .now) (c .before .host-verdict .result) (c .before .host-verdict .ensures) (c .if1 .taken)
+    let a = (c .before .before .before .before .before .args) in
+    ap (λ (r : Act). deed r (a .mem .now)) (c .unpainted .ensures)
+    ∙ judged-no _ (a .bank) (a .blit) (a .mem .now) (c .before .before .host-verdict .result) (c .before .before .host-verdict .ensures) (c .before .if1 .taken)
 
 decode-feed-requires : tie.Need-decode-feed-requires
 decode-feed-requires c κs = search needs
@@ -32,21 +39,27 @@ end-rect-requires c κs = search needs
 no-blit-requires : tie.Need-no-blit-requires
 no-blit-requires c κs = search needs
 
+unpainted-requires-2 : tie.Need-unpainted-requires-2
+unpainted-requires-2 c κs = search needs
+
 returns-3 : tie.Need-returns-3
 returns-3 c =
-    let a = (c .before .before .before .before .before .before .before .before .before .args) in
-    judged-yes _ (a .bank) (a .blit) (a .mem .now) (c .before .before .before .before .before .before .host-verdict .result) (c .before .before .before .before .before .before .host-verdict .ensures) _ (c .before .before .before .before .before .if1 .left)
-    (rw (← (c .before .before .before .before .decode-feed .ensures), ← (c .before .before .before .words-needed .ensures), le-ltb _ _ (c .before .before .if2 .left), (c .before .end-rect .ensures), (c .no-blit .ensures)))
+    let a = (c .before .before .before .before .before .before .before .before .before .before .args) in
+    ap (λ (r : Act). deed r (a .mem .now)) (c .unpainted2 .ensures)
+    ∙ judged-yes _ (a .bank) (a .blit) (a .mem .now) (c .before .before .before .before .before .before .before .host-verdict .result) (c .before .before .before .before .before .before .before .host-verdict .ensures) _ (c .before .before .before .before .before .before .if1 .left)
+    (rw (← (c .before .before .before .before .before .decode-feed .ensures), ← (c .before .before .before .before .words-needed .ensures), le-ltb _ _ (c .before .before .before .if2 .left), (c .before .before .end-rect .ensures), (c .before .no-blit .ensures)))
 
 pub begin-spec : {M : Type 1} → statement M
 begin-spec =
     tie.close
     (tie.spec
     host-verdict-requires
+    unpainted-requires
     returns
     decode-feed-requires
     words-needed-requires
     returns-2
     end-rect-requires
     no-blit-requires
+    unpainted-requires-2
     returns-3)

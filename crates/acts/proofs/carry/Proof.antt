@@ -2,12 +2,17 @@
 -- Assumes nothing.
 use borrow.Author.Needs.{needs}
 use mathlib.Core.Path.{sym, ap, _∙_}
+use mathlib.Core.Logic.{⊎-elim}
 use native.Mathlib.Omega.{arith}
 use Rattle.acts.proofs.Cases.{unbuilt-low, unbuilt-high}
-use Rattle.acts.specs.Deed.{Deed, judged}
+use Rattle.acts.specs.declared.Act.{Act}
+use Rattle.acts.specs.Deed.{Deed, deed, judged}
 use Rattle.acts.proofs.Numbers.{carry-idle, carry-copy, carry-stretch, carry-host, carry-fill, carry-line, carry-other}
 use Rattle.acts.proofs.carry.Statement.{statement}
 use Rattle.acts.proofs.carry.Tie as tie
+
+unpainted-requires : tie.Need-unpainted-requires
+unpainted-requires c κs = search needs
 
 copy-requires : tie.Need-copy-requires
 copy-requires c κs = search needs
@@ -24,11 +29,15 @@ fill-requires c κs = search needs
 draw-requires : tie.Need-draw-requires
 draw-requires c κs = search needs
 
+unpainted-requires-2 : tie.Need-unpainted-requires-2
+unpainted-requires-2 c κs = search needs
+
 returns : tie.Need-returns
 unfolding judged
 returns c =
-    let a = (c .before .before .before .args) in
-    ap (λ (d : Deed). judged d (a .bank) (a .blit) (a .mem .now)) (sym (carry-idle (a .bank) (a .blit) (a .mem .now) (c .match .keys1)))
+    let a = (c .before .before .before .before .args) in
+    ap (λ (r : Act). deed r (a .mem .now)) (c .unpainted .ensures)
+    ∙ ap (λ (d : Deed). judged d (a .bank) (a .blit) (a .mem .now)) (sym (carry-idle (a .bank) (a .blit) (a .mem .now) (c .before .match .keys1)))
 
 same-length : tie.Need-same-length
 same-length c = search needs
@@ -73,24 +82,23 @@ returns-6 c =
 returns-7 : tie.Need-returns-7
 unfolding judged
 returns-7 c =
-    let a = (c .before .before .before .before .args) in
-    ap (λ (d : Deed). judged d (a .bank) (a .blit) (a .mem .now)) (sym (carry-other (a .bank) (a .blit) (a .mem .now) (unbuilt-low _ (c .before .match .rest .0 .0 .0 .0 .1) (c .before .match .rest .0 .0 .0 .1) (c .before .match .rest .0 .0 .1) (c .before .match .rest .0 .1) (c .before .match .rest .1) (c .if1 .taken))))
-
-returns-8 : tie.Need-returns-8
-unfolding judged
-returns-8 c =
     let a = (c .before .before .before .before .before .args) in
-    ap (λ (d : Deed). judged d (a .bank) (a .blit) (a .mem .now)) (sym (carry-other (a .bank) (a .blit) (a .mem .now) (unbuilt-high _ (c .before .before .match .rest .0 .0 .0 .0 .1) (c .before .before .match .rest .0 .0 .0 .1) (c .before .before .match .rest .0 .0 .1) (c .before .before .match .rest .0 .1) (c .before .before .match .rest .1) (c .if2 .left))))
+    let n = (c .before .before .match .rest) in
+    ap (λ (r : Act). deed r (a .mem .now)) (c .unpainted2 .ensures)
+    ∙ ap (λ (d : Deed). judged d (a .bank) (a .blit) (a .mem .now)) (sym (carry-other (a .bank) (a .blit) (a .mem .now)
+    (⊎-elim (λ w. unbuilt-low _ (n .0 .0 .0 .0 .1) (n .0 .0 .0 .1) (n .0 .0 .1) (n .0 .1) (n .1) (w .taken)) (λ w. unbuilt-high _ (n .0 .0 .0 .0 .1) (n .0 .0 .0 .1) (n .0 .0 .1) (n .0 .1) (n .1) (w .1 .left)) (c .before .if1 .came))))
 
 pub carry-spec : {M : Type 1} → statement M
 carry-spec =
     tie.close
     (tie.spec
+    unpainted-requires
     copy-requires
     stretch-requires
     begin-requires
     fill-requires
     draw-requires
+    unpainted-requires-2
     returns
     same-length
     returns-2
@@ -102,5 +110,4 @@ carry-spec =
     returns-5
     same-length-5
     returns-6
-    returns-7
-    returns-8)
+    returns-7)

@@ -1,9 +1,11 @@
 -- `acts::copy` meets its contract: refused by the verdict, or painted.
 -- Assumes nothing.
 use borrow.Author.Needs.{needs}
-use mathlib.Core.Path.{refl}
+use mathlib.Core.Path.{refl, ap, _∙_}
 use lib.ListN.{length}
 use Rattle.command.specs.Decode.{inkOf, copyTask}
+use Rattle.acts.specs.declared.Act.{Act}
+use Rattle.acts.specs.Deed.{deed}
 use Rattle.acts.proofs.Laws.{judged-no, judged-yes, carried-out, painted-as, copy-ready}
 use Rattle.acts.proofs.copy.Statement.{statement}
 use Rattle.acts.proofs.copy.Tie as tie
@@ -11,10 +13,14 @@ use Rattle.acts.proofs.copy.Tie as tie
 copy-verdict-requires : tie.Need-copy-verdict-requires
 copy-verdict-requires c κs = search needs
 
+unpainted-requires : tie.Need-unpainted-requires
+unpainted-requires c κs = search needs
+
 returns : tie.Need-returns
 returns c =
-    let a = (c .before .before .before .before .args) in
-    judged-no _ (a .bank) (a .blit) (a .mem .now) (c .before .copy-verdict .result) (c .before .copy-verdict .ensures) (c .if1 .taken)
+    let a = (c .before .before .before .before .before .args) in
+    ap (λ (r : Act). deed r (a .mem .now)) (c .unpainted .ensures)
+    ∙ judged-no _ (a .bank) (a .blit) (a .mem .now) (c .before .before .copy-verdict .result) (c .before .before .copy-verdict .ensures) (c .before .if1 .taken)
 
 copy-cut-requires : tie.Need-copy-cut-requires
 copy-cut-requires c κs = search needs
@@ -45,6 +51,7 @@ copy-spec =
     tie.close
     (tie.spec
     copy-verdict-requires
+    unpainted-requires
     returns
     copy-cut-requires
     copy-task-requires

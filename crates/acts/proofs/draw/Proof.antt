@@ -13,7 +13,8 @@ use Rattle.line.specs.declared.Pen.{Pen}
 use Rattle.line.specs.Line.{points, pointCount}
 use Rattle.line.specs.Stipple.{styleAfter}
 use Rattle.line.specs.Draw.{lineTouches}
-use Rattle.acts.specs.Deed.{lineEnded}
+use Rattle.acts.specs.declared.Act.{Act}
+use Rattle.acts.specs.Deed.{deed, lineEnded}
 use Rattle.acts.proofs.Laws.{judged-no, judged-yes, carried-out, line-ready}
 use Rattle.acts.proofs.draw.Statement.{statement}
 use Rattle.acts.proofs.draw.Tie as tie
@@ -21,10 +22,14 @@ use Rattle.acts.proofs.draw.Tie as tie
 line-verdict-requires : tie.Need-line-verdict-requires
 line-verdict-requires c κs = search needs
 
+unpainted-requires : tie.Need-unpainted-requires
+unpainted-requires c κs = search needs
+
 returns : tie.Need-returns
 returns c =
-    let a = (c .before .before .before .before .args) in
-    judged-no _ (a .bank) (a .blit) (a .mem .now) (c .before .line-verdict .result) (c .before .line-verdict .ensures) (c .if1 .taken)
+    let a = (c .before .before .before .before .before .args) in
+    ap (λ (r : Act). deed r (a .mem .now)) (c .unpainted .ensures)
+    ∙ judged-no _ (a .bank) (a .blit) (a .mem .now) (c .before .before .line-verdict .result) (c .before .before .line-verdict .ensures) (c .before .if1 .taken)
 
 decode-ink-requires : tie.Need-decode-ink-requires
 decode-ink-requires c κs = search needs
@@ -69,6 +74,7 @@ draw-spec =
     tie.close
     (tie.spec
     line-verdict-requires
+    unpainted-requires
     returns
     decode-ink-requires
     decode-clip-requires

@@ -5,6 +5,8 @@ use mathlib.Core.Path.{sym, ap, _∙_}
 use native.Mathlib.Omega.{arith}
 use borrow.Author.Tests.{lt-ltb, le-ltb}
 use Rattle.host.specs.Host.{wordsOf}
+use Rattle.acts.specs.declared.Act.{Act}
+use Rattle.acts.specs.Deed.{deed}
 use Rattle.acts.proofs.Laws.{judged-no, judged-yes, feed-ready}
 use Rattle.acts.proofs.feed.Statement.{statement}
 use Rattle.acts.proofs.feed.Tie as tie
@@ -12,10 +14,14 @@ use Rattle.acts.proofs.feed.Tie as tie
 host-verdict-requires : tie.Need-host-verdict-requires
 host-verdict-requires c κs = search needs
 
+unpainted-requires : tie.Need-unpainted-requires
+unpainted-requires c κs = search needs
+
 returns : tie.Need-returns
 returns c =
-    let a = (c .before .before .before .before .args) in
-    judged-no _ (a .bank) (a .blit) (a .mem .now) (c .before .host-verdict .result) (c .before .host-verdict .ensures) (c .if1 .taken)
+    let a = (c .before .before .before .before .before .args) in
+    ap (λ (r : Act). deed r (a .mem .now)) (c .unpainted .ensures)
+    ∙ judged-no _ (a .bank) (a .blit) (a .mem .now) (c .before .before .host-verdict .result) (c .before .before .host-verdict .ensures) (c .before .if1 .taken)
 
 decode-feed-requires : tie.Need-decode-feed-requires
 decode-feed-requires c κs = search needs
@@ -29,11 +35,15 @@ end-rect-requires c κs = search needs
 no-blit-requires : tie.Need-no-blit-requires
 no-blit-requires c κs = search needs
 
+unpainted-requires-2 : tie.Need-unpainted-requires-2
+unpainted-requires-2 c κs = search needs
+
 returns-2 : tie.Need-returns-2
 returns-2 c =
-    let a = (c .before .before .before .before .before .before .before .before .before .args) in
-    judged-yes _ (a .bank) (a .blit) (a .mem .now) (c .before .before .before .before .before .before .host-verdict .result) (c .before .before .before .before .before .before .host-verdict .ensures) _ (c .before .before .before .before .before .if1 .left)
-    (rw (← (c .before .before .before .before .decode-feed .ensures), ← (c .before .before .before .words-needed .ensures), le-ltb _ _ (c .before .before .if2 .taken), (c .before .end-rect .ensures), (c .no-blit .ensures)))
+    let a = (c .before .before .before .before .before .before .before .before .before .before .args) in
+    ap (λ (r : Act). deed r (a .mem .now)) (c .unpainted2 .ensures)
+    ∙ judged-yes _ (a .bank) (a .blit) (a .mem .now) (c .before .before .before .before .before .before .before .host-verdict .result) (c .before .before .before .before .before .before .before .host-verdict .ensures) _ (c .before .before .before .before .before .before .if1 .left)
+    (rw (← (c .before .before .before .before .before .decode-feed .ensures), ← (c .before .before .before .before .words-needed .ensures), le-ltb _ _ (c .before .before .before .if2 .taken), (c .before .before .end-rect .ensures), (c .before .no-blit .ensures)))
 
 paint-word-requires : tie.Need-paint-word-requires
 paint-word-requires c κs =
@@ -77,11 +87,13 @@ feed-spec =
     tie.close
     (tie.spec
     host-verdict-requires
+    unpainted-requires
     returns
     decode-feed-requires
     words-needed-requires
     end-rect-requires
     no-blit-requires
+    unpainted-requires-2
     returns-2
     paint-word-requires
     add-if3

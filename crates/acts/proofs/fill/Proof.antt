@@ -1,9 +1,11 @@
 -- `acts::fill` meets its contract: refused by the verdict, or painted.
 -- Assumes nothing.
 use borrow.Author.Needs.{needs}
-use mathlib.Core.Path.{refl}
+use mathlib.Core.Path.{refl, ap, _∙_}
 use lib.ListN.{length}
 use Rattle.command.specs.Decode.{inkOf, fillTask}
+use Rattle.acts.specs.declared.Act.{Act}
+use Rattle.acts.specs.Deed.{deed}
 use Rattle.acts.proofs.Laws.{judged-no, judged-yes, carried-out, painted-as, fill-ready}
 use Rattle.acts.proofs.fill.Statement.{statement}
 use Rattle.acts.proofs.fill.Tie as tie
@@ -11,10 +13,14 @@ use Rattle.acts.proofs.fill.Tie as tie
 fill-verdict-requires : tie.Need-fill-verdict-requires
 fill-verdict-requires c κs = search needs
 
+unpainted-requires : tie.Need-unpainted-requires
+unpainted-requires c κs = search needs
+
 returns : tie.Need-returns
 returns c =
-    let a = (c .before .before .before .before .args) in
-    judged-no _ (a .bank) (a .blit) (a .mem .now) (c .before .fill-verdict .result) (c .before .fill-verdict .ensures) (c .if1 .taken)
+    let a = (c .before .before .before .before .before .args) in
+    ap (λ (r : Act). deed r (a .mem .now)) (c .unpainted .ensures)
+    ∙ judged-no _ (a .bank) (a .blit) (a .mem .now) (c .before .before .fill-verdict .result) (c .before .before .fill-verdict .ensures) (c .before .if1 .taken)
 
 fill-cut-requires : tie.Need-fill-cut-requires
 fill-cut-requires c κs = search needs
@@ -45,6 +51,7 @@ fill-spec =
     tie.close
     (tie.spec
     fill-verdict-requires
+    unpainted-requires
     returns
     fill-cut-requires
     fill-task-requires

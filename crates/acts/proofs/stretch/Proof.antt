@@ -1,8 +1,11 @@
 -- `acts::stretch` meets its contract: refused by the verdict, or painted.
 -- Assumes nothing.
 use borrow.Author.Needs.{needs}
+use mathlib.Core.Path.{ap, _∙_}
 use lib.ListN.{length}
 use Rattle.command.specs.Decode.{inkOf, stretchOf}
+use Rattle.acts.specs.declared.Act.{Act}
+use Rattle.acts.specs.Deed.{deed}
 use Rattle.acts.proofs.Laws.{judged-no, judged-yes, carried-out, stretched-as, stretch-ready}
 use Rattle.acts.proofs.stretch.Statement.{statement}
 use Rattle.acts.proofs.stretch.Tie as tie
@@ -10,10 +13,14 @@ use Rattle.acts.proofs.stretch.Tie as tie
 stretch-verdict-requires : tie.Need-stretch-verdict-requires
 stretch-verdict-requires c κs = search needs
 
+unpainted-requires : tie.Need-unpainted-requires
+unpainted-requires c κs = search needs
+
 returns : tie.Need-returns
 returns c =
-    let a = (c .before .before .before .before .args) in
-    judged-no _ (a .bank) (a .blit) (a .mem .now) (c .before .stretch-verdict .result) (c .before .stretch-verdict .ensures) (c .if1 .taken)
+    let a = (c .before .before .before .before .before .args) in
+    ap (λ (r : Act). deed r (a .mem .now)) (c .unpainted .ensures)
+    ∙ judged-no _ (a .bank) (a .blit) (a .mem .now) (c .before .before .stretch-verdict .result) (c .before .before .stretch-verdict .ensures) (c .before .if1 .taken)
 
 fill-cut-requires : tie.Need-fill-cut-requires
 fill-cut-requires c κs = search needs
@@ -44,6 +51,7 @@ stretch-spec =
     tie.close
     (tie.spec
     stretch-verdict-requires
+    unpainted-requires
     returns
     fill-cut-requires
     decode-stretch-requires
