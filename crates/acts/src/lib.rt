@@ -158,16 +158,12 @@ fn begin(bank: Bank, blit: Blit, mem: &[u8]) -> Act
     }
     let feed = command::decode_feed(regs);
     if 0 < host::words_needed(feed) {
-        return Act {
-            number: 0,
-            bank: bank,
-            blit: Blit {
-                waiting: true,
-                taken: 0,
-                last: 0,
-            },
-            count: 0,
+        let opened = Blit {
+            waiting: true,
+            taken: 0,
+            last: 0,
         };
+        return unpainted(0, bank, opened);
     }
     unpainted(0, end_rect(bank), no_blit())
 }

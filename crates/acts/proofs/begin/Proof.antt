@@ -27,11 +27,15 @@ decode-feed-requires c κs = search needs
 words-needed-requires : tie.Need-words-needed-requires
 words-needed-requires c κs = feed-ready (c .before .before .before .before .before .args .bank .regs) (c .decode-feed .ensures)
 
+unpainted-requires-2 : tie.Need-unpainted-requires-2
+unpainted-requires-2 c κs = search needs
+
 returns-2 : tie.Need-returns-2
 returns-2 c =
-    let a = (c .before .before .before .before .before .before .before .args) in
-    judged-yes _ (a .bank) (a .blit) (a .mem .now) (c .before .before .before .before .host-verdict .result) (c .before .before .before .before .host-verdict .ensures) _ (c .before .before .before .if1 .left)
-    (rw (← (c .before .before .decode-feed .ensures), ← (c .before .words-needed .ensures), lt-ltb _ _ (c .if2 .taken)))
+    let a = (c .before .before .before .before .before .before .before .before .args) in
+    ap (λ (r : Act). deed r (a .mem .now)) (c .unpainted2 .ensures)
+    ∙ judged-yes _ (a .bank) (a .blit) (a .mem .now) (c .before .before .before .before .before .host-verdict .result) (c .before .before .before .before .before .host-verdict .ensures) _ (c .before .before .before .before .if1 .left)
+    (rw (← (c .before .before .before .decode-feed .ensures), ← (c .before .before .words-needed .ensures), lt-ltb _ _ (c .before .if2 .taken)))
 
 end-rect-requires : tie.Need-end-rect-requires
 end-rect-requires c κs = search needs
@@ -39,13 +43,13 @@ end-rect-requires c κs = search needs
 no-blit-requires : tie.Need-no-blit-requires
 no-blit-requires c κs = search needs
 
-unpainted-requires-2 : tie.Need-unpainted-requires-2
-unpainted-requires-2 c κs = search needs
+unpainted-requires-3 : tie.Need-unpainted-requires-3
+unpainted-requires-3 c κs = search needs
 
 returns-3 : tie.Need-returns-3
 returns-3 c =
     let a = (c .before .before .before .before .before .before .before .before .before .before .args) in
-    ap (λ (r : Act). deed r (a .mem .now)) (c .unpainted2 .ensures)
+    ap (λ (r : Act). deed r (a .mem .now)) (c .unpainted3 .ensures)
     ∙ judged-yes _ (a .bank) (a .blit) (a .mem .now) (c .before .before .before .before .before .before .before .host-verdict .result) (c .before .before .before .before .before .before .before .host-verdict .ensures) _ (c .before .before .before .before .before .before .if1 .left)
     (rw (← (c .before .before .before .before .before .decode-feed .ensures), ← (c .before .before .before .before .words-needed .ensures), le-ltb _ _ (c .before .before .before .if2 .left), (c .before .before .end-rect .ensures), (c .before .no-blit .ensures)))
 
@@ -58,8 +62,9 @@ begin-spec =
     returns
     decode-feed-requires
     words-needed-requires
+    unpainted-requires-2
     returns-2
     end-rect-requires
     no-blit-requires
-    unpainted-requires-2
+    unpainted-requires-3
     returns-3)
