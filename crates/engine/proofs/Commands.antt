@@ -12,6 +12,7 @@ use native.Mathlib.Decide.{ℕ-discrete}
 use lib.Dec.{eqb, ltb}
 use lib.ListN.{length}
 use borrow.Author.Tests.{eq-eqb, ltb-true}
+use Rattle.surface.specs.Place.{sameSurface}
 use Rattle.surface.specs.Pixels.{Px}
 use Rattle.spans.specs.Span.{allOn, spanOf, meet}
 use Rattle.surface.proofs.Lists.{In, by-cases}
@@ -37,7 +38,7 @@ use Rattle.bank.specs.Bank.{stored, patterned}
 use Rattle.registers.specs.Offsets.{placeOf}
 use Rattle.command.specs.Decode.{target, origins, stretchOrigins, inkOf, fillTask, copyTask, stretchOf, lineOf, penOf, feedOf}
 use Rattle.cuts.specs.Cut.{bit, number, clipOf, cutAt, fillCut, copyCut, covered, needed}
-use Rattle.table.specs.Table.{targetFine, bothFine, allOnAt, pixels, sameSurface, stretchNeeded, stretchFault, hostFault, fillVerdict, copyVerdict, stretchVerdict, hostVerdict, lineVerdict}
+use Rattle.table.specs.Table.{targetFine, bothFine, allOnAt, pixels, stretchNeeded, stretchFault, hostFault, fillVerdict, copyVerdict, stretchVerdict, hostVerdict, lineVerdict}
 use Rattle.table.proofs.Stretches.{stretch-can}
 use Rattle.table.proofs.Verdicts.{fill-can, copy-can, line-can, host-can}
 use Rattle.engine.specs.declared.Engine.{Engine}

@@ -9,6 +9,7 @@ use Prim.Native.Nat.{ℕ, zero, suc, _+_, _^_, _<_, _≤_}
 use lib.Dec.{eqb, ltb}
 use lib.ListN.{length, getD}
 use Rattle.surface.specs.declared.Surface.{Surface}
+use Rattle.surface.specs.Place.{sameSurface}
 use Rattle.surface.specs.Pixels.{Px}
 use Rattle.spans.specs.Span.{allOn, addresses, spanOf, meet}
 use Rattle.views.specs.View.{viewAnswer, viewed}
@@ -22,7 +23,7 @@ use Rattle.registers.specs.Offsets.{placeOf}
 use Rattle.host.specs.Host.{wordsOf}
 use Rattle.command.specs.Decode.{target, origins, stretchOrigins, feedOf}
 use Rattle.cuts.specs.Cut.{number, clipOf, fillCut, copyCut, covered, needed}
-use Rattle.table.specs.Table.{targetFine, bothFine, allOnAt, pixels, sameSurface, stretchNeeded, stretchFault, hostFault, hostVerdict}
+use Rattle.table.specs.Table.{targetFine, bothFine, allOnAt, pixels, stretchNeeded, stretchFault, hostFault, hostVerdict}
 use Rattle.acts.specs.Deed.{noBlit, byNumber}
 use Rattle.engine.specs.declared.Engine.{Engine}
 use Rattle.engine.specs.Step.{Step, written, numberOf, countOf, regs, freshEngine, readFrom}

@@ -8,11 +8,10 @@ use Prim.Native.Nat.{ℕ, zero, suc, _+_, _-_, _*_, _<_, _≤_, min, max}
 use native.Mathlib.Omega.{arith}
 use native.Mathlib.Decide.{decLt}
 use lib.ListN.{length, getD}
-use borrow.Author.Tests.{eq-eqb}
-use Rattle.surface.specs.declared.Surface.{Surface}
-use Rattle.surface.specs.Place.{byteOf}
+use Rattle.surface.specs.Place.{sameSurface, byteOf}
 use Rattle.surface.specs.Pixels.{Px, px, Inside}
 use Rattle.spans.specs.Span.{allOn, spanOf, meet}
+use Rattle.surface.proofs.Same.{same-surface}
 use Rattle.surface.proofs.Lists.{by-cases}
 use Rattle.spans.proofs.Corner.{rect-none}
 use Rattle.spans.proofs.Spans.{IsByte}
@@ -30,7 +29,7 @@ use Rattle.registers.specs.declared.Regs.{Regs}
 use Rattle.cuts.specs.declared.Cut.{Cut}
 use Rattle.command.specs.Decode.{target, origins, inkOf, copyTask}
 use Rattle.cuts.specs.Cut.{width, height, clipOf, firstOf, cutAt, copyCut, covered, needed}
-use Rattle.table.specs.Table.{allOnAt, pixels, sameSurface, copyVerdict}
+use Rattle.table.specs.Table.{allOnAt, pixels, copyVerdict}
 use Rattle.cuts.proofs.CutLaws.{needed-rect}
 use Rattle.table.proofs.Sources.{needed-none, no-clash}
 use Rattle.table.proofs.Rows.{copy-by}
@@ -69,11 +68,6 @@ left-in c x y w h sx sy p i = omega arith
 -- the copy's rectangle, whole
 abbrev full : Regs → Cut
 full r = cut (targetRect r .x - origin) (targetRect r .y - origin) (width r) (height r) (sourceRect r .x) (sourceRect r .y)
-
-same-surface : (s t : Surface) → s ≡ t → sameSurface s t ≡ true
-same-surface s t e =
-    ap₂ (λ a b. a && b) (eq-eqb (s .base) (t .base) (ap (λ (k : Surface). k .base) e))
-    (ap₂ (λ a b. a && b) (eq-eqb (s .stride) (t .stride) (ap (λ (k : Surface). k .stride) e)) (eq-eqb (s .bytes) (t .bytes) (ap (λ (k : Surface). k .bytes) e)))
 
 module _ (len : ℕ) (r : Regs) (plain : Plain len r) where
   by-size : {A : Type 0} → (0 < width r → 0 < height r → A) → ((0 < width r → 0 < height r → ⊥) → A) → A

@@ -5,3 +5,4 @@ pub mod Pixels
 pub mod Run
 pub mod Lists
 pub mod Rects
+pub mod Same

@@ -12,6 +12,10 @@ use Rattle.surface.specs.declared.Surface.{Surface}
 abbrev pub surface : ℕ → ℕ → ℕ → Surface
 surface base stride bytes = record { base = base; stride = stride; bytes = bytes }
 
+-- the same base, step and format
+abbrev pub sameSurface : Surface → Surface → Bool
+sameSurface a b = eqb (a .base) (b .base) && (eqb (a .stride) (b .stride) && eqb (a .bytes) (b .bytes))
+
 -- ---- the layout, which nothing else knows
 
 -- how many bytes a row has

@@ -2,13 +2,19 @@
 ghost use mathlib.Core.Path.{_≡_};
 ghost use Prim.Native.Nat.{_+_, _-_, _/_, _%_, _<_};
 ghost use lib.ListN.{length, getD, set};
-ghost use Rattle.surface.specs.Place.{byteAt, byteOf, readBytes, writeBytes, readPx, writePx, monoBit};
+ghost use Rattle.surface.specs.Place.{sameSurface, byteAt, byteOf, readBytes, writeBytes, readPx, writePx, monoBit};
 ghost use Rattle.surface.specs.Place.{Colour, Near, Held, OnColour, OnMono};
 
 pub struct Surface {
     pub base: u32,
     pub stride: u32,
     pub bytes: u32,
+}
+
+pub fn same_surface(a: Surface, b: Surface) -> bool
+    ensures { λ r. ⌜ r ≡ sameSurface a b ⌝ }
+{
+    (a.base == b.base) & ((a.stride == b.stride) & (a.bytes == b.bytes))
 }
 
 pub fn wide(x: u32) -> usize

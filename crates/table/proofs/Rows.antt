@@ -4,6 +4,7 @@ use mathlib.Core.Path.{_≡_, refl, sym}
 use mathlib.Core.Bool.{Bool, true, false, cond, not, _&&_, _||_}
 use mathlib.Core.List.{List}
 use Prim.Native.Nat.{ℕ}
+use Rattle.surface.specs.Place.{sameSurface}
 use Rattle.surface.specs.declared.Surface.{Surface}
 use Rattle.surface.specs.Pixels.{Px}
 use Rattle.spans.specs.Span.{allOn, spanOf, meet}
@@ -13,7 +14,7 @@ use Rattle.registers.specs.declared.Regs.{Regs}
 use Rattle.cuts.specs.declared.Cut.{Cut}
 use Rattle.command.specs.Decode.{target, origins, lineOf}
 use Rattle.cuts.specs.Cut.{clipOf, fillCut, copyCut, covered, needed}
-use Rattle.table.specs.Table.{targetFine, bothFine, allOnAt, pixels, sameSurface, hostFault, sourceRows, fillVerdict, copyVerdict, hostVerdict, lineVerdict}
+use Rattle.table.specs.Table.{targetFine, bothFine, allOnAt, pixels, hostFault, sourceRows, fillVerdict, copyVerdict, hostVerdict, lineVerdict}
 
 -- rows 7 and 8
 module _ (t s : Surface) (len : ℕ) (c : Cut) (lenient : Bool) where

@@ -7,13 +7,14 @@ use Prim.Native.Nat.{ℕ, _+_, _-_, _*_, _/_, _%_, _^_, _<_, _≤_}
 use native.Mathlib.Nat.{mul-pos, mul-left-comm}
 use native.Mathlib.Omega.{arith}
 use lib.Dec.{eqb, ltb}
-use borrow.Author.Tests.{eqb-true, ltb-false, eqb-false, not-true, not-false}
+use borrow.Author.Tests.{ltb-false, eqb-false, not-true, not-false}
 use Rattle.surface.specs.declared.Surface.{Surface}
-use Rattle.surface.specs.Place.{surface, rowPixels, Small}
+use Rattle.surface.specs.Place.{sameSurface, rowPixels, Small}
 use Rattle.surface.specs.Pixels.{rect, Inside}
 use Rattle.spans.specs.Span.{allOn, spanOf, meet}
 use Rattle.formats.specs.Step.{packingOf, rowLength, stepOf, dataBytes, dataWords}
 use Rattle.formats.specs.Format.{sourceOf, sourceCode, bytesOf}
+use Rattle.surface.proofs.Same.{same-as}
 use Rattle.surface.proofs.OnLaws.{and-left, and-right, on-column, pos-of-ne}
 use Rattle.surface.proofs.Rects.{rect-in}
 use Rattle.spans.proofs.Corner.{all-each, rect-corner, rect-none}
@@ -35,7 +36,7 @@ use Rattle.positions.specs.Position.{placed}
 use Rattle.cuts.specs.declared.Cut.{Cut}
 use Rattle.command.specs.Decode.{target, origins, inkOf, plainBlit, plainOf, fillTask, copyTask, lineOf, feedOf}
 use Rattle.cuts.specs.Cut.{bit, width, height, clipOf, firstOf, cutAt, fillCut, copyCut, covered, needed, CutRange}
-use Rattle.table.specs.Table.{targetFine, bothFine, allOnAt, pixels, sameSurface, hostFault, fillVerdict, copyVerdict, hostVerdict, lineVerdict, InRows}
+use Rattle.table.specs.Table.{targetFine, bothFine, allOnAt, pixels, hostFault, fillVerdict, copyVerdict, hostVerdict, lineVerdict, InRows}
 use Rattle.cuts.proofs.CutLaws.{clip-bits, Bounded, cut-bounded}
 use Rattle.table.proofs.Sources.{needed-first, needed-as-pixels, needed-pixels, no-clash}
 
@@ -159,14 +160,6 @@ copy-can r len e =
       target = p .on;
       origin = λ c. source-on (origins r) len (copyCut r) (p .source);
     }
-
-same-as : (a b : Surface) → sameSurface a b ≡ true → b ≡ a
-same-as a b e =
-    let p = eqb-true (a .base) (b .base) (and-left (eqb (a .base) (b .base)) _ e) in
-    let q = and-right (eqb (a .base) (b .base)) _ e in
-    let u = eqb-true (a .stride) (b .stride) (and-left (eqb (a .stride) (b .stride)) _ q) in
-    let v = eqb-true (a .bytes) (b .bytes) (and-right (eqb (a .stride) (b .stride)) _ q) in
-    sym (λ i. surface (p i) (u i) (v i))
 
 pub copy-orderly : (r : Regs) (len : ℕ) → copyVerdict r len ≡ 0 → Orderly (copyTask r) (copyCut r .w) (copyCut r .h)
 unfolding copyTask inkOf

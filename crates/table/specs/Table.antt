@@ -6,7 +6,7 @@ use Prim.Native.Nat.{ℕ, _+_, _-_, _/_, _%_, _^_, _<_, _≤_}
 use lib.Dec.{eqb, leb, ltb}
 use Rattle.colour.specs.Convert.{allowed}
 use Rattle.surface.specs.declared.Surface.{Surface}
-use Rattle.surface.specs.Place.{onSurface, rowPixels, Small}
+use Rattle.surface.specs.Place.{sameSurface, onSurface, rowPixels, Small}
 use Rattle.surface.specs.Pixels.{Px}
 use Rattle.spans.specs.Span.{allOn, spanOf, meet}
 use Rattle.formats.specs.Format.{targetNamed, sourceNamed}
@@ -41,10 +41,6 @@ allOnAt s len (q ∷ qs) = onAt s len q && allOnAt s len qs
 
 abbrev pub pixels : List Px → List Px
 pixels qs = map (λ q. pixelAt (q .x) (q .y)) qs
-
--- ---- row 8: the same base, step and format
-abbrev pub sameSurface : Surface → Surface → Bool
-sameSurface a b = eqb (a .base) (b .base) && (eqb (a .stride) (b .stride) && eqb (a .bytes) (b .bytes))
 
 -- ---- the commands
 unfoldable pub fillVerdict : Regs → ℕ → ℕ

@@ -9,7 +9,7 @@ ghost use Prim.Native.Nat.{_-_, _<_};
 ghost use Rattle.surface.specs.Place.{Small};
 ghost use Rattle.spans.specs.Span.{spanOf, meet};
 ghost use Rattle.cuts.specs.Cut.{covered, needed};
-ghost use Rattle.table.specs.Table.{bothFine, allOnAt, pixels, sameSurface, reachOf, takenCut, sourceRows, stretchRows, stretchFault, hostFault, InRows, Reaches, OnScales, fillVerdict, copyVerdict, stretchVerdict, hostVerdict, lineVerdict};
+ghost use Rattle.table.specs.Table.{bothFine, allOnAt, pixels, reachOf, takenCut, sourceRows, stretchRows, stretchFault, hostFault, InRows, Reaches, OnScales, fillVerdict, copyVerdict, stretchVerdict, hostVerdict, lineVerdict};
 
 fn both_fine(r: Regs) -> bool
     ensures { λ b. ⌜ b ≡ bothFine r ⌝ }
@@ -19,12 +19,6 @@ fn both_fine(r: Regs) -> bool
     formats::names_target(r.dstBaseAddr, r.dstFormat)
         & (formats::names_source(r.srcBaseAddr, r.srcFormat)
             & colour::may_convert(s.bytes, t.bytes))
-}
-
-fn same_surface(a: Surface, b: Surface) -> bool
-    ensures { λ r. ⌜ r ≡ sameSurface a b ⌝ }
-{
-    (a.base == b.base) & ((a.stride == b.stride) & (a.bytes == b.bytes))
 }
 
 // Whether every source pixel that a copy needs is on its surface: the first is not negative, and the last is there.
@@ -72,7 +66,7 @@ fn source_rows(len: usize, t: Surface, s: Surface, c: Cut, b: Cut, lenient: bool
     if !spans::rect_on(len, t, c.x, c.y, c.w, c.h) | !needed_on(len, s, b) {
         return 7;
     }
-    if !(lenient & same_surface(t, s)) & spans_clash(t, s, c, b) {
+    if !(lenient & surface::same_surface(t, s)) & spans_clash(t, s, c, b) {
         return 8;
     }
     0
