@@ -2,7 +2,7 @@
 -- Assumes nothing.
 use mathlib.Core.Path.{_≡_, refl, ap, subst, _∙_}
 use mathlib.Core.Logic.{⊎-elim}
-use mathlib.Core.Bool.{Bool, true, _&&_}
+use mathlib.Core.Bool.{Bool, true, false, _&&_}
 use mathlib.Core.List.{List, [], _∷_, map, List·Memᴰ·head, List·Memᴰ·tail, List·Memᴰ·not-nil, List·Memᴰ·cases-cons, Memᴰ·map, Memᴰ·of-map}
 use Prim.Native.Nat.{ℕ, _+_, _-_, _<_, _≤_}
 use native.Mathlib.Omega.{arith}
@@ -26,6 +26,13 @@ unfolding allOn
 each-all s len [] f = refl
 each-all s len (q ∷ ps) f =
     ap (λ t. t && allOn s len ps) (f q (List·Memᴰ·head refl)) ∙ each-all s len ps (λ p i. f p (List·Memᴰ·tail i))
+
+-- from whatever corner, the same pixels
+pub any-corner : (s : Surface) (len : ℕ) (l t : Bool) (x y w h : ℕ) → allOn s len (rect l t x y w h) ≡ allOn s len (rect false false x y w h)
+any-corner s len l t x y w h =
+    same-test (allOn s len (rect l t x y w h)) (allOn s len (rect false false x y w h))
+    (λ e. each-all s len (rect false false x y w h) (λ p i. all-each s len (rect l t x y w h) e p (rect-in l t x y w h p (in-rect false false x y w h p i))))
+    (λ e. each-all s len (rect l t x y w h) (λ p i. all-each s len (rect false false x y w h) e p (rect-in false false x y w h p (in-rect l t x y w h p i))))
 
 -- ---- lists of pixels that have an upper left and a lower right one among them
 

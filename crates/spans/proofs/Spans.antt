@@ -2,16 +2,17 @@
 -- Assumes nothing.
 use mathlib.Core.Path.{_≡_, refl, sym, ap, ap₂, subst, _∙_}
 use mathlib.Core.Logic.{_⊎_, ⊎-elim}
-use mathlib.Core.Bool.{Bool}
+use mathlib.Core.Bool.{Bool, true, _&&_}
 use mathlib.Core.List.{List, [], _∷_, List·Memᴰ, List·Memᴰ·head, List·Memᴰ·tail, List·Memᴰ·not-nil, List·Memᴰ·cases-cons, List·Memᴰ·append-cases, Memᴰ·append-left, Memᴰ·append-right, Memᴰ·cast}
 use Prim.Native.Nat.{ℕ, zero, suc, _+_, _-_, _<_, _≤_}
 use native.Mathlib.Nat.{le-antisymm, add-zero}
 use native.Mathlib.Omega.{arith}
 use native.Mathlib.Decide.{decLe}
+use borrow.Author.Tests.{lt-ltb}
 use Rattle.surface.specs.declared.Surface.{Surface}
 use Rattle.surface.specs.Place.{byteAt, rowPixels, firstByte, byteCount}
 use Rattle.surface.specs.Pixels.{Px, px, rect}
-use Rattle.spans.specs.Span.{addressesOf, addresses, span, lowest, highest, spanned, spanOf}
+use Rattle.spans.specs.Span.{addressesOf, addresses, span, lowest, highest, spanned, spanOf, meet}
 use Rattle.surface.proofs.Rows.{byteAt-mono}
 use Rattle.surface.proofs.OnLaws.{some-byte, in-row, lastByte, last-in-row, firstByte-mono}
 use Rattle.surface.proofs.Lists.{In, by-cases}
@@ -105,6 +106,13 @@ spanned-holds (b ∷ l) a i = (lowest-le b l a i, omega (arith, highest-ge b l a
 pub span-holds : (s : Surface) (ps : List Px) (p : Px) (a : ℕ) → In p ps → IsByte s p a → (spanOf s ps .low ≤ a) × (a < spanOf s ps .past)
 unfolding spanOf
 span-holds s ps p a i b = spanned-holds (addresses s ps) a (addresses-in s ps p a i b)
+
+-- so two lists with a byte in common have spans that meet
+pub spans-meet : (s t : Surface) (ps qs : List Px) (p q : Px) (a : ℕ) → In p ps → In q qs → IsByte s p a → IsByte t q a → meet (spanOf s ps) (spanOf t qs) ≡ true
+spans-meet s t ps qs p q a i j b c =
+    let u = span-holds s ps p a i b in
+    let v = span-holds t qs q a j c in
+    ap₂ _&&_ (lt-ltb (spanOf s ps .low) (spanOf t qs .past) (omega arith)) (lt-ltb (spanOf t qs .low) (spanOf s ps .past) (omega arith))
 
 -- an empty rectangle has an empty span
 pub rect-empty : (l t : Bool) (s : Surface) (x y w h : ℕ) → (0 < w → 0 < h → ⊥) → spanOf s (rect l t x y w h) ≡ span 0 0

@@ -1,16 +1,14 @@
 -- A stretch reads nothing that it writes, since the spans do not meet: pixels in their turn have their sources as they were.
 -- Assumes nothing.
-use mathlib.Core.Path.{_≡_, refl, sym, ap₂, subst, _∙_}
-use mathlib.Core.Bool.{true, false, _&&_, false≢true}
+use mathlib.Core.Path.{_≡_, refl, sym, subst, _∙_}
+use mathlib.Core.Bool.{true, false, false≢true}
 use mathlib.Core.List.{List, [], _∷_, map, Memᴰ·map, List·Memᴰ·head}
 use Prim.Native.Nat.{ℕ, _+_, _-_, _<_}
 use native.Mathlib.Omega.{arith}
-use borrow.Author.Tests.{lt-ltb}
 use Rattle.surface.specs.Pixels.{Px, px, rect}
 use Rattle.surface.proofs.Lists.{In, pairs-all}
 use Rattle.surface.proofs.Rects.{same-px, in-rect}
-use Rattle.spans.specs.Span.{spanOf}
-use Rattle.spans.proofs.Spans.{IsByte, span-holds}
+use Rattle.spans.proofs.Spans.{IsByte, spans-meet}
 use Rattle.paint.specs.Paint.{state, paint}
 use Rattle.paint.proofs.Settle.{Local, Unread, in-place}
 use Rattle.paint.proofs.Turns.{paint-same}
@@ -44,11 +42,7 @@ module _ {t : Stretch} {x y w h len : ℕ} (can : CanStretch t x y w h len) wher
 
   not-read : (p q : Px) → In p all → In q all → Unread (t .ink .target) (Reads t) p q
   not-read p q i j a r b =
-      let S = spanOf (t .ink .target) all in
-      let R = spanOf (t .from) (map (taken t) all) in
-      let u = span-holds (t .ink .target) all p a i b in
-      let v = span-holds (t .from) (map (taken t) all) (taken t q) a (Memᴰ·map (taken t) j) r in
-      false≢true (sym (can .apart) ∙ ap₂ (λ c d. c && d) (lt-ltb (S .low) (R .past) (omega arith)) (lt-ltb (R .low) (S .past) (omega arith)))
+      false≢true (sym (can .apart) ∙ spans-meet (t .ink .target) (t .from) all (map (taken t) all) p (taken t q) a i (Memᴰ·map (taken t) j) b r)
 
   pub in-turn : (pattern m : List ℕ) → paint (t .ink .target) (stretchedInTurn t pattern all) (state m 0) ≡ paint (t .ink .target) (stretched t pattern m all) (state m 0)
   in-turn pattern m =
