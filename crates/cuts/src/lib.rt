@@ -3,7 +3,7 @@ use paint::Clip;
 use registers::Regs;
 ghost use mathlib.Core.Path.{_≡_};
 ghost use Prim.Native.Nat.{_-_, _^_, _<_, _≤_};
-ghost use Rattle.cuts.specs.Cut.{clipBy, clipOf, firstOf, cutLow, cutSize, cutAt, fillCut, copyCut, Axis, CutRange};
+ghost use Rattle.cuts.specs.Cut.{bit, clipBy, clipOf, firstOf, cutLow, cutSize, cutAt, fillCut, copyCut, Axis, CutRange};
 
 // What the clip leaves of a rectangle: its first pixel and size, and the position of its first source pixel, counted from 16384.
 pub struct Cut {
@@ -106,14 +106,28 @@ pub fn fill_cut(r: Regs) -> Cut
     )
 }
 
+// Whether a copy begins at the right column.
+pub fn from_right(r: Regs) -> bool
+    ensures { λ b. ⌜ b ≡ bit (r .command) 14 ⌝ }
+{
+    r.command / 0x4000 % 2 == 1
+}
+
+// Whether it begins at the bottom row.
+pub fn from_bottom(r: Regs) -> bool
+    ensures { λ b. ⌜ b ≡ bit (r .command) 15 ⌝ }
+{
+    r.command / 0x8000 % 2 == 1
+}
+
 pub fn copy_cut(r: Regs) -> Cut
     ensures { λ c. ⌜ c ≡ copyCut r ⌝ }
 {
     let clip = decode_clip(r);
     let w = r.dstSize % 0x2000;
     let h = r.dstSize / 0x1_0000 % 0x2000;
-    let right = r.command / 0x4000 % 2 == 1;
-    let bottom = r.command / 0x8000 % 2 == 1;
+    let right = from_right(r);
+    let bottom = from_bottom(r);
     let x = first_of(right, positions::place13(r.dstXY), w);
     let y = first_of(bottom, positions::place13(r.dstXY / 0x1_0000), h);
     let sx = first_of(right, positions::place13(r.srcXY), w);

@@ -10,6 +10,12 @@ use Rattle.cuts.proofs.copy_cut.Tie as tie
 decode-clip-requires : tie.Need-decode-clip-requires
 decode-clip-requires c κs = search needs
 
+from-right-requires : tie.Need-from-right-requires
+from-right-requires c κs = search needs
+
+from-bottom-requires : tie.Need-from-bottom-requires
+from-bottom-requires c κs = search needs
+
 place13-requires : tie.Need-place13-requires
 place13-requires c κs = search needs
 
@@ -42,6 +48,8 @@ unfolding copyCut
 returns c =
     rw (
       ← c .before .before .before .before .before .before .before .before .before .before .before .before .before .before .before .decode-clip .ensures,
+      ← c .before .before .before .before .before .before .before .before .before .before .before .before .from-right .ensures,
+      ← c .before .before .before .before .before .before .before .before .before .before .before .from-bottom .ensures,
       ← c .before .before .before .before .before .before .before .before .before .before .place13 .ensures,
       ← c .before .before .before .before .before .before .before .place132 .ensures,
       ← c .before .before .before .before .before .place133 .ensures,
@@ -58,6 +66,8 @@ copy-cut-spec =
     tie.close
     (tie.spec
     decode-clip-requires
+    from-right-requires
+    from-bottom-requires
     place13-requires
     first-of-requires
     place13-requires-2
