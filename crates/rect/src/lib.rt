@@ -144,7 +144,7 @@ fn fill_rect(mem: &mut [u8], t: Task, pattern: [u8; 256], w: u32, h: u32) -> u32
     if !t.ink.dstKey {
         return tint::tint_rows(mem, t.ink, pattern, t.x, t.y, w, h);
     }
-    sweep::paint_rows(mem, t, pattern, w, h, false)
+    sweep::paint_rows(mem, t, pattern, w, h, false, false)
 }
 
 // A rectangle copied, each pixel from the source as it was before.
@@ -161,9 +161,9 @@ fn copy_rect(mem: &mut [u8], t: Task, pattern: [u8; 256], w: u32, h: u32) -> u32
         return w * h;
     }
     if is_straight(t) {
-        return straight::straight_rows(mem, straight_of(t), w, h, back);
+        return straight::straight_rows(mem, straight_of(t), w, h, back, back);
     }
-    sweep::paint_rows(mem, t, pattern, w, h, back)
+    sweep::paint_rows(mem, t, pattern, w, h, back, back)
 }
 
 // A rectangle filled or copied; the count of pixels written.

@@ -154,16 +154,16 @@ fn straight_row(mem: &mut [u8], t: Straight, w: u32, j: u32, back: bool, n: u32)
     }
 }
 
-// A straight copy, row by row from the upper left corner or from the lower right one; the count of its pixels.
-pub fn straight_rows(mem: &mut [u8], t: Straight, w: u32, h: u32, back: bool) -> u32
+// A straight copy, row by row from the corner that the two flags name; the count of its pixels.
+pub fn straight_rows(mem: &mut [u8], t: Straight, w: u32, h: u32, toLeft: bool, toTop: bool) -> u32
     requires { ⌜ CanCopy t w h (length (now mem)) ⌝ }
-    ensures { λ r. ⌜ state (now (mem .exit)) r ≡ paint (t .target) (straightly t (rect back back (t .x) (t .y) w h)) (state (now (mem .entry)) 0) ⌝ }
+    ensures { λ r. ⌜ state (now (mem .exit)) r ≡ paint (t .target) (straightly t (rect toLeft toTop (t .x) (t .y) w h)) (state (now (mem .entry)) 0) ⌝ }
 {
     let mut n = 0;
     let mut i = 0;
     while i < h {
-        let j = paint::place(back, 0, h, i);
-        n = straight_row(mem, t, w, j, back, n);
+        let j = paint::place(toTop, 0, h, i);
+        n = straight_row(mem, t, w, j, toLeft, n);
         i += 1;
     }
     n

@@ -121,10 +121,18 @@ fn paint_row(
     paint_across(mem, t, source, target, quads, bits, w, y, back, n)
 }
 
-// A rectangle, row by row from the upper left corner or from the lower right one.
-pub fn paint_rows(mem: &mut [u8], t: Task, pattern: [u8; 256], w: u32, h: u32, back: bool) -> u32
+// A rectangle, row by row from the corner that the two flags name.
+pub fn paint_rows(
+    mem: &mut [u8],
+    t: Task,
+    pattern: [u8; 256],
+    w: u32,
+    h: u32,
+    toLeft: bool,
+    toTop: bool,
+) -> u32
     requires { ⌜ CanPaint t w h (length (now mem)) ⌝ }
-    ensures { λ r. ⌜ state (now (mem .exit)) r ≡ paint (t .ink .target) (inTurn t pattern (rect back back (t .x) (t .y) w h)) (state (now (mem .entry)) 0) ⌝ }
+    ensures { λ r. ⌜ state (now (mem .exit)) r ≡ paint (t .ink .target) (inTurn t pattern (rect toLeft toTop (t .x) (t .y) w h)) (state (now (mem .entry)) 0) ⌝ }
 {
     let ink = t.ink;
     let source = keys::range_of(t.from.bytes, ink.srcMin, ink.srcMax);
@@ -134,8 +142,20 @@ pub fn paint_rows(mem: &mut [u8], t: Task, pattern: [u8; 256], w: u32, h: u32, b
     let mut n = 0;
     let mut j = 0;
     while j < h {
-        let y = paint::place(back, t.y, h, j);
-        n = paint_row(mem, t, source, target, masks, blank, pattern, w, y, back, n);
+        let y = paint::place(toTop, t.y, h, j);
+        n = paint_row(
+            mem,
+            t,
+            source,
+            target,
+            masks,
+            blank,
+            pattern,
+            w,
+            y,
+            toLeft,
+            n,
+        );
         j += 1;
     }
     n

@@ -15,13 +15,13 @@ use Rattle.sweep.proofs.paint_rows.Statement.{statement}
 use Rattle.sweep.proofs.paint_rows.Tie as tie
 
 abbrev Inv-loop : tie.InvT-loop
-Inv-loop mem₀ t pattern w h back source target masks blank n₀ j₀ mem n j =
-    (paint (t .ink .target) (inTurn t pattern (rows-left back back (t .x) (t .y) w h j)) (state mem n)
-    ≡ paint (t .ink .target) (inTurn t pattern (rect back back (t .x) (t .y) w h)) (state mem₀ 0))
+Inv-loop mem₀ t pattern w h toLeft toTop source target masks blank n₀ j₀ mem n j =
+    (paint (t .ink .target) (inTurn t pattern (rows-left toLeft toTop (t .x) (t .y) w h j)) (state mem n)
+    ≡ paint (t .ink .target) (inTurn t pattern (rect toLeft toTop (t .x) (t .y) w h)) (state mem₀ 0))
     × (length mem ≡ length mem₀) × (j ≤ h) × (n ≤ 8192 * j)
 
 abbrev μ-loop : tie.MeasureT-loop
-μ-loop mem₀ t pattern w h back source target masks blank n₀ j₀ mem n j = h - j
+μ-loop mem₀ t pattern w h toLeft toTop source target masks blank n₀ j₀ mem n j = h - j
 
 range-of-requires : tie.Need-range-of-requires Inv-loop μ-loop
 range-of-requires c κs = search needs
@@ -38,7 +38,7 @@ quads-of-requires c κs = search needs
 loop-holds : tie.Need-loop-holds Inv-loop μ-loop
 loop-holds c =
     let a = c .before .before .before .before .before .before .args in (
-      ap (λ (ps : List Px). paint (a .t .ink .target) (inTurn (a .t) (a .pattern) ps) (state (a .mem .now) 0)) (rows-whole (a .back) (a .back) (a .t .x) (a .t .y) (a .w) (a .h)),
+      ap (λ (ps : List Px). paint (a .t .ink .target) (inTurn (a .t) (a .pattern) ps) (state (a .mem .now) 0)) (rows-whole (a .toLeft) (a .toTop) (a .t .x) (a .t .y) (a .w) (a .h)),
       refl,
       omega arith,
       omega arith,
@@ -52,7 +52,7 @@ paint-row-requires c κs =
     let a = c .before .before .before .before .before .before .before .before .before .before .args in
     let k = c .before .before .before .loop in
     let p = c .before .before .before .before .before .before .before .before .before .before .pre in
-    let in-rows = nth-in (a .back) (a .t .y) (a .h) (k .j) (c .before .before .loop-test .taken) in
+    let in-rows = nth-in (a .toTop) (a .t .y) (a .h) (k .j) (c .before .before .loop-test .taken) in
     let e = c .before .place .ensures in
     rw (k .inv .1) (
       can-row p (c .before .place .result) (k .n) (omega arith) (omega arith) (omega (arith, p .wide, p .high)),
@@ -70,7 +70,7 @@ loop-again c =
     let a = c .before .before .before .before .before .before .before .before .before .before .before .before .before .args in
     let k = c .before .before .before .before .before .before .loop in
     let p = c .before .before .before .before .before .before .before .before .before .before .before .before .before .pre in (
-      rows-again (a .t .ink .target) (λ p. touch p (λ now. giving (a .t) (a .pattern) now now p)) (a .back) (a .back) (a .t .x) (a .t .y) (a .w) (a .h) (k .j)
+      rows-again (a .t .ink .target) (λ p. touch p (λ now. giving (a .t) (a .pattern) now now p)) (a .toLeft) (a .toTop) (a .t .x) (a .t .y) (a .w) (a .h) (k .j)
           (c .before .before .before .before .place .result) (state (k .mem) (k .n)) _ (c .before .before .before .before .before .loop-test .taken) (c .before .before .before .before .place .ensures) (c .before .before .paint-row .ensures .0) ∙ k .inv .0,
       c .before .before .paint-row .kept .0 ∙ k .inv .1,
       omega arith,
@@ -84,7 +84,7 @@ returns : tie.Need-returns Inv-loop μ-loop
 returns c =
     let a = c .before .before .before .before .before .before .before .before .args in
     let k = c .before .loop in
-    rows-end (a .t .ink .target) (λ p. touch p (λ now. giving (a .t) (a .pattern) now now p)) (a .back) (a .back) (a .t .x) (a .t .y) (a .w) (a .h) (k .j)
+    rows-end (a .t .ink .target) (λ p. touch p (λ now. giving (a .t) (a .pattern) now now p)) (a .toLeft) (a .toTop) (a .t .x) (a .t .y) (a .w) (a .h) (k .j)
     (state (k .mem) (k .n)) (c .loop-test .left) ∙ k .inv .0
 
 pub paint-rows-spec : {M : Type 1} → statement M
