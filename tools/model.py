@@ -1,7 +1,8 @@
-"""A plain model of the 2D engine, written from the scope paper and the first change request
-alone, to be read beside them and compared with other programs; it is not meant to be fast.
+"""A plain model of the 2D engine, written from the scope paper and the change requests alone,
+to be read beside them and compared with other programs; it is not meant to be fast.
 
-Names in quotes in the comments are sections of the paper; "Thumbnails" is that request.
+Names in quotes in the comments are sections of the paper; "Thumbnails" is request One, and
+"The smear" request Three.
 "Point N" is a numbered open point of the source facts, part 3.3. Run as a program it plays
 a stream from its input.
 """
@@ -325,14 +326,19 @@ class Engine:
         return x, y, x + width, y + height
 
     def covered_pixels(self) -> Iterator[Pixel]:
-        """The pixels of the target rectangle or line inside the selected clip."""
+        """The pixels of the target rectangle or line inside the selected clip, in the order in
+        which they are done. By "The smear", in a plain screen copy row by row from the corner
+        that bits 14 and 15 name, along the row away from it."""
         if self.number() in (LINE, POLYLINE):
             yield from (point for point in self.points() if self.in_clip(*point))
             return
         left, top, right, bottom = self.rectangle()
         clip_left, clip_top, clip_right, clip_bottom = self.clip()
-        for y in range(max(top, clip_top), min(bottom, clip_bottom)):
-            for x in range(max(left, clip_left), min(right, clip_right)):
+        columns = range(max(left, clip_left), min(right, clip_right))
+        rows = range(max(top, clip_top), min(bottom, clip_bottom))
+        from_right, from_bottom = (self.number() == COPY and self.flag(bit) for bit in (14, 15))
+        for y in reversed(rows) if from_bottom else rows:
+            for x in reversed(columns) if from_right else columns:
                 yield x, y
 
     def source_of(self, x: int, y: int) -> Pixel:
@@ -362,11 +368,10 @@ class Engine:
             return 0, self.feed(mem, data)
         if self.number() in (LINE, POLYLINE):
             return 0, self.draw_line(mem)
-        before = bytes(mem)  # a copy gives each pixel from the source as it was before the command
         count = 0
         for x, y in covered:
-            if self.number() in FROM_MEMORY:
-                count += self.draw_from_source(mem, x, y, self.source().get(before, *self.source_of(x, y)))
+            if self.number() in FROM_MEMORY:  # by "The smear" each read sees the writes before it
+                count += self.draw_from_source(mem, x, y, self.source().get(mem, *self.source_of(x, y)))
             else:  # a fill's source is colorFore; its transparency is by the mono pattern
                 bit = self.mono_pattern_bit(x, y) if self.flag(13) else None
                 count += self.draw(mem, x, y, self.colour(1), bit, False)

@@ -23,12 +23,14 @@ from pathlib import Path
 from model import (BUILT, COMMAND, COPY, FILL, FROM_MEMORY, HOST, KEPT, LIMIT, LINE, NOP, OFFSETS, POLYLINE, SOURCE_BITS,
                    STRETCH, Engine, allowed, bits, halves, is_launch, row_bytes)
 
-MIXED, STRETCHED = 336, 64  # streams of all commands, and after them streams of stretched copies
-STREAMS, LENGTH = MIXED + STRETCHED, 72  # streams, and the least number of writes of an ordinary one
-SWEEPS = 4  # so many streams of each of the two begin with one
+MIXED, STRETCHED, SMEARED = 336, 64, 96  # streams of all commands, after them of stretched copies, then of smears
+SMEARS = MIXED + STRETCHED  # the first of the last
+STREAMS, LENGTH = SMEARS + SMEARED, 72  # streams, and the least number of writes of an ordinary one
+SWEEPS = 4  # so many streams of each of the first two begin with one
+BY_DISTANCE = 64  # so many of the last are one: a format, a corner and a kind of copy at every distance
 TINY = (0, 1, 3, 64)  # lengths of memory
 ROOM = 65_536  # the longest memory there is
-BIG = {MIXED - 5: ROOM, MIXED - 3: LIMIT, MIXED - 2: LIMIT + 1, MIXED - 1: ROOM, STREAMS - 2: ROOM, STREAMS - 1: ROOM}
+BIG = {MIXED - 5: ROOM, MIXED - 3: LIMIT, MIXED - 2: LIMIT + 1, MIXED - 1: ROOM, SMEARS - 2: ROOM, SMEARS - 1: ROOM}
 EVERYTHING = ("fill", "copy", "stretch", "host", "line", "wild")
 THEMES = (("fill",), ("copy", "copy", "touch"), ("host",), ("line",), ("copy", "host"), EVERYTHING)
 STRETCHES = ("stretch", "stretch", "stretch", "far", "meet")  # the theme of streams of stretched copies
@@ -226,6 +228,41 @@ class Maker:
         self.set(clip0Min=0, clip0Max=xy(self.columns, self.rows), dstSize=xy(width, height), dstXY=xy(0, y), srcXY=0)
         self.set(srcBaseAddr=base, srcFormat=FORMAT[depth] << 16 | stride)
         self.put(COMMAND, self.word(COPY, 0) & ~(1 << 23) | 0x100)
+
+    def smear(self) -> None:
+        """A copy within the target's surface, to a place a few pixels off, by every corner. At times the clip takes off its
+        first columns or rows, or it is the packed source that makes the same surface."""
+        same = [packing for packing in (1, 2, 3) if packed(self.columns, self.depth, packing) == self.stride]
+        packing = self.pick((0, 0, *same))
+        across, down = (self.pick((-3, -2, -1, 0, 0, 1, 2, 3)) for _ in range(2))
+        width = self.columns if packing else self.near(1, self.columns - abs(across))
+        height = self.near(1, self.rows - abs(down))
+        x = across if packing else self.near(max(across, 0), self.columns - width + min(across, 0))
+        y = self.near(max(down, 0), self.rows - height + min(down, 0))
+        clip = self.cut(x, y, width, height)
+        if packing:  # both rectangles reach off the surface, and the clip leaves what is on it
+            self.set(**{clip + "Min": xy(max(across, 0), 0), clip + "Max": xy(self.columns + min(across, 0), self.rows)})
+        word = self.word(COPY) & ~(1 << 23) | (clip == "clip1") << 23
+        right, below = (width - 1) * bits(word, 14, 14), (height - 1) * bits(word, 15, 15)
+        self.set(srcBaseAddr=self.base, srcFormat=packing << 22 | FORMAT[self.depth] << 16 | self.stride,
+                 dstSize=xy(width, height), dstXY=xy(x + right, y + below))
+        self.carry(word, "srcXY", [xy(x - across + right, y - down + below)] * self.near(1, 2))
+
+    def every_distance(self, which: int) -> None:
+        """Copies within one surface by up to three pixels to each side, each in a place of its own: of one format, from one
+        corner, plain, with a raster operation or with keys."""
+        depth, turn, kind = (8, 16, 24, 32)[which % 4], which // 4 % 4, which // 16
+        stride, (width, height) = 100 * depth // 8, (4, 3)
+        operation, extra = ((0xCC, 0), (0x66, 0), (0xCC, 1), (0x5A, 3))[kind]
+        self.set(dstBaseAddr=0, dstFormat=FORMAT[depth] << 16 | stride, clip0Max=xy(100, 64), srcBaseAddr=0,
+                 srcFormat=FORMAT[depth] << 16 | stride, dstSize=xy(width, height), commandExtra=extra, rop=0x5AAA66,
+                 srcColorkeyMax=0x9FBFBF, dstColorkeyMin=0x202020, dstColorkeyMax=0xFFFFFF)
+        self.put(COMMAND, operation << 24 | turn << 14 | COPY)
+        right, below = (width - 1) * (turn & 1), (height - 1) * (turn >> 1)
+        for place, (across, down) in enumerate(itertools.product(range(-3, 4), repeat=2)):
+            x, y = place % 10 * 10 + 3 + right, place // 10 * 9 + 3 + below
+            self.set(dstXY=xy(x + across, y + down))
+            self.launch(xy(x, y))
 
     def share(self, size: int, covered: range, most: int) -> int:
         """A side of the source: one, as the target's, less, or more, up to what keeps the taken pixels below most."""
@@ -510,9 +547,13 @@ def note(tally: Counter, before: dict[str, int], waited: bool, offset: int, word
         tally["format pairs", f"{name} {source.depth}-{target.depth}"] += 1
         tally["packing", f"{name} {bits(before['srcFormat'], 23, 22)}"] += 1
     if kind == COPY and count:
+        corner = bits(asked.registers["command"], 15, 14)
         apart = "between surfaces" if source != target else "one surface, apart"
         overlap = source == target and abs(across) < width and abs(down) < height
-        tally["copies", f"overlap {way} bits {bits(command, 15, 14)}" if overlap else apart] += 1
+        tally["copies", f"overlap {way} bits {corner}" if overlap else apart] += 1
+        past_x, past_y = -across if corner & 1 else across, -down if corner & 2 else down
+        if overlap and (past_y > 0 or past_y == 0 and past_x > 0):
+            note_smear(tally, asked, corner, max(abs(across), abs(down)))
     if kind == STRETCH and count:
         tally["stretches", "between surfaces" if source != target else "one surface"] += 1
         for axis, size, side in zip(("columns", "rows"), (width, height), halves(before["srcSize"])):
@@ -525,11 +566,29 @@ def note(tally: Counter, before: dict[str, int], waited: bool, offset: int, word
             tally["stretches", f"clipped {edge}"] += cut
 
 
+def note_smear(tally: Counter, asked: Engine, corner: int, distance: int) -> None:
+    """Counts a copy in which some pixel is read after it was written."""
+    left, top, right, bottom = asked.clip()
+    first_x, first_y, past_x, past_y = asked.rectangle()
+    tally["smears", f"at {asked.target().depth} from corner {corner}"] += 1
+    tally["smears", f"by {distance}" if distance < 4 else "by more"] += 1
+    tally["smears", f"keys {bits(asked.registers['commandExtra'], 1, 0)}"] += 1
+    tally["smears", "another operation"] += bits(asked.registers["command"], 31, 24) != 0xCC
+    tally["smears", "packed"] += bits(asked.registers["srcFormat"], 23, 22) > 0
+    tally["smears", "first column clipped"] += past_x > right if corner & 1 else first_x < left
+    tally["smears", "first row clipped"] += past_y > bottom if corner & 2 else first_y < top
+
+
 def build(k: int, tally: Counter) -> Maker:
     """Stream k, by its number alone."""
+    if SMEARS <= k < SMEARS + BY_DISTANCE:
+        maker = Maker(k, 18_000, tally)
+        maker.every_distance(k - SMEARS)
+        return maker
     rng = random.Random(1000 + k)
     size = TINY[k // 19 % 4] if k % 19 == 7 else rng.randint(1024, rng.choice((2048, 4096, 16384)))
-    maker, theme = Maker(k, BIG.get(k, size), tally), THEMES[k % len(THEMES)] if k < MIXED else STRETCHES
+    theme = THEMES[k % len(THEMES)] if k < MIXED else STRETCHES if k < SMEARS else ("smear",)
+    maker = Maker(k, BIG.get(k, size), tally)
     for offset in range(0x100, 0x200, 4) if theme == ("fill",) or k >= MIXED and k % 4 == 0 else ():
         maker.put(offset, maker.draw(32))
     maker.scene()

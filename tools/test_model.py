@@ -1,7 +1,8 @@
 """Samples and vectors for the model: the scope paper's sheets, part 3.5's vectors V1 to V9,
-part 3.3's open points (their numbers in the comments) and the stretched copy of the first
-change request, worked out by hand. Run: python3 test_model.py"""
+part 3.3's open points (their numbers in the comments), and of the change requests the
+stretched copy and the smear, worked out by hand. Run: python3 test_model.py"""
 
+import itertools
 import struct
 import unittest
 
@@ -182,9 +183,6 @@ class OpenPoints(unittest.TestCase):
         self.assertEqual(card.get("clip0Max"), 0x0FFF0FFF)
         Card(TO8 + "10=1 54=8 68=10008 70=CC000101+8 68=10009 70=CC000101!8")  # 24
         Card(DOT + "54=10020 5C=1FFF 70=101!7 5C=1FFF0000 70=101!7 08=1 70=101")  # 20, 37
-        for xy, command, after in (("5C=0 6C=1", "CC000101", b"aabce"), ("5C=3 6C=4", "CC004101", b"abbcd")):
-            card = Card(TO8 + f"54=10020 68=10003 {xy} 70={command}+3", start=b"abcde")
-            self.assertEqual(bytes(card.mem[:5]), after)
         card = Card(TO8 + "54=10020 6C=1FFF1FFF 5C=1FFF1FFF 68=50000 70=CC00CD01")  # 38, 39, 41
         self.assertEqual(card.get("dstXY"), 0x00041FFF)
 
@@ -241,6 +239,55 @@ class OpenPoints(unittest.TestCase):
         self.assertEqual(play(example + stream("101=0") + b"\0"), "refused 2 at 6\n")
         grey = stream("0C=10001 14=30002 68=10001 64=8410 70=CC000105")
         self.assertEqual(play(grey), "P3\n1 1\n255\n132 130 132\n")
+
+
+def smeared(start, text, size="10003", along=1):
+    """The row of these bytes on one surface of 8 bpp after a copy of three of them; with size 30001 and along 32 the column."""
+    spread = bytes(along - 1).join(bytes([byte]) for byte in start)
+    return bytes(Card(TO8 + f"54=10020 68={size} {text}+3", start=spread).mem[:along * len(start):along])
+
+
+class Smears(unittest.TestCase):
+    def test_rows_and_columns(self):  # bit 14 turns a row round, bit 15 a column
+        for source, target, near_first, far_first in ((0, 1, b"AAAA", b"AABC"), (1, 0, b"BCDD", b"DDDD")):
+            for turn, (axis, size, along) in itertools.product(range(4), ((0, "10003", 1), (1, "30001", 32))):
+                far = turn >> axis & 1
+                place = [at + 2 * far << 16 * axis for at in (source, target)]
+                text = f"5C={place[0]:X} 6C={place[1]:X} 70={0xCC000101 | turn << 14:X}"
+                self.assertEqual(smeared(b"ABCD", text, size, along), far_first if far else near_first)
+
+    def test_keys_read_likewise(self):
+        keyed = "5C=0 6C=1 38={} {}=2 {}=2 30={} 70=CC000101"
+        self.assertEqual(smeared(b"\1\2\3\4", keyed.format(1, 18, "1C", "AA00")), b"\1\1\1\1")
+        self.assertEqual(smeared(b"\1\2\3\4", keyed.format(2, 20, 24, "AA")), b"\1\2\2\2")
+
+    def test_operation_sees_what_was_written(self):  # 66: source xor target
+        self.assertEqual(smeared(b"\1\2\4\x08", "5C=0 6C=1 70=66000101"), b"\1\3\7\x0F")
+
+    def test_clip(self):  # the pixels that it leaves out are neither written nor looked at
+        for clip, after in (("08=2", b"ABBB"), ("0C=FFF0003", b"AAAD")):
+            card = Card(TO8 + f"54=10020 68=10003 5C=0 6C=1 {clip} 70=CC000101+2", start=b"ABCD")
+            self.assertEqual(bytes(card.mem[:4]), after)
+
+    def test_one_surface_only(self):  # another step or base is another surface, and meets: 8
+        for fault in ("54=10021", "34=1 54=10020"):
+            Card(TO8 + f"68=10003 5C=0 6C=1 {fault} 70=CC000101!8", start=b"ABCD")
+        packed = Card("0C=FFF0003 14=10003 54=410000 68=10003 5C=0 6C=1 70=CC000101+2", start=b"ABCD")
+        self.assertEqual(bytes(packed.mem[:4]), b"AAAD")  # packed to the same step: one surface
+
+    def test_every_distance(self):
+        """Within one surface a copy whose source is not behind, or shares no pixel, is as it was before; any other is not."""
+        start = bytes(i * 5 % 251 + 1 for i in range(1024))
+        for toleft, totop, across, down in itertools.product((0, 1), (0, 1), range(-4, 5), range(-4, 5)):
+            corner, turn = (2 * toleft, 2 * totop), toleft << 14 | totop << 15
+            place = [8 + corner[1] + y << 16 | 8 + corner[0] + x for x, y in ((0, 0), (across, down))]
+            card = Card(TO8 + f"54=10020 68=30003 5C={place[0]:X} 6C={place[1]:X} 70={0xCC000101 | turn:X}+9", start=start)
+            as_it_was = bytearray(start)
+            for i, j in itertools.product(range(3), repeat=2):
+                as_it_was[32 * (8 + down + j) + 8 + across + i] = start[32 * (8 + j) + 8 + i]
+            right, below = (-across, across)[not toleft], (-down, down)[not totop]
+            late = max(abs(across), abs(down)) < 3 and (below > 0 or below == 0 and right > 0)
+            self.assertEqual(card.mem[:1024] != as_it_was, late, (toleft, totop, across, down))
 
 
 def sizes(source, target):

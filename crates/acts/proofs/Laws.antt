@@ -1,7 +1,7 @@
 -- How a function's outcome is the definition's: a refusal, a command carried out, and the painters' conditions from the verdict.
 -- Assumes nothing.
 use mathlib.Core.Path.{_≡_, refl, sym, ap, ap₂, subst⁻¹, _∙_}
-use mathlib.Core.Bool.{Bool, true, false, false≢true}
+use mathlib.Core.Bool.{Bool, true, false}
 use mathlib.Core.List.{List, []}
 use Prim.Native.Nat.{ℕ, _<_}
 use native.Mathlib.Omega.{arith}
@@ -11,7 +11,7 @@ use Rattle.sweep.specs.declared.Task.{Task}
 use Rattle.ink.specs.declared.Ink.{Ink}
 use Rattle.paint.specs.declared.Clip.{Clip}
 use Rattle.paint.specs.Paint.{State, state, paint}
-use Rattle.sweep.specs.Copy.{asBefore, CanPaint, Orderly}
+use Rattle.sweep.specs.Copy.{inTurn, CanPaint, Orderly}
 use Rattle.scale.specs.declared.Stretch.{Stretch}
 use Rattle.scale.specs.Stretch.{stretched, CanStretch}
 use Rattle.line.specs.declared.Line.{Line}
@@ -26,7 +26,7 @@ use Rattle.registers.specs.declared.Regs.{Regs}
 use Rattle.bank.specs.declared.Bank.{Bank}
 use Rattle.cuts.specs.declared.Cut.{Cut}
 use Rattle.command.specs.Decode.{target, inkOf, plainBlit, plainOf, fillTask, copyTask, stretchOf, lineOf, feedOf}
-use Rattle.cuts.specs.Cut.{clipOf, fillCut, copyCut, covered}
+use Rattle.cuts.specs.Cut.{clipOf, fillCut, copyCut, coveredFrom, covered}
 use Rattle.table.specs.Table.{fillVerdict, copyVerdict, stretchVerdict, lineVerdict, hostVerdict}
 use Rattle.table.proofs.Stretches.{stretch-can}
 use Rattle.table.proofs.Verdicts.{fill-can, copy-can, copy-orderly, line-can, host-can, feed-sizes, words-few, plain-ink}
@@ -47,25 +47,29 @@ pub carried-out : {b b′ : Bank} {st : State} {m : List ℕ} {n : ℕ} (k : Bli
 carried-out k p q = ap₂ (λ (b : Bank) (st : State). made b k st) p q
 
 -- ---- rectangles
-pub painted-as : {t T : Task} {c C : Cut} (pattern m : List ℕ) {st : State} → t ≡ T → c ≡ C → T .x ≡ C .x → T .y ≡ C .y
-    → st ≡ paint (t .ink .target) (asBefore t pattern m (rect false false (t .x) (t .y) (c .w) (c .h))) (state m 0)
-    → st ≡ paint (T .ink .target) (asBefore T pattern m (covered C)) (state m 0)
-painted-as {t} {T} {c} {C} pattern m e f x y p =
-    p ∙ ap₂ (λ (t : Task) (c : Cut). paint (t .ink .target) (asBefore t pattern m (rect false false (t .x) (t .y) (c .w) (c .h))) (state m 0)) e f
-    ∙ ap₂ (λ (i j : ℕ). paint (T .ink .target) (asBefore T pattern m (rect false false i j (C .w) (C .h))) (state m 0)) x y
+pub painted-as : {t T : Task} {c C : Cut} {l L u U : Bool} (pattern m : List ℕ) {st : State} → t ≡ T → c ≡ C → l ≡ L → u ≡ U → T .x ≡ C .x → T .y ≡ C .y
+    → st ≡ paint (t .ink .target) (inTurn t pattern (rect l u (t .x) (t .y) (c .w) (c .h))) (state m 0)
+    → st ≡ paint (T .ink .target) (inTurn T pattern (coveredFrom L U C)) (state m 0)
+painted-as {t} {T} {c} {C} {l} {L} {u} {U} pattern m e f left top x y p =
+    p ∙ ap₂ (λ (t : Task) (c : Cut). paint (t .ink .target) (inTurn t pattern (rect l u (t .x) (t .y) (c .w) (c .h))) (state m 0)) e f
+    ∙ ap₂ (λ (l u : Bool). paint (T .ink .target) (inTurn T pattern (rect l u (T .x) (T .y) (C .w) (C .h))) (state m 0)) left top
+    ∙ ap₂ (λ (i j : ℕ). paint (T .ink .target) (inTurn T pattern (rect L U i j (C .w) (C .h))) (state m 0)) x y
 
-abbrev pub CanRect : Task → Cut → ℕ → Type 0
-CanRect t c len = CanPaint t (c .w) (c .h) len × (t .copies ≡ true → Orderly t (c .w) (c .h))
+abbrev CanFill : Task → Cut → ℕ → Type 0
+CanFill t c len = CanPaint t (c .w) (c .h) len × (t .copies ≡ false)
 
-rect-ready : {t T : Task} {c C : Cut} {len : ℕ} → t ≡ T → c ≡ C → CanRect T C len → CanRect t c len
-rect-ready {t} {T} {c} {C} {len} e f h = subst⁻¹ (λ (t : Task). CanRect t c len) e (subst⁻¹ (λ (c : Cut). CanRect T c len) f h)
-
-pub fill-ready : (r : Regs) (len : ℕ) {t : Task} {c : Cut} {v : ℕ} → t ≡ fillTask r → c ≡ fillCut r → v ≡ fillVerdict r len → v ≡ 0 → CanRect t c len
+pub fill-ready : (r : Regs) (len : ℕ) {t : Task} {c : Cut} {v : ℕ} → t ≡ fillTask r → c ≡ fillCut r → v ≡ fillVerdict r len → v ≡ 0 → CanFill t c len
 unfolding fillTask
-fill-ready r len e f g z = rect-ready e f (fill-can r len (sym g ∙ z), λ c. absurd (false≢true c))
+fill-ready r len {t} {c} e f g z = subst⁻¹ (λ (t : Task). CanFill t c len) e (subst⁻¹ (λ (c : Cut). CanFill (fillTask r) c len) f (fill-can r len (sym g ∙ z), refl))
 
-pub copy-ready : (r : Regs) (len : ℕ) {t : Task} {c : Cut} {v : ℕ} → t ≡ copyTask r → c ≡ copyCut r → v ≡ copyVerdict r len → v ≡ 0 → CanRect t c len
-copy-ready r len e f g z = rect-ready e f (copy-can r len (sym g ∙ z), λ c. copy-orderly r len (sym g ∙ z))
+abbrev CanCopy : Task → Cut → ℕ → Type 0
+CanCopy t c len = CanPaint t (c .w) (c .h) len × ((t .copies ≡ true) × Orderly t (c .w) (c .h))
+
+pub copy-ready : (r : Regs) (len : ℕ) {t : Task} {c : Cut} {v : ℕ} → t ≡ copyTask r → c ≡ copyCut r → v ≡ copyVerdict r len → v ≡ 0 → CanCopy t c len
+unfolding copyTask
+copy-ready r len {t} {c} e f g z =
+    subst⁻¹ (λ (t : Task). CanCopy t c len) e
+    (subst⁻¹ (λ (c : Cut). CanCopy (copyTask r) c len) f (copy-can r len (sym g ∙ z), (refl, copy-orderly r len (sym g ∙ z))))
 
 -- ---- stretches
 pub stretched-as : {t T : Stretch} {c C : Cut} (pattern m : List ℕ) {st : State} → t ≡ T → c ≡ C

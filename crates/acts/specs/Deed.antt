@@ -7,7 +7,7 @@ use Prim.Native.Nat.{ℕ, _+_, _<_}
 use lib.Dec.{eqb, leb, ltb}
 use lib.ListN.{length}
 use Rattle.paint.specs.Paint.{State, state, Touch, paint}
-use Rattle.sweep.specs.Copy.{asBefore}
+use Rattle.sweep.specs.Copy.{inTurn}
 use Rattle.scale.specs.Stretch.{stretched}
 use Rattle.line.specs.Line.{points, pointCount}
 use Rattle.line.specs.Stipple.{styleAfter}
@@ -18,7 +18,7 @@ use Rattle.bank.specs.declared.Bank.{Bank}
 use Rattle.bank.specs.Bank.{stored}
 use Rattle.positions.specs.Position.{steppedXY}
 use Rattle.command.specs.Decode.{target, inkOf, fillTask, copyTask, stretchOf, lineOf, penOf, feedOf}
-use Rattle.cuts.specs.Cut.{bit, number, clipOf, fillCut, copyCut, covered}
+use Rattle.cuts.specs.Cut.{bit, number, clipOf, fillCut, copyOrder, covered}
 use Rattle.table.specs.Table.{fillVerdict, copyVerdict, stretchVerdict, hostVerdict, lineVerdict}
 use Rattle.acts.specs.declared.Blit.{Blit}
 use Rattle.acts.specs.declared.Act.{Act}
@@ -36,11 +36,12 @@ unfoldable pub lineEnded : Bank → ℕ → Bank
 lineEnded b style = stored (stored b 0x40 style) 0x5c (b .regs .dstXY)
 
 -- ---- what each command touches: its covered pixels, in their order, each with what it is given
-abbrev pub touchedByFill : Bank → List ℕ → List Touch
-touchedByFill b m = asBefore (fillTask (b .regs)) (b .pattern) m (covered (fillCut (b .regs)))
+abbrev pub touchedByFill : Bank → List Touch
+touchedByFill b = inTurn (fillTask (b .regs)) (b .pattern) (covered (fillCut (b .regs)))
 
-abbrev pub touchedByCopy : Bank → List ℕ → List Touch
-touchedByCopy b m = asBefore (copyTask (b .regs)) (b .pattern) m (covered (copyCut (b .regs)))
+-- of a copy, from the corner that bits 14 and 15 name; each read sees the writes before it
+abbrev pub touchedByCopy : Bank → List Touch
+touchedByCopy b = inTurn (copyTask (b .regs)) (b .pattern) (copyOrder (b .regs))
 
 abbrev pub touchedByStretch : Bank → List ℕ → List Touch
 touchedByStretch b m = stretched (stretchOf (b .regs)) (b .pattern) m (covered (fillCut (b .regs)))
@@ -82,10 +83,10 @@ judged d b k m = cond (eqb (d .verdict) 0) d (record { verdict = d .verdict; mak
 
 -- ---- the commands
 abbrev pub filling : Bank → Blit → List ℕ → Deed
-filling b k m = record { verdict = fillVerdict (b .regs) (length m); makes = made (rectEnded b) k (paintedBy b (touchedByFill b m) m) }
+filling b k m = record { verdict = fillVerdict (b .regs) (length m); makes = made (rectEnded b) k (paintedBy b (touchedByFill b) m) }
 
 abbrev pub copying : Bank → Blit → List ℕ → Deed
-copying b k m = record { verdict = copyVerdict (b .regs) (length m); makes = made (rectEnded b) k (paintedBy b (touchedByCopy b m) m) }
+copying b k m = record { verdict = copyVerdict (b .regs) (length m); makes = made (rectEnded b) k (paintedBy b (touchedByCopy b) m) }
 
 abbrev pub stretching : Bank → Blit → List ℕ → Deed
 stretching b k m = record { verdict = stretchVerdict (b .regs) (length m); makes = made (rectEnded b) k (paintedBy b (touchedByStretch b m) m) }

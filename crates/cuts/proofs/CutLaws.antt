@@ -3,7 +3,7 @@
 use mathlib.Core.Path.{_≡_, refl, sym, ap, ap₂, _∙_}
 use mathlib.Core.Bool.{Bool, true, false, cond}
 use mathlib.Core.List.{List, [], _∷_, _++_, map, List·Memᴰ·head}
-use Prim.Native.Nat.{ℕ, zero, suc, _+_, _-_, _^_, _<_, _≤_}
+use Prim.Native.Nat.{ℕ, zero, suc, _+_, _-_, _/_, _^_, _<_, _≤_}
 use native.Mathlib.Omega.{arith}
 use Rattle.surface.specs.Pixels.{Px, px, across, rect}
 use Rattle.surface.proofs.Lists.{In}
@@ -12,7 +12,8 @@ use Rattle.paint.specs.declared.Clip.{Clip}
 use Rattle.paint.specs.Clip.{origin, Bits12}
 use Rattle.registers.specs.declared.Regs.{Regs}
 use Rattle.cuts.specs.declared.Cut.{Cut}
-use Rattle.cuts.specs.Cut.{bit, clipBy, clipOf, cutAt, needed, CutRange}
+use Rattle.positions.specs.Position.{placed}
+use Rattle.cuts.specs.Cut.{bit, width, height, clipBy, clipOf, firstOf, cutLow, cutAt, copyCut, needed, CutRange}
 
 -- ---- the clip
 pub clip-bits : (r : Regs) → Bits12 (clipOf r)
@@ -38,6 +39,23 @@ cut-bounded {c} {x} {y} {w} {h} {sx} {sy} range = record {
   sourceWide = omega (arith, range, range .clip);
   sourceHigh = omega (arith, range, range .clip);
 }
+
+-- ---- a copy's source is as far from what the clip leaves as srcXY is from dstXY
+
+-- on one axis: n places that begin or end at `at`, and their source
+axis-shift : (last : Bool) (least at from n : ℕ) → n ≤ at → n ≤ from
+    → firstOf last from n + (cutLow least (firstOf last at n) - firstOf last at n) + at ≡ origin + (cutLow least (firstOf last at n) - origin) + from
+axis-shift false least at from n h l = omega arith
+axis-shift true least at from n h l = omega arith
+
+module _ (r : Regs) where
+  pub copy-columns : copyCut r .sx + placed (r .dstXY) ≡ origin + copyCut r .x + placed (r .srcXY)
+  unfolding copyCut cutAt
+  copy-columns = axis-shift (bit (r .command) 14) (clipOf r .left) (placed (r .dstXY)) (placed (r .srcXY)) (width r) (omega arith) (omega arith)
+
+  pub copy-rows : copyCut r .sy + placed (r .dstXY / 2 ^ 16) ≡ origin + copyCut r .y + placed (r .srcXY / 2 ^ 16)
+  unfolding copyCut cutAt
+  copy-rows = axis-shift (bit (r .command) 15) (clipOf r .top) (placed (r .dstXY / 2 ^ 16)) (placed (r .srcXY / 2 ^ 16)) (height r) (omega arith) (omega arith)
 
 -- ---- the source pixels are a rectangle too
 module _ (f : Px → Px) (a b x y : ℕ) where

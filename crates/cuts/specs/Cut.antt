@@ -75,9 +75,16 @@ copyCut r =
     (firstOf (bit (r .command) 14) (placed (r .srcXY)) (width r))
     (firstOf (bit (r .command) 15) (placed (r .srcXY / 2 ^ 16)) (height r))
 
--- the covered pixels of what the clip leaves, and the source positions that they need
+-- the covered pixels of what the clip leaves, from the corner that two flags name, and from the upper left one; and the source positions that they need
+abbrev pub coveredFrom : Bool → Bool → Cut → List Px
+coveredFrom toLeft toTop c = rect toLeft toTop (c .x) (c .y) (c .w) (c .h)
+
 abbrev pub covered : Cut → List Px
-covered c = rect false false (c .x) (c .y) (c .w) (c .h)
+covered c = coveredFrom false false c
+
+-- of a copy, in its order: from the corner that bits 14 and 15 name
+abbrev pub copyOrder : Regs → List Px
+copyOrder r = coveredFrom (bit (r .command) 14) (bit (r .command) 15) (copyCut r)
 
 abbrev pub needed : Cut → List Px
 needed c = map (λ p. px (c .sx + (p .x - c .x)) (c .sy + (p .y - c .y))) (covered c)

@@ -17,10 +17,11 @@ use Rattle.surface.specs.Pixels.{Px}
 use Rattle.spans.specs.Span.{allOn, spanOf, meet}
 use Rattle.surface.proofs.Lists.{In, by-cases}
 use Rattle.surface.proofs.Rects.{rect-in}
+use Rattle.spans.proofs.Corner.{any-corner}
 use Rattle.sweep.specs.declared.Task.{Task}
 use Rattle.paint.specs.Clip.{origin}
 use Rattle.paint.specs.Paint.{state, Touch, paint}
-use Rattle.sweep.specs.Copy.{giving, asBefore}
+use Rattle.sweep.specs.Copy.{giving, inTurn}
 use Rattle.scale.specs.Stretch.{stretchGiving}
 use Rattle.paint.proofs.ClipLaws.{in-clip}
 use Rattle.paint.proofs.Frame.{pixels-of}
@@ -37,7 +38,7 @@ use Rattle.registers.specs.Regs.{putReg}
 use Rattle.bank.specs.Bank.{stored, patterned}
 use Rattle.registers.specs.Offsets.{placeOf}
 use Rattle.command.specs.Decode.{target, origins, stretchOrigins, inkOf, fillTask, copyTask, stretchOf, lineOf, penOf, feedOf}
-use Rattle.cuts.specs.Cut.{bit, number, clipOf, cutAt, fillCut, copyCut, covered, needed}
+use Rattle.cuts.specs.Cut.{bit, number, clipOf, cutAt, fillCut, copyCut, covered, copyOrder, needed}
 use Rattle.table.specs.Table.{targetFine, bothFine, allOnAt, pixels, stretchNeeded, stretchFault, hostFault, fillVerdict, copyVerdict, stretchVerdict, hostVerdict, lineVerdict}
 use Rattle.table.proofs.Stretches.{stretch-can}
 use Rattle.table.proofs.Verdicts.{fill-can, copy-can, line-can, host-can}
@@ -89,7 +90,7 @@ module _ (r : Regs) (len : ℕ) where
 
   abbrev rowsAt : ℕ → ℕ
   rowsAt n =
-      rows n (not (bothFine r)) (not (targetFine r)) (stretchFault r) (hostFault r) (allOn (target r) len) (covered (copyCut r)) (covered (fillCut r))
+      rows n (not (bothFine r)) (not (targetFine r)) (stretchFault r) (hostFault r) (allOn (target r) len) (copyOrder r) (covered (fillCut r))
       (coveredPoints (clipOf r) (points (lineOf r))) copyOff stretchOff copyMeets stretchMeets
 
   pub row-nop : number r ≡ 0 → commandRow r len ≡ 0
@@ -100,7 +101,8 @@ module _ (r : Regs) (len : ℕ) where
   unfolding coveredBy copyVerdict firstOf
   row-copy n =
       ap rowsAt n
-      ∙ ap₂ (λ s t. cond (not (bothFine r)) 5 (cond (not (allOn (target r) len (covered (copyCut r))) || s) 7 (cond t 8 0))) (or-false copyOff) (or-false copyMeets)
+      ∙ ap₂ (λ s t. cond (not (bothFine r)) 5 (cond (not (allOn (target r) len (copyOrder r)) || s) 7 (cond t 8 0))) (or-false copyOff) (or-false copyMeets)
+      ∙ ap (λ on. cond (not (bothFine r)) 5 (cond (not on || copyOff) 7 (cond copyMeets 8 0))) (any-corner (target r) len (bit (r .command) 14) (bit (r .command) 15) _ _ _ _)
 
   pub row-stretch : number r ≡ 2 → commandRow r len ≡ stretchVerdict r len
   unfolding coveredBy stretchVerdict firstOf
@@ -177,9 +179,9 @@ module _ (r : Regs) where
   covered-other u = rw (u .not0, u .not1, u .not2, u .not3, u .not5, u .not6)
 
   covered-at : ℕ → List Px
-  covered-at n = byNumber n [] (covered (copyCut r)) (covered (fillCut r)) (covered (fillCut r)) (covered (fillCut r)) (coveredPoints (clipOf r) (points (lineOf r))) []
+  covered-at n = byNumber n [] (copyOrder r) (covered (fillCut r)) (covered (fillCut r)) (covered (fillCut r)) (coveredPoints (clipOf r) (points (lineOf r))) []
 
-  pub covered-copy : number r ≡ 1 → coveredBy r ≡ covered (copyCut r)
+  pub covered-copy : number r ≡ 1 → coveredBy r ≡ copyOrder r
   unfolding coveredBy covered-at
   covered-copy n = ap covered-at n
 
@@ -200,25 +202,25 @@ module _ (r : Regs) where
   covered-line low high = by-cases (ℕ-discrete (number r) 6) (λ n. ap covered-at n) (λ n. let seven : number r ≡ 7 = omega arith in ap covered-at seven)
 
 -- the pixels of a rectangle's touches are those of the rectangle
-pub rect-pixels : (k : Task) (pattern m : List ℕ) (ps : List Px) → map (λ t. t .at) (asBefore k pattern m ps) ≡ ps
-rect-pixels k pattern m ps = pixels-of (λ (q : Px) (now : List ℕ). giving k pattern m now q) ps
+pub rect-pixels : (k : Task) (pattern : List ℕ) (ps : List Px) → map (λ t. t .at) (inTurn k pattern ps) ≡ ps
+rect-pixels k pattern ps = pixels-of (λ (q : Px) (now : List ℕ). giving k pattern now now q) ps
 
-filled-carried : (old e : Engine) (m : List ℕ) → number (regs e) ≡ 5 → Carried (regs e) (fillTouches e m) m (filled old e m)
+filled-carried : (old e : Engine) (m : List ℕ) → number (regs e) ≡ 5 → Carried (regs e) (fillTouches e) m (filled old e m)
 unfolding fillVerdict fillTask inkOf
 filled-carried old e m n =
     let r = regs e in
     judged old _ (not (targetFine r)) false (not (allOn (target r) (length m) (covered (fillCut r)))) false (row-fill r (length m) n) refl
-    (λ v. painting r (afterRect e) m (fillTouches e m) (covered (fillCut r)) (covered-fill r n) (fill-can r (length m) v .colour .some)
-    (λ p i. subst (In p) (rect-pixels (fillTask r) (e .bank .pattern) m (covered (fillCut r))) i))
+    (λ v. painting r (afterRect e) m (fillTouches e) (covered (fillCut r)) (covered-fill r n) (fill-can r (length m) v .colour .some)
+    (λ p i. subst (In p) (rect-pixels (fillTask r) (e .bank .pattern) (covered (fillCut r))) i))
 
-copied-carried : (old e : Engine) (m : List ℕ) → number (regs e) ≡ 1 → Carried (regs e) (copyTouches e m) m (copied old e m)
+copied-carried : (old e : Engine) (m : List ℕ) → number (regs e) ≡ 1 → Carried (regs e) (copyTouches e) m (copied old e m)
 unfolding copyVerdict copyTask inkOf
 copied-carried old e m n =
     let r = regs e in
     judged old _ (not (bothFine r)) false (not (allOn (target r) (length m) (covered (copyCut r))) || copyOff r (length m)) (copyMeets r (length m))
     (row-copy r (length m) n) refl
-    (λ v. painting r (afterRect e) m (copyTouches e m) (covered (copyCut r)) (covered-copy r n) (copy-can r (length m) v .colour .some)
-    (λ p i. subst (In p) (rect-pixels (copyTask r) (e .bank .pattern) m (covered (copyCut r))) i))
+    (λ v. painting r (afterRect e) m (copyTouches e) (copyOrder r) (covered-copy r n) (copy-can r (length m) v .colour .some)
+    (λ p i. subst (In p) (rect-pixels (copyTask r) (e .bank .pattern) (copyOrder r)) i))
 
 -- the pixels of a stretch's touches are those it covers
 pub stretch-pixels : (e : Engine) (m : List ℕ) → map (λ t. t .at) (stretchTouches e m) ≡ covered (fillCut (regs e))
@@ -313,7 +315,7 @@ carried-carried : (old e : Engine) (m : List ℕ) → Carried (regs e) (carriedT
 unfolding carried carrying carriedTouches refusal
 carried-carried old e m =
     by-tests
-    (λ a b c d f g. Carried (regs e) (pick a b c d f g [] (copyTouches e m) (stretchTouches e m) [] (fillTouches e m) (drawTouches e) []) m
+    (λ a b c d f g. Carried (regs e) (pick a b c d f g [] (copyTouches e) (stretchTouches e m) [] (fillTouches e) (drawTouches e) []) m
     (judging old e m
     (pick a b c d f g (idling (e .bank) (e .blit) m) (copying (e .bank) (e .blit) m) (stretching (e .bank) (e .blit) m) (opening (e .bank) m)
     (filling (e .bank) (e .blit) m) (lining (e .bank) (e .blit) m) (unbuilt (e .bank) (e .blit) m))))
@@ -327,8 +329,8 @@ launched-carried e m d =
     let toTarget = storedIn e 0x6c d in
     by-tests
     (λ a b c f g h. Carried (pick a b c f g h (regs e) (regs toSource) (regs toSource) (regs e) (regs toTarget) (regs toTarget) (regs e))
-    (pick a b c f g h [] (copyTouches toSource m) (stretchTouches toSource m) (cond (ltb (e .blit .taken) (wordsOf (feedOf (regs e)))) (wordTouches e d) [])
-    (fillTouches toTarget m) (drawTouches toTarget) [])
+    (pick a b c f g h [] (copyTouches toSource) (stretchTouches toSource m) (cond (ltb (e .blit .taken) (wordsOf (feedOf (regs e)))) (wordTouches e d) [])
+    (fillTouches toTarget) (drawTouches toTarget) [])
     m
     (judging e e m
     (pick a b c f g h (idling (e .bank) (e .blit) m) (copying (toSource .bank) (e .blit) m) (stretching (toSource .bank) (e .blit) m) (feeding (e .bank) (e .blit) m d)

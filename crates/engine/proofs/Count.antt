@@ -20,7 +20,7 @@ use Rattle.bank.specs.Bank.{stored}
 use Rattle.registers.specs.Offsets.{placeOf}
 use Rattle.host.specs.Host.{wordsOf}
 use Rattle.command.specs.Decode.{target, copyTask, fillTask, feedOf}
-use Rattle.cuts.specs.Cut.{bit, number, covered, copyCut, fillCut}
+use Rattle.cuts.specs.Cut.{bit, number, covered, copyOrder, fillCut}
 use Rattle.engine.specs.declared.Engine.{Engine}
 use Rattle.engine.specs.Step.{Step, regs, storedIn, written}
 use Rattle.engine.specs.Orders.{launching, orderAt, order, carriedTouches, launchedTouches, touchesAt, touchesOf, coveredBy}
@@ -59,14 +59,14 @@ word-covered e m o d r h z = touched-of (order e o d) r (touchesOf e m o d) m (w
 
 -- ---- a copy, a stretch, a fill and a line touch what they cover
 module _ (e : Engine) where
-  copy-covered : (m : List ℕ) → number (regs e) ≡ 1 → map (λ t. t .at) (copyTouches e m) ≡ coveredBy (regs e)
-  copy-covered m n = rect-pixels (copyTask (regs e)) (e .bank .pattern) m (covered (copyCut (regs e))) ∙ sym (covered-copy (regs e) n)
+  copy-covered : number (regs e) ≡ 1 → map (λ t. t .at) (copyTouches e) ≡ coveredBy (regs e)
+  copy-covered n = rect-pixels (copyTask (regs e)) (e .bank .pattern) (copyOrder (regs e)) ∙ sym (covered-copy (regs e) n)
 
   stretch-covered : (m : List ℕ) → number (regs e) ≡ 2 → map (λ t. t .at) (stretchTouches e m) ≡ coveredBy (regs e)
   stretch-covered m n = stretch-pixels e m ∙ sym (covered-stretch (regs e) n)
 
-  fill-covered : (m : List ℕ) → number (regs e) ≡ 5 → map (λ t. t .at) (fillTouches e m) ≡ coveredBy (regs e)
-  fill-covered m n = rect-pixels (fillTask (regs e)) (e .bank .pattern) m (covered (fillCut (regs e))) ∙ sym (covered-fill (regs e) n)
+  fill-covered : number (regs e) ≡ 5 → map (λ t. t .at) (fillTouches e) ≡ coveredBy (regs e)
+  fill-covered n = rect-pixels (fillTask (regs e)) (e .bank .pattern) (covered (fillCut (regs e))) ∙ sym (covered-fill (regs e) n)
 
   draw-covered : 6 ≤ number (regs e) → number (regs e) < 8 → map (λ t. t .at) (drawTouches e) ≡ coveredBy (regs e)
   draw-covered low high = line-pixels e ∙ sym (covered-line (regs e) low high)
@@ -77,8 +77,8 @@ Covers ts r = (number r ≡ 3 → ⊥) → map (λ t. t .at) ts ≡ coveredBy r
 carried-covers : (e : Engine) (m : List ℕ) → Covers (carriedTouches e m) (regs e)
 unfolding carriedTouches
 carried-covers e m =
-    by-number (λ ts. Covers ts (regs e)) (number (regs e)) _ _ _ _ _ _ _ (λ n _. sym (covered-none (regs e) n)) (λ n _. copy-covered e m n) (λ n _. stretch-covered e m n)
-    (λ n other. absurd (other n)) (λ n _. fill-covered e m n) (λ low high _. draw-covered e low high) (λ u _. sym (covered-other (regs e) u))
+    by-number (λ ts. Covers ts (regs e)) (number (regs e)) _ _ _ _ _ _ _ (λ n _. sym (covered-none (regs e) n)) (λ n _. copy-covered e n) (λ n _. stretch-covered e m n)
+    (λ n other. absurd (other n)) (λ n _. fill-covered e n) (λ low high _. draw-covered e low high) (λ u _. sym (covered-other (regs e) u))
 
 launched-covers : (e : Engine) (m : List ℕ) (d : ℕ) → Covers (launchedTouches e m d) (launching e d)
 unfolding launchedTouches launching storedIn stored putReg
@@ -87,11 +87,11 @@ launched-covers e m d =
     let toTarget = storedIn e 0x6c d in
     by-tests
     (λ a b c f g h. Covers
-    (pick a b c f g h [] (copyTouches toSource m) (stretchTouches toSource m) (cond (ltb (e .blit .taken) (wordsOf (feedOf (regs e)))) (wordTouches e d) [])
-    (fillTouches toTarget m) (drawTouches toTarget) [])
+    (pick a b c f g h [] (copyTouches toSource) (stretchTouches toSource m) (cond (ltb (e .blit .taken) (wordsOf (feedOf (regs e)))) (wordTouches e d) [])
+    (fillTouches toTarget) (drawTouches toTarget) [])
     (pick a b c f g h (regs e) (regs toSource) (regs toSource) (regs e) (regs toTarget) (regs toTarget) (regs e)))
-    (number (regs e)) (λ n _. sym (covered-none (regs e) n)) (λ n _. copy-covered toSource m n) (λ n _. stretch-covered toSource m n) (λ n other. absurd (other n))
-    (λ n _. fill-covered toTarget m n) (λ low high _. draw-covered toTarget low high) (λ u _. sym (covered-other (regs e) u))
+    (number (regs e)) (λ n _. sym (covered-none (regs e) n)) (λ n _. copy-covered toSource n) (λ n _. stretch-covered toSource m n) (λ n other. absurd (other n))
+    (λ n _. fill-covered toTarget n) (λ low high _. draw-covered toTarget low high) (λ u _. sym (covered-other (regs e) u))
 
 place-covers : (p : Place) (e : Engine) (m : List ℕ) (o d : ℕ) (r : Regs) → orderAt p e o d ≡ some r → Covers (touchesAt p e m o d) r
 place-covers Register e m o d r =

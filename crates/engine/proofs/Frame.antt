@@ -1,7 +1,7 @@
 -- The frame of a write: only bytes of covered pixels change, and they are inside the clip.
 -- Assumes nothing.
 use mathlib.Core.Path.{_≡_, refl, ap, subst⁻¹, _∙_}
-use mathlib.Core.Bool.{true, false}
+use mathlib.Core.Bool.{Bool, true, false}
 use mathlib.Core.List.{List, [], _∷_, map, List·Memᴰ·head, List·Memᴰ·not-nil}
 use mathlib.Core.Option.{Option, none, some}
 use Prim.Native.Nat.{ℕ, _+_, _<_}
@@ -22,7 +22,7 @@ use Rattle.line.specs.Line.{points}
 use Rattle.line.proofs.DrawLaws.{covered-in-clip}
 use Rattle.registers.specs.declared.Regs.{Regs}
 use Rattle.command.specs.Decode.{target, lineOf}
-use Rattle.cuts.specs.Cut.{number, clipOf, cutAt, fillCut, copyCut, covered}
+use Rattle.cuts.specs.Cut.{number, clipOf, cutAt, fillCut, copyCut, coveredFrom, covered}
 use Rattle.engine.specs.declared.Engine.{Engine}
 use Rattle.engine.specs.Step.{Step, numberOf, written}
 use Rattle.engine.specs.Orders.{order, coveredBy, touchesOf}
@@ -42,15 +42,15 @@ pub fill-in-clip : (r : Regs) (p : Px) → In p (covered (fillCut r)) → inClip
 unfolding fillCut
 fill-in-clip r p i = cut-in-clip (clipOf r) _ _ _ _ _ _ p (in-rect false false _ _ _ _ p i)
 
-pub copy-in-clip : (r : Regs) (p : Px) → In p (covered (copyCut r)) → inClip (clipOf r) (origin + p .x) (origin + p .y) ≡ true
+pub copy-in-clip : (l u : Bool) (r : Regs) (p : Px) → In p (coveredFrom l u (copyCut r)) → inClip (clipOf r) (origin + p .x) (origin + p .y) ≡ true
 unfolding copyCut
-copy-in-clip r p i = cut-in-clip (clipOf r) _ _ _ _ _ _ p (in-rect false false _ _ _ _ p i)
+copy-in-clip l u r p i = cut-in-clip (clipOf r) _ _ _ _ _ _ p (in-rect l u _ _ _ _ p i)
 
 pub covered-inside : (r : Regs) (p : Px) → In p (coveredBy r) → inClip (clipOf r) (origin + p .x) (origin + p .y) ≡ true
 unfolding coveredBy
 covered-inside r p =
     by-number (λ (ps : List Px). In p ps → inClip (clipOf r) (origin + p .x) (origin + p .y) ≡ true) (number r) _ _ _ _ _ _ _
-    (λ _ i. absurd (List·Memᴰ·not-nil i)) (λ _. copy-in-clip r p) (λ _. fill-in-clip r p) (λ _. fill-in-clip r p) (λ _. fill-in-clip r p)
+    (λ _ i. absurd (List·Memᴰ·not-nil i)) (λ _. copy-in-clip _ _ r p) (λ _. fill-in-clip r p) (λ _. fill-in-clip r p) (λ _. fill-in-clip r p)
     (λ _ _. covered-in-clip (clipOf r) (points (lineOf r)) p) (λ _ i. absurd (List·Memᴰ·not-nil i))
 
 -- ---- one write: what is left

@@ -36,11 +36,11 @@ abbrev pub fed : Engine → List ℕ → ℕ → Step
 fed e m word = judging e e m (feeding (e .bank) (e .blit) m word)
 
 -- ---- what each command touches
-abbrev pub fillTouches : Engine → List ℕ → List Touch
-fillTouches e m = touchedByFill (e .bank) m
+abbrev pub fillTouches : Engine → List Touch
+fillTouches e = touchedByFill (e .bank)
 
-abbrev pub copyTouches : Engine → List ℕ → List Touch
-copyTouches e m = touchedByCopy (e .bank) m
+abbrev pub copyTouches : Engine → List Touch
+copyTouches e = touchedByCopy (e .bank)
 
 abbrev pub stretchTouches : Engine → List ℕ → List Touch
 stretchTouches e m = touchedByStretch (e .bank) m

@@ -15,7 +15,7 @@ use Rattle.registers.specs.declared.Place.{Place}
 use Rattle.registers.specs.declared.Place.the-variants.{Register, Pattern, Launch, Nowhere}
 use Rattle.registers.specs.Offsets.{placeOf}
 use Rattle.command.specs.Decode.{lineOf, feedOf}
-use Rattle.cuts.specs.Cut.{bit, number, clipOf, fillCut, copyCut, covered}
+use Rattle.cuts.specs.Cut.{bit, number, clipOf, fillCut, covered, copyOrder}
 use Rattle.engine.specs.declared.Engine.{Engine}
 use Rattle.acts.specs.Deed.{touchedByFill, touchedByCopy, touchedByStretch, touchedByLine, touchedByWord, byNumber}
 use Rattle.engine.specs.Step.{regs, storedIn}
@@ -34,20 +34,20 @@ orderAt Nowhere e o d = none
 abbrev pub order : Engine → ℕ → ℕ → Option Regs
 order e o d = orderAt (placeOf o) e o d
 
--- ---- the pixels that a command covers
+-- ---- the pixels that a command covers, in its order
 unfoldable pub coveredBy : Regs → List Px
 coveredBy r =
-    byNumber (number r) [] (covered (copyCut r)) (covered (fillCut r)) (covered (fillCut r)) (covered (fillCut r)) (coveredPoints (clipOf r) (points (lineOf r))) []
+    byNumber (number r) [] (copyOrder r) (covered (fillCut r)) (covered (fillCut r)) (covered (fillCut r)) (coveredPoints (clipOf r) (points (lineOf r))) []
 
 -- ---- what a write touches, if it is taken: a host blit touches with each word of data, and not when it is opened
 unfoldable pub carriedTouches : Engine → List ℕ → List Touch
-carriedTouches e m = byNumber (number (regs e)) [] (touchedByCopy (e .bank) m) (touchedByStretch (e .bank) m) [] (touchedByFill (e .bank) m) (touchedByLine (e .bank)) []
+carriedTouches e m = byNumber (number (regs e)) [] (touchedByCopy (e .bank)) (touchedByStretch (e .bank) m) [] (touchedByFill (e .bank)) (touchedByLine (e .bank)) []
 
 unfoldable pub launchedTouches : Engine → List ℕ → ℕ → List Touch
 launchedTouches e m d =
-    byNumber (number (regs e)) [] (touchedByCopy (storedIn e 0x5c d .bank) m) (touchedByStretch (storedIn e 0x5c d .bank) m)
+    byNumber (number (regs e)) [] (touchedByCopy (storedIn e 0x5c d .bank)) (touchedByStretch (storedIn e 0x5c d .bank) m)
     (cond (ltb (e .blit .taken) (wordsOf (feedOf (regs e)))) (touchedByWord (e .bank) (e .blit) d) [])
-    (touchedByFill (storedIn e 0x6c d .bank) m) (touchedByLine (storedIn e 0x6c d .bank)) []
+    (touchedByFill (storedIn e 0x6c d .bank)) (touchedByLine (storedIn e 0x6c d .bank)) []
 
 abbrev pub touchesAt : Place → Engine → List ℕ → ℕ → ℕ → List Touch
 touchesAt Register e m o d = cond (eqb o 0x70 && bit d 8) (carriedTouches (storedIn e 0x70 d) m) []

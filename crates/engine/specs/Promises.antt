@@ -5,24 +5,26 @@ use mathlib.Core.Path.{_≡_}
 use mathlib.Core.Bool.{Bool, true, false, not, _&&_, _||_}
 use mathlib.Core.List.{List, [], _∷_, map, List·Memᴰ}
 use mathlib.Core.Option.{Option, none, some}
-use Prim.Native.Nat.{ℕ, zero, suc, _+_, _^_, _<_, _≤_}
+use Prim.Native.Nat.{ℕ, zero, suc, _+_, _-_, _/_, _%_, _^_, _<_, _≤_}
 use lib.Dec.{eqb, ltb}
 use lib.ListN.{length, getD}
 use Rattle.surface.specs.declared.Surface.{Surface}
-use Rattle.surface.specs.Place.{sameSurface}
-use Rattle.surface.specs.Pixels.{Px}
+use Rattle.surface.specs.Place.{sameSurface, readPx}
+use Rattle.surface.specs.Pixels.{Px, NotBefore}
 use Rattle.spans.specs.Span.{allOn, addresses, spanOf, meet}
 use Rattle.views.specs.View.{viewAnswer, viewed}
 use Rattle.paint.specs.Clip.{origin, inClip}
 use Rattle.paint.specs.Paint.{state, Touch, dab, paint}
+use Rattle.sweep.specs.Copy.{asBefore}
 use Rattle.registers.specs.declared.Regs.{Regs}
 use Rattle.bank.specs.declared.Reading.{Reading}
 use Rattle.registers.specs.declared.Place.{Place}
 use Rattle.registers.specs.declared.Place.the-variants.{Register, Pattern, Launch, Nowhere}
 use Rattle.registers.specs.Offsets.{placeOf}
 use Rattle.host.specs.Host.{wordsOf}
-use Rattle.command.specs.Decode.{target, origins, stretchOrigins, feedOf}
-use Rattle.cuts.specs.Cut.{number, clipOf, fillCut, copyCut, covered, needed}
+use Rattle.command.specs.Decode.{target, origins, stretchOrigins, copyTask, feedOf}
+use Rattle.positions.specs.Position.{placed}
+use Rattle.cuts.specs.Cut.{bit, number, clipOf, fillCut, copyCut, covered, needed}
 use Rattle.table.specs.Table.{targetFine, bothFine, allOnAt, pixels, stretchNeeded, stretchFault, hostFault, hostVerdict}
 use Rattle.acts.specs.Deed.{noBlit, byNumber}
 use Rattle.engine.specs.declared.Engine.{Engine}
@@ -177,6 +179,50 @@ TouchesCovered = (e : Engine) (m : List ℕ) (o d : ℕ) (r : Regs) → order e 
 abbrev pub WordCovered : Type 0
 WordCovered = (e : Engine) (m : List ℕ) (o d : ℕ) (r : Regs) → order e o d ≡ some r → numberOf (written e m o d .answer) ≡ 0
     → (p : Px) → List·Memᴰ p (map (λ t. t .at) (touchesOf e m o d)) → List·Memᴰ p (coveredBy r)
+
+-- ---- Order. A screen copy does its pixels one by one, row by row from the corner that bits 14 and 15 name, each read seeing the writes before it
+-- (`touchedByCopy`). Where no read comes late it leaves what the older rule says, each pixel from its source as it was before the command (`asBefore`)
+
+-- the write has the screen copy of these registers carried out
+pub record Copies (e : Engine) (m : List ℕ) (o d : ℕ) (r : Regs) : Type 0 where
+  pub carries : order e o d ≡ some r
+  pub copy : number r ≡ 1
+  pub taken : numberOf (written e m o d .answer) ≡ 0
+
+-- memory and count are those of the older rule
+abbrev pub LeftAsBefore : Engine → List ℕ → ℕ → ℕ → Regs → Type 0
+LeftAsBefore e m o d r =
+    state (written e m o d .memory) (countOf (written e m o d .answer)) ≡ paint (target r) (asBefore (copyTask r) (e .bank .pattern) m (covered (copyCut r))) (state m 0)
+
+-- between two surfaces, or where no covered pixel is one that the copy needs
+abbrev pub SharesNone : Regs → Type 0
+SharesNone r = target r ≡ origins r → (p : Px) → List·Memᴰ p (covered (copyCut r)) → List·Memᴰ p (pixels (needed (copyCut r))) → ⊥
+
+abbrev pub CopiesAsBefore : Type 0
+CopiesAsBefore = (e : Engine) (m : List ℕ) (o d : ℕ) (r : Regs) → Copies e m o d r → SharesNone r → LeftAsBefore e m o d r
+
+-- where the source is not behind: in the copy's order its row does not come before the target's, nor, in the same row, its column
+pub record NotBehind (r : Regs) : Type 0 where
+  pub row : NotBefore (bit (r .command) 15) (placed (r .dstXY / 2 ^ 16)) (placed (r .srcXY / 2 ^ 16))
+  pub column : placed (r .srcXY / 2 ^ 16) ≡ placed (r .dstXY / 2 ^ 16) → NotBefore (bit (r .command) 14) (placed (r .dstXY)) (placed (r .srcXY))
+
+abbrev pub SourceAhead : Type 0
+SourceAhead = (e : Engine) (m : List ℕ) (o d : ℕ) (r : Regs) → Copies e m o d r → NotBehind r → LeftAsBefore e m o d r
+
+-- a plain copy within one surface, from the left, of each column onto its right-hand neighbour
+pub record Border (r : Regs) : Type 0 where
+  pub operation : r .command / 2 ^ 24 % 2 ^ 8 ≡ 0xcc
+  pub sourceKey : bit (r .commandExtra) 0 ≡ false
+  pub targetKey : bit (r .commandExtra) 1 ≡ false
+  pub surface : origins r ≡ target r
+  pub fromLeft : bit (r .command) 14 ≡ false
+  pub column : placed (r .srcXY) + 1 ≡ placed (r .dstXY)
+  pub row : placed (r .srcXY / 2 ^ 16) ≡ placed (r .dstXY / 2 ^ 16)
+
+-- spreads the column to the left of the first covered one over all that are covered
+abbrev pub Smears : Type 0
+Smears = (e : Engine) (m : List ℕ) (o d : ℕ) (r : Regs) → Copies e m o d r → Border r → ((a : ℕ) → getD m a 0 < 256) → (p : Px) → List·Memᴰ p (covered (copyCut r))
+    → readPx (written e m o d .memory) (target r) (p .x) (p .y) ≡ readPx m (target r) (copyCut r .x - 1) (p .y)
 
 -- ---- Frame. Where a byte changes, it belongs to a pixel of the target inside the clip, of the command that the write has carried out
 abbrev pub OnlyCovered : Type 0

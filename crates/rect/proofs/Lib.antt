@@ -5,3 +5,4 @@ pub mod Mono
 pub mod Straight
 pub mod Plain
 pub mod Moves
+pub mod Smear

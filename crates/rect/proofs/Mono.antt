@@ -17,6 +17,7 @@ use Rattle.surface.proofs.OnLaws.{and-left, and-right, mono-first, some-byte}
 use Rattle.spans.specs.Span.{spanOf, meet}
 use Rattle.spans.proofs.Spans.{IsByte}
 use Rattle.paint.specs.declared.Source.{Source}
+use Rattle.paint.specs.Paint.{state, paint}
 use Rattle.paint.specs.Mix.{source, bitSource, mixed, direct}
 use Rattle.ink.specs.Pattern.{patternColumn, patternRow, patternBit, patternValue}
 use Rattle.paint.proofs.MixLaws.{direct-mixed}
@@ -24,11 +25,11 @@ use Rattle.paint.proofs.Owners.{byte-of}
 use Rattle.bits.proofs.BitLaws.{bit-given}
 use Rattle.bits.specs.Bits.{coloured, monoGiving, CanMono}
 use Rattle.sweep.specs.declared.Task.{Task}
-use Rattle.sweep.specs.Copy.{sourcePlace, giving, CanPaint, Orderly}
+use Rattle.sweep.specs.Copy.{sourcePlace, giving, asBefore, inTurn, CanPaint, Orderly}
 use Rattle.rect.specs.Fast.{bitwise, monoOf}
 use Rattle.sweep.proofs.TaskLaws.{can-number}
 use Rattle.rect.proofs.Sources.{mono-source}
-use Rattle.rect.proofs.Order.{between}
+use Rattle.rect.proofs.Order.{between, as-before}
 
 bit-small : (m : List ℕ) (s : Surface) (x y : ℕ) → monoBit m s x y < 2
 unfolding monoBit
@@ -61,9 +62,21 @@ mono-byte : (s : Surface) → s .bytes ≡ 0 → (q : Px) → IsByte s q (byteAt
 mono-byte s e q = record { k = 0; low = some-byte s; at = ap (λ (c : ℕ). byteAt s c (q .y)) (sym (add-zero (_) ∙ mono-first s (q .x) e)) }
 
 -- the two surfaces are not one
-pub mono-apart : (t : Task) (w h : ℕ) → t .from .bytes ≡ 0 → 0 < t .ink .target .bytes → Orderly t w h
+mono-other : (t : Task) → t .from .bytes ≡ 0 → 0 < t .ink .target .bytes → t .from ≡ t .ink .target → ⊥
+mono-other t e c same = let b : t .from .bytes ≡ t .ink .target .bytes = ap (λ (s : Surface). s .bytes) same in omega arith
+
+mono-apart : (t : Task) (w h : ℕ) → t .from .bytes ≡ 0 → 0 < t .ink .target .bytes → Orderly t w h
     → meet (spanOf (t .ink .target) (rect false false (t .x) (t .y) w h)) (spanOf (t .from) (rect false false (t .sx) (t .sy) w h)) ≡ false
-mono-apart t w h e c = ⊎-elim (λ same. absurd (let b : t .from .bytes ≡ t .ink .target .bytes = ap (λ (s : Surface). s .bytes) same in omega arith)) (λ apart. apart)
+mono-apart t w h e c = ⊎-elim (λ same. absurd (mono-other t e c same)) (λ apart. apart)
+
+-- and the copy comes out alike from every corner
+pub mono-corner : (t : Task) (w h len : ℕ) → t .from .bytes ≡ 0 → CanPaint t w h len → Orderly t w h → (l u : Bool) (pattern m : List ℕ) (n : ℕ)
+    → paint (t .ink .target) (inTurn t pattern (rect false false (t .x) (t .y) w h)) (state m n) ≡ paint (t .ink .target) (inTurn t pattern (rect l u (t .x) (t .y) w h)) (state m n)
+mono-corner t w h len e can orderly l u pattern m n = either false false ∙ sym (either l u)
+  where
+    either : (l u : Bool)
+        → paint (t .ink .target) (inTurn t pattern (rect l u (t .x) (t .y) w h)) (state m n) ≡ paint (t .ink .target) (asBefore t pattern m (rect false false (t .x) (t .y) w h)) (state m n)
+    either l u = as-before t w h len can (λ _. orderly) l u (λ _ same. absurd (mono-other t e (can .colour .some) same)) pattern m n
 
 pub can-mono : (t : Task) (w h len : ℕ) → bitwise t ≡ true → CanPaint t w h len → Orderly t w h → CanMono (monoOf t) w h len
 unfolding monoOf sourcePlace

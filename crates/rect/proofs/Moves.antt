@@ -17,13 +17,13 @@ use Rattle.surface.proofs.Rects.{Past}
 use Rattle.surface.proofs.Run.{run-byte}
 use Rattle.spans.proofs.Spans.{IsByte}
 use Rattle.sweep.specs.declared.Task.{Task}
-use Rattle.sweep.specs.Copy.{sourcePlace, backward}
+use Rattle.sweep.specs.Copy.{sourcePlace}
 use Rattle.paint.specs.Paint.{nth}
 use Rattle.rect.specs.Fast.{sourceByte, toRow, fromRow, RowMoves, Moves}
 use Rattle.runs.specs.Runs.{Shifted, Given}
 use Rattle.paint.proofs.Owners.{byte-of}
 use Rattle.sweep.proofs.TaskLaws.{can-pixel}
-use Rattle.rect.proofs.Order.{not-read, own-byte}
+use Rattle.rect.proofs.Order.{Onward, early-onward, not-read, own-byte}
 use Rattle.rect.proofs.Plain.{PlainCopy, plainly-plain}
 use Rattle.runs.proofs.Runs.{run-column, run-place, given-row}
 
@@ -49,9 +49,12 @@ done-inside : (b : Bool) (y₀ h j r : ℕ) → j ≤ h → doneTop b y₀ h j �
 done-inside false y₀ h j r l lo hi = omega arith
 done-inside true y₀ h j r l lo hi = omega arith
 
-module _ {t : Task} {w h len : ℕ} {back : Bool} (mv : Moves t w h len back) where
+module _ {t : Task} {w h len : ℕ} {toLeft toTop : Bool} (mv : Moves t w h len toLeft toTop) where
   plain : PlainCopy t
   plain = plainly-plain t (mv .plain)
+
+  onward : Onward t w h len (mv .can) (λ _. mv .orderly) toLeft toTop
+  onward = early-onward t w h len (mv .can) (λ _. mv .orderly) toLeft toTop (mv .early)
 
   abbrev bytes : ℕ
   bytes = t .from .bytes
@@ -80,7 +83,7 @@ module _ {t : Task} {w h len : ℕ} {back : Bool} (mv : Moves t w h len back) wh
   column-of i = run-column (t .from) (source-colour .some) 0 0 w i
 
   -- no byte of the row is read after it was overwritten
-  row-unread : (y i j : ℕ) → t .y ≤ y → y < t .y + h → i < w * bytes → j < w * bytes → (j ≡ i → ⊥) → (j / bytes ≡ i / bytes) ⊎ Past (backward t) (j / bytes) (i / bytes)
+  row-unread : (y i j : ℕ) → t .y ≤ y → y < t .y + h → i < w * bytes → j < w * bytes → (j ≡ i → ⊥) → (j / bytes ≡ i / bytes) ⊎ Past toLeft (j / bytes) (i / bytes)
       → toRow t y + j ≡ fromRow t y + i → ⊥
   row-unread y i j top bottom li lj n columns e =
       let p = px (t .x + j / bytes) y in
@@ -95,7 +98,7 @@ module _ {t : Task} {w h len : ℕ} {back : Bool} (mv : Moves t w h len back) wh
       (λ same. own-byte t w h len (mv .can) (λ _. mv .orderly) (plain .copies) q iq (j % bytes) (i % bytes) (omega (arith, same-bytes)) small′
       (λ k. n (sym (div-add-mod' j bytes) ∙ ap₂ (λ (a b : ℕ). a * bytes + b) same k ∙ div-add-mod' i bytes))
       (ap (λ (c : ℕ). byteOf (t .ink .target) (t .x + c) y (j % bytes)) (sym same) ∙ at))
-      (λ past. not-read t w h len (mv .can) (λ _. mv .orderly) (plain .copies) p q ip iq (inr (refl, ahead (backward t) (j / bytes) (i / bytes) past)) (byteOf (t .ink .target) (p .x) y (j % bytes))
+      (λ past. not-read t w h len (mv .can) (λ _. mv .orderly) toLeft toTop onward (plain .copies) p q ip iq (inr (refl, ahead toLeft (j / bytes) (i / bytes) past)) (byteOf (t .ink .target) (p .x) y (j % bytes))
       (subst (IsByte (t .from) (sourcePlace t q)) (sym at) (byte-of (t .from) (source-colour .some) (sourcePlace t q) (i % bytes) small′))
       (byte-of (t .ink .target) (mv .can .colour .some) p (j % bytes) (omega (arith, same-bytes))))
       columns
@@ -107,7 +110,7 @@ module _ {t : Task} {w h len : ℕ} {back : Bool} (mv : Moves t w h len back) wh
   column-mono : (i j : ℕ) → j ≤ i → j / bytes ≤ i / bytes
   column-mono i j l = le-div-iff-mul-le (source-colour .some) .1 (omega (arith, div-mul-le-self j bytes))
 
-  pub row-moves : (y : ℕ) → t .y ≤ y → y < t .y + h → RowMoves t (w * bytes) y len back
+  pub row-moves : (y : ℕ) → t .y ≤ y → y < t .y + h → RowMoves t (w * bytes) y len toLeft
   unfolding sourcePlace
   row-moves y top bottom = record {
     target = mv .can .colour;
@@ -124,11 +127,11 @@ module _ {t : Task} {w h len : ℕ} {back : Bool} (mv : Moves t w h len back) wh
     };
     up = λ e. record {
       unread = λ i j l r. row-unread y i j top bottom r (omega arith) (λ q. omega arith)
-          (subst (λ (b : Bool). (j / bytes ≡ i / bytes) ⊎ Past b (j / bytes) (i / bytes)) (sym e ∙ mv .way) (either i j (column-mono i j (omega arith))));
+          (subst (λ (b : Bool). (j / bytes ≡ i / bytes) ⊎ Past b (j / bytes) (i / bytes)) (sym e) (either i j (column-mono i j (omega arith))));
     };
     down = λ e. record {
       unread = λ i j l r. row-unread y i j top bottom (omega arith) r (λ q. omega arith)
-          (subst (λ (b : Bool). (j / bytes ≡ i / bytes) ⊎ Past b (j / bytes) (i / bytes)) (sym e ∙ mv .way) (other i j (column-mono j i (omega arith))));
+          (subst (λ (b : Bool). (j / bytes ≡ i / bytes) ⊎ Past b (j / bytes) (i / bytes)) (sym e) (other i j (column-mono j i (omega arith))));
     };
   }
     where
@@ -142,13 +145,13 @@ module _ {t : Task} {w h len : ℕ} {back : Bool} (mv : Moves t w h len back) wh
       other i j l = by-cases (ℕ-discrete (j / bytes) (i / bytes)) (λ q. inl q) (λ q. inr (omega arith))
 
   -- ---- one row more
-  pub next-row : (j y : ℕ) (m₀ m m₁ : List ℕ) → j < h → y ≡ nth back (t .y) h j → t .y ≤ y → y < t .y + h
-      → Given (t .ink .target) (sourceByte t m₀) (t .x) (doneTop back (t .y) h j) w j m₀ m → Shifted (toRow t y) (fromRow t y) 0 (w * bytes) m m₁
-      → Given (t .ink .target) (sourceByte t m₀) (t .x) (doneTop back (t .y) h (j + 1)) w (j + 1) m₀ m₁
+  pub next-row : (j y : ℕ) (m₀ m m₁ : List ℕ) → j < h → y ≡ nth toTop (t .y) h j → t .y ≤ y → y < t .y + h
+      → Given (t .ink .target) (sourceByte t m₀) (t .x) (doneTop toTop (t .y) h j) w j m₀ m → Shifted (toRow t y) (fromRow t y) 0 (w * bytes) m m₁
+      → Given (t .ink .target) (sourceByte t m₀) (t .x) (doneTop toTop (t .y) h (j + 1)) w (j + 1) m₀ m₁
   next-row j y m₀ m m₁ l e top bottom given run =
       given-row (t .ink .target) (mv .can .colour .some) (sourceByte t m₀) (t .x) w
       (λ c lc. on-column (t .ink .target) len (t .x + c) y (can-pixel (mv .can) (t .x + c) y (in-rectangle y c top bottom lc) .0 .on))
-      (doneTop back (t .y) h j) j (doneTop back (t .y) h (j + 1)) y (fromRow t y) m₀ m m₁ (one-more back (t .y) h j y l e) given
+      (doneTop toTop (t .y) h j) j (doneTop toTop (t .y) h (j + 1)) y (fromRow t y) m₀ m m₁ (one-more toTop (t .y) h j y l e) given
       (subst (λ (b : ℕ). Shifted (toRow t y) (fromRow t y) 0 (w * b) m m₁) same-bytes run)
       (λ c k lc lk. values c k lc (omega (arith, same-bytes)))
     where
@@ -160,9 +163,9 @@ module _ {t : Task} {w h len : ℕ} {back : Bool} (mv : Moves t w h len back) wh
           ∙ ap (λ (r : Px). byteOf (t .from) (r .x) (r .y) k) (sym (source-of y c)) in
           ap (λ (a : ℕ). getD m a 0) at
           ∙ given .others (byteOf (t .from) (sourcePlace t q .x) (sourcePlace t q .y) k) (λ p i k′ l′ f.
-          let rows = done-inside back (t .y) h j (p .y) (omega arith) (i .top) (i .bottom) in
-          let past = done-past back (t .y) h j y (p .y) l e (i .top) (i .bottom) in
-          not-read t w h len (mv .can) (λ _. mv .orderly) (plain .copies) p q (record { left = i .left; right = i .right; top = rows .0; bottom = rows .1 })
-          (in-rectangle y c top bottom lc) (inl (subst (λ (b : Bool). Past b (p .y) y) (mv .way) past)) (byteOf (t .from) (sourcePlace t q .x) (sourcePlace t q .y) k)
+          let rows = done-inside toTop (t .y) h j (p .y) (omega arith) (i .top) (i .bottom) in
+          let past = done-past toTop (t .y) h j y (p .y) l e (i .top) (i .bottom) in
+          not-read t w h len (mv .can) (λ _. mv .orderly) toLeft toTop onward (plain .copies) p q (record { left = i .left; right = i .right; top = rows .0; bottom = rows .1 })
+          (in-rectangle y c top bottom lc) (inl past) (byteOf (t .from) (sourcePlace t q .x) (sourcePlace t q .y) k)
           (byte-of (t .from) (source-colour .some) (sourcePlace t q) k lk)
           (subst (IsByte (t .ink .target) p) (sym f) (byte-of (t .ink .target) (mv .can .colour .some) p k′ l′)))

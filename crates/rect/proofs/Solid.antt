@@ -39,12 +39,7 @@ solid-gives t pattern m now p e =
     never true false bit e = refl
     never false mono bit e = refl
 
--- no fill looks at a source
-pub fill-gives : (t : Task) (pattern m m′ now : List ℕ) (p : Px) → t .copies ≡ false → giving t pattern m now p ≡ giving t pattern m′ now p
-unfolding giving sourceBy
-fill-gives t pattern m m′ now p e = rw e refl
-
--- what a fill gives needs no task
+-- what a fill gives needs no task, and so no source
 pub fill-alone : (t : Task) (pattern m now : List ℕ) (p : Px) → t .copies ≡ false → giving t pattern m now p ≡ filling (t .ink) pattern now p
 unfolding giving sourceBy filling
 fill-alone t pattern m now p e = rw e refl

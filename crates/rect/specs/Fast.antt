@@ -4,16 +4,16 @@ use mathlib.Core.Path.{_≡_}
 use mathlib.Core.Bool.{Bool, true, false, not, _&&_, _||_}
 use mathlib.Core.List.{List}
 use Prim.Native.Nat.{ℕ, _+_, _-_, _^_, _<_, _≤_}
-use lib.Dec.{eqb}
+use lib.Dec.{eqb, ltb}
 use lib.ListN.{getD}
-use Rattle.surface.specs.Place.{byteOf, Colour}
+use Rattle.surface.specs.Place.{sameSurface, byteOf, Colour}
 use Rattle.surface.specs.Pixels.{Px}
 use Rattle.sweep.specs.declared.Task.{Task}
 use Rattle.paint.specs.Mix.{direct}
 use Rattle.runs.specs.Runs.{Run, Up, Down}
 use Rattle.bits.specs.declared.Mono.{Mono}
 use Rattle.straight.specs.declared.Straight.{Straight}
-use Rattle.sweep.specs.Copy.{sourcePlace, backward, CanPaint, Orderly}
+use Rattle.sweep.specs.Copy.{sourcePlace, CanPaint, Orderly}
 
 -- a fill that gives each pixel colorFore: raster operation CC, no target key, nothing left unwritten
 abbrev pub solid : Task → Bool
@@ -57,6 +57,25 @@ monoOf t = record {
   y = t .y;
 }
 
+-- ---- reads that come after a write
+
+-- a source place comes before the target's, going up, or after it, going down
+abbrev pub behind : Bool → ℕ → ℕ → Bool
+behind false s x = ltb s x
+behind true s x = ltb x s
+
+-- n places from s on and n from x on have one in common
+abbrev pub overlap : ℕ → ℕ → ℕ → Bool
+overlap s x n = ltb s (x + n) && ltb x (s + n)
+
+-- a copy of w by h pixels, from the corner that the two flags name, reads a pixel after it was overwritten
+unfoldable pub late : Bool → Bool → Task → ℕ → ℕ → Bool
+late toLeft toTop t w h =
+    sameSurface (t .from) (t .ink .target)
+    && ((behind toTop (t .sy) (t .y) || (eqb (t .sy) (t .y) && behind toLeft (t .sx) (t .x))) && (overlap (t .sx) (t .x) w && overlap (t .sy) (t .y) h))
+
+-- ---- a plain copy's runs
+
 -- the byte of the source pixel
 abbrev pub sourceByte : Task → List ℕ → Px → ℕ → ℕ
 sourceByte t m p k = getD m (byteOf (t .from) (sourcePlace t p .x) (sourcePlace t p .y) k) 0
@@ -71,18 +90,18 @@ fromRow t y = byteOf (t .from) (t .sx) (t .sy + (y - t .y)) 0
 -- ---- what functions ask for
 
 -- row y of a rectangle can be moved as a run of n bytes
-pub record RowMoves (t : Task) (n y len : ℕ) (back : Bool) : Type 0 where
+pub record RowMoves (t : Task) (n y len : ℕ) (toLeft : Bool) : Type 0 where
   pub target : Colour (t .ink .target)
   pub source : Colour (t .from)
   pub first : t .y ≤ y
   pub small : t .sy + (y - t .y) < 2 ^ 32
   pub run : Run (toRow t y) (fromRow t y) n len
-  pub up : back ≡ false → Up (toRow t y) (fromRow t y) n
-  pub down : back ≡ true → Down (toRow t y) (fromRow t y) n
+  pub up : toLeft ≡ false → Up (toRow t y) (fromRow t y) n
+  pub down : toLeft ≡ true → Down (toRow t y) (fromRow t y) n
 
--- a rectangle can be moved
-pub record Moves (t : Task) (w h len : ℕ) (back : Bool) : Type 0 where
+-- a rectangle can be moved, from the corner that the two flags name
+pub record Moves (t : Task) (w h len : ℕ) (toLeft toTop : Bool) : Type 0 where
   pub plain : plainly t ≡ true
   pub can : CanPaint t w h len
   pub orderly : Orderly t w h
-  pub way : back ≡ backward t
+  pub early : late toLeft toTop t w h ≡ false

@@ -10,34 +10,34 @@ ghost use lib.ListN.{length};
 ghost use Rattle.surface.specs.Pixels.{rect};
 ghost use Rattle.paint.specs.Paint.{state, paint};
 ghost use Rattle.paint.specs.Mix.{source};
-ghost use Rattle.sweep.specs.Copy.{asBefore, backward, CanPaint, Orderly};
-ghost use Rattle.rect.specs.Fast.{solid, plainly, straight, straightOf, bitwise, monoOf, sourceByte, toRow, fromRow, RowMoves, Moves};
+ghost use Rattle.sweep.specs.Copy.{inTurn, CanPaint, Orderly};
+ghost use Rattle.rect.specs.Fast.{solid, plainly, straight, straightOf, bitwise, monoOf, sourceByte, behind, overlap, late, toRow, fromRow, RowMoves, Moves};
 ghost use Rattle.runs.specs.Runs.{Shifted, Given};
 
 // Row y of a plain copy, as a run of n bytes.
-fn move_row(mem: &mut [u8], t: Task, n: usize, y: u32, back: bool)
-    requires { ⌜ RowMoves t n y (length (now mem)) back ⌝ }
+fn move_row(mem: &mut [u8], t: Task, n: usize, y: u32, toLeft: bool)
+    requires { ⌜ RowMoves t n y (length (now mem)) toLeft ⌝ }
     ensures { λ _. ⌜ Shifted (toRow t y) (fromRow t y) 0 n (now (mem .entry)) (now (mem .exit)) ⌝ }
 {
     let d = surface::byte_of(t.ink.target, t.x, y, 0);
     let s = surface::byte_of(t.from, t.sx, t.sy + (y - t.y), 0);
-    if back {
+    if toLeft {
         runs::run_down(mem, d, s, n);
         return;
     }
     runs::run_up(mem, d, s, n);
 }
 
-// A plain copy, row by row from the upper left corner or from the lower right one.
-fn move_rows(mem: &mut [u8], t: Task, w: u32, h: u32, back: bool)
-    requires { ⌜ Moves t w h (length (now mem)) back ⌝ }
+// A plain copy, row by row from the corner that the two flags name.
+fn move_rows(mem: &mut [u8], t: Task, w: u32, h: u32, toLeft: bool, toTop: bool)
+    requires { ⌜ Moves t w h (length (now mem)) toLeft toTop ⌝ }
     ensures { λ _. ⌜ Given (t .ink .target) (sourceByte t (now (mem .entry))) (t .x) (t .y) w h (now (mem .entry)) (now (mem .exit)) ⌝ }
 {
     let n = (w * t.from.bytes) as usize;
     let mut j = 0;
     while j < h {
-        let y = paint::place(back, t.y, h, j);
-        move_row(mem, t, n, y, back);
+        let y = paint::place(toTop, t.y, h, j);
+        move_row(mem, t, n, y, toLeft);
         j += 1;
     }
 }
@@ -60,19 +60,31 @@ fn is_solid(t: Task) -> bool
     !t.copies & (t.ink.rop0 == 0xcc) & !t.ink.dstKey & !(t.ink.clear & t.ink.mono)
 }
 
-fn goes_back(t: Task) -> bool
-    ensures { λ r. ⌜ r ≡ backward t ⌝ }
+// Whether a source place comes before the target's, going up, or after it, going down.
+fn is_behind(down: bool, s: u32, x: u32) -> bool
+    ensures { λ r. ⌜ r ≡ behind down s x ⌝ }
 {
-    if !t.copies {
-        return false;
+    if down {
+        return x < s;
     }
-    if t.sy < t.y {
-        return true;
-    }
-    if t.sy == t.y {
-        return t.sx < t.x;
-    }
-    false
+    s < x
+}
+
+// Whether n places from s on and n from x on have one in common.
+fn do_overlap(s: u32, x: u32, n: u32) -> bool
+    ensures { λ r. ⌜ r ≡ overlap s x n ⌝ }
+{
+    let size = surface::wide(n);
+    (surface::wide(s) < surface::wide(x) + size) & (surface::wide(x) < surface::wide(s) + size)
+}
+
+// Whether a copy, from the corner that the two flags name, reads a pixel after it was overwritten.
+fn is_late(t: Task, w: u32, h: u32, toLeft: bool, toTop: bool) -> bool
+    ensures { λ r. ⌜ r ≡ late toLeft toTop t w h ⌝ }
+{
+    let behind = is_behind(toTop, t.sy, t.y) | ((t.sy == t.y) & is_behind(toLeft, t.sx, t.x));
+    surface::same_surface(t.from, t.ink.target)
+        & (behind & (do_overlap(t.sx, t.x, w) & do_overlap(t.sy, t.y, h)))
 }
 
 // Whether a mono copy gives each pixel the colour of its bit.
@@ -132,10 +144,10 @@ pub fn straight_of(t: Task) -> Straight
     }
 }
 
-// A rectangle filled.
-fn fill_rect(mem: &mut [u8], t: Task, pattern: [u8; 256], w: u32, h: u32) -> u32
+// A rectangle filled; the count of pixels written.
+pub fn fill_rect(mem: &mut [u8], t: Task, pattern: [u8; 256], w: u32, h: u32) -> u32
     requires { ⌜ CanPaint t w h (length (now mem)) × (t .copies ≡ false) ⌝ }
-    ensures { λ r. ⌜ state (now (mem .exit)) r ≡ paint (t .ink .target) (asBefore t pattern (now (mem .entry)) (rect false false (t .x) (t .y) w h)) (state (now (mem .entry)) 0) ⌝ }
+    ensures { λ r. ⌜ state (now (mem .exit)) r ≡ paint (t .ink .target) (inTurn t pattern (rect false false (t .x) (t .y) w h)) (state (now (mem .entry)) 0) ⌝ }
 {
     if is_solid(t) {
         let v = raster::raster(0xcc, 0, t.ink.fore, 0);
@@ -147,32 +159,28 @@ fn fill_rect(mem: &mut [u8], t: Task, pattern: [u8; 256], w: u32, h: u32) -> u32
     sweep::paint_rows(mem, t, pattern, w, h, false, false)
 }
 
-// A rectangle copied, each pixel from the source as it was before.
-fn copy_rect(mem: &mut [u8], t: Task, pattern: [u8; 256], w: u32, h: u32) -> u32
+// A rectangle copied from the corner that the two flags name, each pixel from the source as it then stands; the count of pixels written.
+pub fn copy_rect(
+    mem: &mut [u8],
+    t: Task,
+    pattern: [u8; 256],
+    w: u32,
+    h: u32,
+    toLeft: bool,
+    toTop: bool,
+) -> u32
     requires { ⌜ CanPaint t w h (length (now mem)) × ((t .copies ≡ true) × Orderly t w h) ⌝ }
-    ensures { λ r. ⌜ state (now (mem .exit)) r ≡ paint (t .ink .target) (asBefore t pattern (now (mem .entry)) (rect false false (t .x) (t .y) w h)) (state (now (mem .entry)) 0) ⌝ }
+    ensures { λ r. ⌜ state (now (mem .exit)) r ≡ paint (t .ink .target) (inTurn t pattern (rect toLeft toTop (t .x) (t .y) w h)) (state (now (mem .entry)) 0) ⌝ }
 {
     if is_bitwise(t) {
         return bits::mono_rows(mem, mono_of(t), w, h);
     }
-    let back = goes_back(t);
-    if is_plain(t) {
-        move_rows(mem, t, w, h, back);
+    if is_plain(t) & !is_late(t, w, h, toLeft, toTop) {
+        move_rows(mem, t, w, h, toLeft, toTop);
         return w * h;
     }
     if is_straight(t) {
-        return straight::straight_rows(mem, straight_of(t), w, h, back, back);
+        return straight::straight_rows(mem, straight_of(t), w, h, toLeft, toTop);
     }
-    sweep::paint_rows(mem, t, pattern, w, h, back, back)
-}
-
-// A rectangle filled or copied; the count of pixels written.
-pub fn paint_rect(mem: &mut [u8], t: Task, pattern: [u8; 256], w: u32, h: u32) -> u32
-    requires { ⌜ CanPaint t w h (length (now mem)) × (t .copies ≡ true → Orderly t w h) ⌝ }
-    ensures { λ r. ⌜ state (now (mem .exit)) r ≡ paint (t .ink .target) (asBefore t pattern (now (mem .entry)) (rect false false (t .x) (t .y) w h)) (state (now (mem .entry)) 0) ⌝ }
-{
-    if t.copies {
-        return copy_rect(mem, t, pattern, w, h);
-    }
-    fill_rect(mem, t, pattern, w, h)
+    sweep::paint_rows(mem, t, pattern, w, h, toLeft, toTop)
 }

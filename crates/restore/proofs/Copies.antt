@@ -66,11 +66,11 @@ unfolding cutAt
 left-in c x y w h sx sy p i = omega arith
 
 -- the copy's rectangle, whole
-abbrev full : Regs → Cut
+abbrev pub full : Regs → Cut
 full r = cut (targetRect r .x - origin) (targetRect r .y - origin) (width r) (height r) (sourceRect r .x) (sourceRect r .y)
 
 module _ (len : ℕ) (r : Regs) (plain : Plain len r) where
-  by-size : {A : Type 0} → (0 < width r → 0 < height r → A) → ((0 < width r → 0 < height r → ⊥) → A) → A
+  pub by-size : {A : Type 0} → (0 < width r → 0 < height r → A) → ((0 < width r → 0 < height r → ⊥) → A) → A
   by-size f g = by-cases (decLt 0 (width r)) (λ w. by-cases (decLt 0 (height r)) (λ h. f w h) (λ n. g (λ u v. n v))) (λ n. g (λ u v. n u))
 
   abbrev from : Rectangle
@@ -86,7 +86,7 @@ module _ (len : ℕ) (r : Regs) (plain : Plain len r) where
       (plain .left) (plain .top)
 
   -- the whole rectangle, where it has pixels
-  whole : 0 < width r → 0 < height r → copyCut r ≡ full r
+  pub whole : 0 < width r → 0 < height r → copyCut r ≡ full r
   whole w h =
       straight
       ∙ all-left (clipOf r) (to .x) (to .y) (width r) (height r) (from .x) (from .y) w h
@@ -94,7 +94,7 @@ module _ (len : ℕ) (r : Regs) (plain : Plain len r) where
       (in-clip (clipOf r) _ _ (plain .clip (to .x + (width r - 1)) (to .y + (height r - 1)) (omega arith)))
 
   -- and nothing, where it has none
-  none-left : (0 < width r → 0 < height r → ⊥) → 0 < copyCut r .w → 0 < copyCut r .h → ⊥
+  pub none-left : (0 < width r → 0 < height r → ⊥) → 0 < copyCut r .w → 0 < copyCut r .h → ⊥
   none-left none w h =
       let small = left-of (clipOf r) (to .x) (to .y) (width r) (height r) (from .x) (from .y) in
       let ew = ap (λ (c : Cut). c .w) straight in

@@ -9,8 +9,15 @@ use native.Mathlib.Omega.{arith}
 use lib.Dec.{eqb}
 use lib.ListN.{length}
 use borrow.Author.Tests.{eqb-true, eq-eqb, ne-eqb, le-ltb}
+use Rattle.surface.specs.declared.Surface.{Surface}
+use Rattle.surface.specs.Place.{byteOf}
 use Rattle.surface.proofs.OnLaws.{and-left, and-right}
-use Rattle.paint.specs.Paint.{state, paint}
+use Rattle.surface.proofs.Lists.{In}
+use Rattle.surface.proofs.Rects.{in-rect}
+use Rattle.formats.proofs.FormatLaws.{target-colour}
+use Rattle.spans.proofs.Spans.{IsByte}
+use Rattle.paint.specs.Paint.{State, state}
+use Rattle.paint.proofs.Owners.{byte-of}
 use Rattle.sweep.specs.Copy.{asBefore}
 use Rattle.paint.proofs.Frame.{Bytes, paint-bytes}
 use Rattle.registers.specs.declared.Regs.{Regs}
@@ -18,22 +25,28 @@ use Rattle.registers.specs.declared.Place.{Place}
 use Rattle.registers.specs.declared.Place.the-variants.{Register, Pattern, Launch, Nowhere}
 use Rattle.registers.specs.Offsets.{placeOf}
 use Rattle.command.specs.Decode.{target, copyTask}
-use Rattle.cuts.specs.Cut.{bit, number, width, height, copyCut, covered}
-use Rattle.table.specs.Table.{copyVerdict}
+use Rattle.cuts.specs.declared.Cut.{Cut}
+use Rattle.cuts.specs.Cut.{bit, number, width, height, copyCut, covered, needed}
+use Rattle.cuts.proofs.CutLaws.{needed-rect}
+use Rattle.table.specs.Table.{targetFine, pixels, copyVerdict}
 use Rattle.acts.specs.Deed.{starting}
 use Rattle.acts.proofs.Numbers.{carry-copy}
 use Rattle.engine.specs.declared.Engine.{Engine}
 use Rattle.engine.specs.declared.Answer.{Answer}
 use Rattle.engine.specs.declared.Answer.the-variants.{Taken, Waiting}
-use Rattle.engine.specs.Step.{Step, step, judging, regs, idle, storedIn, carried, launched, commanded, toRegister, toPlace, written}
-use Rattle.engine.specs.Orders.{launching}
+use Rattle.engine.specs.Step.{Step, step, judging, numberOf, countOf, regs, idle, storedIn, carried, launched, commanded, toRegister, toPlace, written}
+use Rattle.engine.specs.Orders.{launching, orderAt, order}
+use Rattle.engine.specs.Promises.{Copies, SharesNone}
 use Rattle.engine.proofs.Short.{copied}
 use Rattle.restore.specs.Rectangles.{sourceRect, targetRect, Apart}
 use Rattle.restore.specs.Writes.{Write, by, startAt, starts}
 use Rattle.restore.specs.Restore.{Plain}
 use Rattle.acts.proofs.Cases.{picked}
 use Rattle.engine.proofs.Orders.{launch-number, launch-copy, the-same, nothing-ordered}
-use Rattle.restore.proofs.Copies.{Came, taken, plain-copied}
+use Rattle.engine.proofs.Order.{copies-as-before}
+use Rattle.restore.proofs.Areas.{pixels-rect}
+use Rattle.restore.proofs.Copies.{Came, full, by-size, whole, none-left, taken, plain-copied}
+use Rattle.restore.proofs.Back.{in-of, no-byte}
 
 -- the write's outcome is that of the copy, with the registers r
 pub record Issued (e : Engine) (m : List ℕ) (r : Regs) (s : Step) : Type 0 where
@@ -104,6 +117,17 @@ module _ (e : Engine) (m : List ℕ) (w : Write) (r : Regs) (copy : number r ≡
         rests = k .rests;
       }
 
+-- the command that a write starts is one that it has carried out
+starts-order : (e : Engine) (w : Write) (r : Regs) → starts e w ≡ some r → order e (w .offset) (w .word) ≡ some r
+starts-order e w r = by-place (placeOf (w .offset))
+  where
+    by-place : (q : Place) → startAt q e w ≡ some r → orderAt q e (w .offset) (w .word) ≡ some r
+    by-place Register = λ h. h
+    by-place (Pattern i) = nothing-ordered r
+    by-place Launch =
+        picked (λ (o : Option Regs). o ≡ some r → orderAt Launch e (w .offset) (w .word) ≡ some r) (e .blit .waiting) _ _ (λ t. nothing-ordered r) (λ t h. h)
+    by-place Nowhere = nothing-ordered r
+
 -- ---- a plain copy that a write has carried out
 pub record Made (e : Engine) (m : List ℕ) (r : Regs) (s : Step) : Type 0 where
   pub answer : s .answer ≡ Taken (height r * width r)
@@ -112,27 +136,46 @@ pub record Made (e : Engine) (m : List ℕ) (r : Regs) (s : Step) : Type 0 where
   pub opened : s .engine .opened ≡ e .opened
   pub rests : s .engine .blit .waiting ≡ false
 
-copied-made : (e next : Engine) (m : List ℕ) → next .opened ≡ e .opened → next .blit .waiting ≡ false → Bytes m
-    → Plain (length m) (regs next) → Apart (targetRect (regs next)) (sourceRect (regs next)) → Made e m (regs next) (copied e next m)
-copied-made e next m o rests bytes plain apart =
-    let r = regs next in
-    let touches = asBefore (copyTask r) (next .bank .pattern) m (covered (copyCut r)) in
-    let st = paint (target r) touches (state m 0) in
-    let k = plain-copied m r plain (next .bank .pattern) bytes apart in
-    picked (Made e m r) (eqb (copyVerdict r (length m)) 0) _ _
-    (λ v. record {
-      answer = ap {B = Answer} (λ (n : ℕ). Taken n) (k .count);
-      came = k .came;
-      bytes = paint-bytes (target r) touches (state m 0) bytes;
-      opened = o;
-      rests = rests;
-    })
-    (λ v. absurd (false≢true (sym v ∙ eq-eqb (copyVerdict r (length m)) 0 (taken (length m) r plain apart))))
+-- a copy that no row refuses is answered 0, and leaves no host blit
+record Kept (e : Engine) (s : Step) : Type 0 where
+  taken : s .answer ≡ Taken (countOf (s .answer))
+  opened : s .engine .opened ≡ e .opened
+  rests : s .engine .blit .waiting ≡ false
 
+copied-kept : (e next : Engine) (m : List ℕ) → next .opened ≡ e .opened → next .blit .waiting ≡ false → copyVerdict (regs next) (length m) ≡ 0 → Kept e (copied e next m)
+copied-kept e next m o rests fine =
+    picked (Kept e) (eqb (copyVerdict (regs next) (length m)) 0) _ _
+    (λ v. record { taken = refl; opened = o; rests = rests })
+    (λ v. absurd (false≢true (sym v ∙ eq-eqb (copyVerdict (regs next) (length m)) 0 fine)))
+
+-- it shares no pixel with its source
+shares-none : (len : ℕ) (r : Regs) → Plain len r → Apart (targetRect r) (sourceRect r) → SharesNone r
+shares-none len r plain apart same p i j =
+    let c = copyCut r in
+    let colour = target-colour (r .dstBaseAddr) (r .dstFormat) (and-left (targetFine r) _ (plain .fine)) in
+    let b = byte-of (target r) (colour .some) p 0 (colour .some) in
+    by-size len r plain
+    (λ w h. no-byte (targetRect r) (sourceRect r) len (plain .targetOn) (plain .sourceOn) (colour .some) apart p p (byteOf (target r) (p .x) (p .y) 0)
+    (in-of (targetRect r) len (plain .targetOn) p (subst (λ (c : Cut). In p (covered c)) (whole len r plain w h) i))
+    (in-of (sourceRect r) len (plain .sourceOn) p
+    (subst (In p) (ap (λ (c : Cut). pixels (needed c)) (whole len r plain w h) ∙ ap pixels (needed-rect (full r)) ∙ pixels-rect (sourceRect r) len (plain .sourceOn) w h) j))
+    b (subst (λ (s : Surface). IsByte s p (byteOf (target r) (p .x) (p .y) 0)) same b))
+    (λ none. let k = in-rect false false (c .x) (c .y) (c .w) (c .h) p i in none-left len r plain none (omega arith) (omega arith))
+
+-- so it leaves what it would if each pixel took its source as it was
 pub write-made : (e : Engine) (m : List ℕ) (w : Write) (r : Regs) → length m ≤ 2 ^ 24 → length m ≡ e .opened → Bytes m → starts e w ≡ some r
     → Plain (length m) r → Apart (targetRect r) (sourceRect r) → Made e m r (by e m w)
 write-made e m w r limit opened bytes h plain apart =
     let k = issues e m w r (plain .copy) limit opened h in
-    subst⁻¹ (Made e m r) (k .carries)
-    (subst (λ (q : Regs). Plain (length m) q → Apart (targetRect q) (sourceRect q) → Made e m q (copied e (k .next) m)) (k .holds)
-    (copied-made e (k .next) m (k .opened) (k .rests) bytes) plain apart)
+    let fine = subst⁻¹ (λ (q : Regs). copyVerdict q (length m) ≡ 0) (k .holds) (taken (length m) r plain apart) in
+    let kept = subst⁻¹ (Kept e) (k .carries) (copied-kept e (k .next) m (k .opened) (k .rests) fine) in
+    let copies : Copies e m (w .offset) (w .word) r = record { carries = starts-order e w r h; copy = plain .copy; taken = ap numberOf (kept .taken) } in
+    let left = copies-as-before e m (w .offset) (w .word) r copies (shares-none (length m) r plain apart) in
+    let c = plain-copied m r plain (e .bank .pattern) bytes apart in
+    record {
+      answer = kept .taken ∙ ap {B = Answer} (λ (n : ℕ). Taken n) (ap (λ (st : State). st .count) left ∙ c .count);
+      came = subst⁻¹ (λ (st : State). Came (sourceRect r) (targetRect r) m (st .mem)) left (c .came);
+      bytes = subst⁻¹ (λ (st : State). Bytes (st .mem)) left (paint-bytes (target r) (asBefore (copyTask r) (e .bank .pattern) m (covered (copyCut r))) (state m 0) bytes);
+      opened = kept .opened;
+      rests = kept .rests;
+    }

@@ -23,6 +23,11 @@ rect toLeft toTop x y w zero = []
 rect toLeft false x y w (suc h) = across toLeft x w y ++ rect toLeft false x (y + 1) w h
 rect toLeft true x y w (suc h) = across toLeft x w (y + h) ++ rect toLeft true x y w h
 
+-- of two places on an axis the second does not come before the first: from the low end, or from the high one
+abbrev pub NotBefore : Bool → ℕ → ℕ → Type 0
+NotBefore false a b = a ≤ b
+NotBefore true a b = b ≤ a
+
 -- pixel p is one of the rectangle's
 pub record Inside (x y w h : ℕ) (p : Px) : Type 0 where
   pub left : x ≤ p .x

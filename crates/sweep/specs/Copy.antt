@@ -2,11 +2,11 @@
 -- Assumes nothing.
 use mathlib.Core.Path.{_≡_}
 use mathlib.Core.Logic.{_⊎_}
-use mathlib.Core.Bool.{Bool, true, false, cond, _&&_, _||_}
+use mathlib.Core.Bool.{true, false, cond}
 use mathlib.Core.List.{List, map}
 use mathlib.Core.Option.{Option}
 use Prim.Native.Nat.{ℕ, _+_, _-_, _^_, _≤_, _<_}
-use lib.Dec.{eqb, ltb}
+use lib.Dec.{eqb}
 use Rattle.surface.specs.Place.{readPx, monoBit, onSurface, Small, Colour, OnColour}
 use Rattle.surface.specs.Pixels.{Px, px, rect}
 use Rattle.spans.specs.Span.{allOn, spanOf, meet}
@@ -37,13 +37,13 @@ giving t pattern m now p =
     (sourceBy t (patternBit pattern (patternColumn (t .ink) (p .x)) (patternRow (t .ink) (p .y))) m p)
     (readPx now (t .ink .target) (p .x) (p .y))
 
--- each pixel from the source as it was before the command, in the memory m
-abbrev pub asBefore : Task → List ℕ → List ℕ → List Px → List Touch
-asBefore t pattern m ps = map (λ p. touch p (λ now. giving t pattern m now p)) ps
-
 -- each pixel from the source as it is when its turn comes
 abbrev pub inTurn : Task → List ℕ → List Px → List Touch
 inTurn t pattern ps = map (λ p. touch p (λ now. giving t pattern now now p)) ps
+
+-- each pixel from the source as it was before the command, in the memory m: what no command does, and some copies are compared with
+abbrev pub asBefore : Task → List ℕ → List ℕ → List Px → List Touch
+asBefore t pattern m ps = map (λ p. touch p (λ now. giving t pattern m now p)) ps
 
 -- ---- what functions ask for
 
@@ -79,7 +79,3 @@ abbrev pub Orderly : Task → ℕ → ℕ → Type 0
 Orderly t w h =
     (t .from ≡ t .ink .target)
     ⊎ (meet (spanOf (t .ink .target) (rect false false (t .x) (t .y) w h)) (spanOf (t .from) (rect false false (t .sx) (t .sy) w h)) ≡ false)
-
--- from the lower right: where the source comes earlier than the target, row by row
-unfoldable pub backward : Task → Bool
-backward t = t .copies && (ltb (t .sy) (t .y) || (eqb (t .sy) (t .y) && ltb (t .sx) (t .x)))

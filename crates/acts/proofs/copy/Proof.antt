@@ -28,10 +28,16 @@ copy-cut-requires c κs = search needs
 copy-task-requires : tie.Need-copy-task-requires
 copy-task-requires c κs = search needs
 
-paint-rect-requires : tie.Need-paint-rect-requires
-paint-rect-requires c κs =
-    let a = (c .before .before .before .before .before .before .before .before .args) in
-    copy-ready (a .bank .regs) (length (a .mem .now)) (c .before .before .copy-task .ensures) (c .before .before .before .copy-cut .ensures) (c .before .before .before .before .before .copy-verdict .ensures) (c .before .before .before .before .if1 .left)
+from-right-requires : tie.Need-from-right-requires
+from-right-requires c κs = search needs
+
+from-bottom-requires : tie.Need-from-bottom-requires
+from-bottom-requires c κs = search needs
+
+copy-rect-requires : tie.Need-copy-rect-requires
+copy-rect-requires c κs =
+    let a = (c .before .before .before .before .before .before .before .before .before .before .args) in
+    copy-ready (a .bank .regs) (length (a .mem .now)) (c .before .before .before .before .copy-task .ensures) (c .before .before .before .before .before .copy-cut .ensures) (c .before .before .before .before .before .before .before .copy-verdict .ensures) (c .before .before .before .before .before .before .if1 .left)
 
 end-rect-requires : tie.Need-end-rect-requires
 end-rect-requires c κs = search needs
@@ -42,9 +48,9 @@ same-length c = search needs
 returns-2 : tie.Need-returns-2
 unfolding copyTask inkOf
 returns-2 c =
-    let a = (c .before .before .before .before .before .before .before .before .before .before .before .before .args) in
-    judged-yes _ (a .bank) (a .blit) (a .mem .now) (c .before .before .before .before .before .before .before .before .before .copy-verdict .result) (c .before .before .before .before .before .before .before .before .before .copy-verdict .ensures) _ (c .before .before .before .before .before .before .before .before .if1 .left)
-    (carried-out (a .blit) (c .end-rect .ensures) (painted-as (a .bank .pattern) (a .mem .now) (c .before .before .before .before .before .before .copy-task .ensures) (c .before .before .before .before .before .before .before .copy-cut .ensures) refl refl (c .before .before .before .paint-rect .ensures)))
+    let a = (c .before .before .before .before .before .before .before .before .before .before .before .before .before .before .args) in
+    judged-yes _ (a .bank) (a .blit) (a .mem .now) (c .before .before .before .before .before .before .before .before .before .before .before .copy-verdict .result) (c .before .before .before .before .before .before .before .before .before .before .before .copy-verdict .ensures) _ (c .before .before .before .before .before .before .before .before .before .before .if1 .left)
+    (carried-out (a .blit) (c .end-rect .ensures) (painted-as (a .bank .pattern) (a .mem .now) (c .before .before .before .before .before .before .before .before .copy-task .ensures) (c .before .before .before .before .before .before .before .before .before .copy-cut .ensures) (c .before .before .before .before .before .before .from-right .ensures) (c .before .before .before .before .before .from-bottom .ensures) refl refl (c .before .before .before .copy-rect .ensures)))
 
 pub copy-spec : {M : Type 1} → statement M
 copy-spec =
@@ -55,7 +61,9 @@ copy-spec =
     returns
     copy-cut-requires
     copy-task-requires
-    paint-rect-requires
+    from-right-requires
+    from-bottom-requires
+    copy-rect-requires
     end-rect-requires
     same-length
     returns-2)

@@ -28,8 +28,8 @@ fill-cut-requires c κs = search needs
 fill-task-requires : tie.Need-fill-task-requires
 fill-task-requires c κs = search needs
 
-paint-rect-requires : tie.Need-paint-rect-requires
-paint-rect-requires c κs =
+fill-rect-requires : tie.Need-fill-rect-requires
+fill-rect-requires c κs =
     let a = (c .before .before .before .before .before .before .before .before .args) in
     fill-ready (a .bank .regs) (length (a .mem .now)) (c .before .before .fill-task .ensures) (c .before .before .before .fill-cut .ensures) (c .before .before .before .before .before .fill-verdict .ensures) (c .before .before .before .before .if1 .left)
 
@@ -44,7 +44,7 @@ unfolding fillTask inkOf
 returns-2 c =
     let a = (c .before .before .before .before .before .before .before .before .before .before .before .before .args) in
     judged-yes _ (a .bank) (a .blit) (a .mem .now) (c .before .before .before .before .before .before .before .before .before .fill-verdict .result) (c .before .before .before .before .before .before .before .before .before .fill-verdict .ensures) _ (c .before .before .before .before .before .before .before .before .if1 .left)
-    (carried-out (a .blit) (c .end-rect .ensures) (painted-as (a .bank .pattern) (a .mem .now) (c .before .before .before .before .before .before .fill-task .ensures) (c .before .before .before .before .before .before .before .fill-cut .ensures) refl refl (c .before .before .before .paint-rect .ensures)))
+    (carried-out (a .blit) (c .end-rect .ensures) (painted-as (a .bank .pattern) (a .mem .now) (c .before .before .before .before .before .before .fill-task .ensures) (c .before .before .before .before .before .before .before .fill-cut .ensures) refl refl refl refl (c .before .before .before .fill-rect .ensures)))
 
 pub fill-spec : {M : Type 1} → statement M
 fill-spec =
@@ -55,7 +55,7 @@ fill-spec =
     returns
     fill-cut-requires
     fill-task-requires
-    paint-rect-requires
+    fill-rect-requires
     end-rect-requires
     same-length
     returns-2)

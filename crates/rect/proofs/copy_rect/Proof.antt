@@ -1,25 +1,28 @@
--- `rect::copy_rect` meets its contract: a mono copy gives each pixel the colour of its bit, a plain one moves its source's bytes, a straight one gives the source or keeps; otherwise the corner chosen is one from which each pixel has its source as it was.
+-- `rect::copy_rect` meets its contract: a mono copy gives each pixel the colour of its bit, a plain one that is not late moves its source's bytes, a straight one gives the source or keeps; and the loops go from the corner that is asked for.
 -- Assumes nothing.
 use borrow.Author.Needs.{needs}
-use mathlib.Core.Path.{sym, ap, ap₂, subst⁻¹, _∙_}
-use mathlib.Core.Bool.{Bool, false}
-use mathlib.Core.Option.{some}
+use mathlib.Core.Path.{_≡_, sym, ap, ap₂, subst⁻¹, _∙_}
+use mathlib.Core.Bool.{Bool, true, false, not, _&&_}
+use Prim.Native.Nat.{ℕ}
 use native.Mathlib.Nat.{mul-comm}
 use native.Mathlib.Omega.{arith}
+use borrow.Author.Tests.{not-true}
 use lib.ListN.{length}
 use Rattle.surface.specs.Pixels.{rect}
 use Rattle.surface.proofs.Bytes.{product-lt}
+use Rattle.surface.proofs.OnLaws.{and-left, and-right}
 use Rattle.paint.specs.Paint.{state, paint}
-use Rattle.sweep.specs.Copy.{giving, inTurn}
-use Rattle.rect.specs.Fast.{monoOf, straightOf}
+use Rattle.sweep.specs.declared.Task.{Task}
+use Rattle.sweep.specs.Copy.{giving}
+use Rattle.rect.specs.Fast.{plainly, monoOf, straightOf, late}
 use Rattle.bits.specs.declared.Mono.{Mono}
 use Rattle.straight.specs.declared.Straight.{Straight}
 use Rattle.straight.specs.Straight.{straightGiving, straightly, CanCopy}
 use Rattle.bits.specs.Bits.{monoGiving, monoly, CanMono}
 use Rattle.rect.proofs.Straight.{straight-gives, can-straight}
-use Rattle.rect.proofs.Mono.{is-mono, mono-gives, mono-apart, can-mono}
+use Rattle.rect.proofs.Mono.{is-mono, mono-gives, mono-corner, can-mono}
 use Rattle.paint.proofs.Turns.{paint-same}
-use Rattle.rect.proofs.Order.{in-order, in-any-order}
+use Rattle.rect.proofs.Order.{early-onward, as-before}
 use Rattle.paint.proofs.Frame.{Bytes}
 use Rattle.rect.proofs.Plain.{plainly-plain, plain-moves, plain-counts}
 use Rattle.runs.proofs.Runs.{given-once}
@@ -55,20 +58,25 @@ returns c =
     ∙ ap (λ (k : Mono). paint (k .plain .target) (monoly k (rect false false (k .x) (k .y) (a .w) (a .h))) (state m 0)) (made .0)
     ∙ sym (paint-same (a .t .ink .target) (λ q now. giving (a .t) (a .pattern) now now q) (λ q now. monoGiving (monoOf (a .t)) now q) ps
     (λ q i now. mono-gives (a .t) bitwise (made .1 .0) (made .1 .1) (a .pattern) now q) (state m 0))
-    ∙ in-any-order (a .t) (a .w) (a .h) (length m) (p .0) (λ _. p .1 .1) (mono-apart (a .t) (a .w) (a .h) (is-mono (a .t) bitwise) (p .0 .colour .some) (p .1 .1)) false (a .pattern) m 0
-
-goes-back-requires : tie.Need-goes-back-requires
-goes-back-requires c κs = search needs
+    ∙ mono-corner (a .t) (a .w) (a .h) (length m) (is-mono (a .t) bitwise) (p .0) (p .1 .1) (a .toLeft) (a .toTop) (a .pattern) m 0
 
 is-plain-requires : tie.Need-is-plain-requires
 is-plain-requires c κs = search needs
+
+is-late-requires : tie.Need-is-late-requires
+is-late-requires c κs = search needs
+
+-- a copy is moved where it is plain and not late
+by-tests : (t : Task) (w h : ℕ) (l u : Bool) {plain isLate : Bool} → plain ≡ plainly t → isLate ≡ late l u t w h → (plain && not isLate) ≡ true
+    → (plainly t ≡ true) × (late l u t w h ≡ false)
+by-tests t w h l u {plain} {isLate} e f both = (sym e ∙ and-left plain (not isLate) both, sym f ∙ not-true isLate (and-right plain (not isLate) both))
 
 move-rows-requires : tie.Need-move-rows-requires
 move-rows-requires c κs =
     let a = c .before .before .before .before .before .before .before .args in
     let p = c .before .before .before .before .before .before .before .pre in
-    let plain = sym (c .before .before .is-plain .ensures) ∙ c .before .if2 .taken in
-    record { plain = plain; can = p .0; orderly = p .1 .1; way = c .before .before .before .goes-back .ensures }
+    let tests = by-tests (a .t) (a .w) (a .h) (a .toLeft) (a .toTop) (c .before .before .before .is-plain .ensures) (c .before .before .is-late .ensures) (c .before .if2 .taken) in
+    record { plain = tests .0; can = p .0; orderly = p .1 .1; early = tests .1 }
 
 mul-result : tie.Need-mul-result
 mul-result c =
@@ -83,10 +91,13 @@ returns-2 : tie.Need-returns-2
 returns-2 c =
     let a = c .before .before .before .before .before .before .before .before .before .before .args in
     let p = c .before .before .before .before .before .before .before .before .before .before .pre in
-    let plain = plainly-plain (a .t) (sym (c .before .before .before .before .before .is-plain .ensures) ∙ c .before .before .before .before .if2 .taken) in
+    let tests = by-tests (a .t) (a .w) (a .h) (a .toLeft) (a .toTop) (c .before .before .before .before .before .before .is-plain .ensures) (c .before .before .before .before .before .is-late .ensures) (c .before .before .before .before .if2 .taken) in
+    let plain = plainly-plain (a .t) (tests .0) in
     let bytes : Bytes (a .mem .now) = (λ i. omega (arith, c .before .before .before .before .before .before .before .before .before .slice-known .given i)) in
     ap₂ state (given-once (c .before .before .move-rows .ensures) (plain-moves (a .t) (a .pattern) (a .mem .now) (a .w) (a .h) plain (p .0) bytes))
     (mul-comm (a .w) (a .h) ∙ sym (plain-counts (a .t) (a .pattern) (a .mem .now) (a .w) (a .h) plain (p .0) bytes))
+    ∙ sym (as-before (a .t) (a .w) (a .h) (length (a .mem .now)) (p .0) (λ _. p .1 .1) (a .toLeft) (a .toTop)
+    (early-onward (a .t) (a .w) (a .h) (length (a .mem .now)) (p .0) (λ _. p .1 .1) (a .toLeft) (a .toTop) (tests .1)) (a .pattern) (a .mem .now) 0)
 
 is-straight-requires : tie.Need-is-straight-requires
 is-straight-requires c κs = search needs
@@ -107,16 +118,12 @@ returns-3 : tie.Need-returns-3
 unfolding straightOf
 returns-3 c =
     let a = c .before .before .before .before .before .before .before .before .before .before .before .before .before .args in
-    let p = c .before .before .before .before .before .before .before .before .before .before .before .before .before .pre in
     let straight = sym (c .before .before .before .before .before .before .is-straight .ensures) ∙ c .before .before .before .before .before .if3 .taken in
     let m = a .mem .now in
-    let back = c .before .before .before .before .before .before .before .before .before .goes-back in
     c .before .before .straight-rows .ensures
-    ∙ ap (λ (k : Straight). paint (k .target) (straightly k (rect (back .result) (back .result) (k .x) (k .y) (a .w) (a .h))) (state m 0)) (c .before .before .before .straight-of .ensures)
+    ∙ ap (λ (k : Straight). paint (k .target) (straightly k (rect (a .toLeft) (a .toTop) (k .x) (k .y) (a .w) (a .h))) (state m 0)) (c .before .before .before .straight-of .ensures)
     ∙ sym (paint-same (a .t .ink .target) (λ q now. giving (a .t) (a .pattern) now now q) (λ q now. straightGiving (straightOf (a .t)) now q)
-    (rect (back .result) (back .result) (a .t .x) (a .t .y) (a .w) (a .h)) (λ q i now. straight-gives (a .t) straight (a .pattern) now q) (state m 0))
-    ∙ ap (λ (b : Bool). paint (a .t .ink .target) (inTurn (a .t) (a .pattern) (rect b b (a .t .x) (a .t .y) (a .w) (a .h))) (state m 0)) (back .ensures)
-    ∙ in-order (a .t) (a .w) (a .h) (length m) (p .0) (λ _. p .1 .1) (a .pattern) m 0
+    (rect (a .toLeft) (a .toTop) (a .t .x) (a .t .y) (a .w) (a .h)) (λ q i now. straight-gives (a .t) straight (a .pattern) now q) (state m 0))
 
 paint-rows-requires : tie.Need-paint-rows-requires
 paint-rows-requires c κs = search needs
@@ -125,12 +132,7 @@ same-length-4 : tie.Need-same-length-4
 same-length-4 c = search needs
 
 returns-4 : tie.Need-returns-4
-returns-4 c =
-    let a = c .before .before .before .before .before .before .before .before .before .before .before .before .args in
-    let p = c .before .before .before .before .before .before .before .before .before .before .before .before .pre in
-    c .before .before .paint-rows .ensures
-    ∙ ap (λ (b : Bool). paint (a .t .ink .target) (inTurn (a .t) (a .pattern) (rect b b (a .t .x) (a .t .y) (a .w) (a .h))) (state (a .mem .now) 0)) (c .before .before .before .before .before .before .before .before .goes-back .ensures)
-    ∙ in-order (a .t) (a .w) (a .h) (length (a .mem .now)) (p .0) (λ _. p .1 .1) (a .pattern) (a .mem .now) 0
+returns-4 c = search needs
 
 pub copy-rect-spec : {M : Type 1} → statement M
 copy-rect-spec =
@@ -141,8 +143,8 @@ copy-rect-spec =
     mono-rows-requires
     same-length
     returns
-    goes-back-requires
     is-plain-requires
+    is-late-requires
     move-rows-requires
     mul-result
     same-length-2

@@ -12,7 +12,7 @@ use Rattle.runs.specs.Runs.{evenly}
 use Rattle.tint.specs.Tint.{filling}
 use Rattle.paint.proofs.Turns.{paint-same}
 use Rattle.paint.proofs.MixLaws.{not-true}
-use Rattle.rect.proofs.Solid.{solid-gives, fill-gives, fill-alone}
+use Rattle.rect.proofs.Solid.{solid-gives, fill-alone}
 use Rattle.sweep.proofs.TaskLaws.{can-pixel}
 use Rattle.rect.proofs.fill_rect.Statement.{statement}
 use Rattle.rect.proofs.fill_rect.Tie as tie
@@ -38,8 +38,8 @@ returns c =
     let ps = rect false false (a .t .x) (a .t .y) (a .w) (a .h) in
     c .before .before .solid-rows .ensures
     ∙ ap (λ (v : ℕ). paint (a .t .ink .target) (evenly v ps) (state (a .mem .now) 0)) (c .before .before .before .before .raster .ensures)
-    ∙ sym (paint-same (a .t .ink .target) (λ p now. giving (a .t) (a .pattern) (a .mem .now) now p) (λ p now. some _) ps
-    (λ p i now. solid-gives (a .t) (a .pattern) (a .mem .now) now p solid) (state (a .mem .now) 0))
+    ∙ sym (paint-same (a .t .ink .target) (λ p now. giving (a .t) (a .pattern) now now p) (λ p now. some _) ps
+    (λ p i now. solid-gives (a .t) (a .pattern) now now p solid) (state (a .mem .now) 0))
 
 tint-rows-requires : tie.Need-tint-rows-requires
 tint-rows-requires c κs =
@@ -55,8 +55,8 @@ returns-2 : tie.Need-returns-2
 returns-2 c =
     let a = c .before .before .before .before .before .before .before .before .before .args in
     c .before .before .tint-rows .ensures
-    ∙ sym (paint-same (a .t .ink .target) (λ p now. giving (a .t) (a .pattern) (a .mem .now) now p) (λ p now. filling (a .t .ink) (a .pattern) now p)
-    (rect false false (a .t .x) (a .t .y) (a .w) (a .h)) (λ q i now. fill-alone (a .t) (a .pattern) (a .mem .now) now q (c .before .before .before .before .before .before .before .before .before .pre .1)) (state (a .mem .now) 0))
+    ∙ sym (paint-same (a .t .ink .target) (λ p now. giving (a .t) (a .pattern) now now p) (λ p now. filling (a .t .ink) (a .pattern) now p)
+    (rect false false (a .t .x) (a .t .y) (a .w) (a .h)) (λ q i now. fill-alone (a .t) (a .pattern) now now q (c .before .before .before .before .before .before .before .before .before .pre .1)) (state (a .mem .now) 0))
 
 paint-rows-requires : tie.Need-paint-rows-requires
 paint-rows-requires c κs = search needs
@@ -65,12 +65,7 @@ same-length-3 : tie.Need-same-length-3
 same-length-3 c = search needs
 
 returns-3 : tie.Need-returns-3
-returns-3 c =
-    let a = c .before .before .before .before .before .before .before .before .before .args in
-    let p = c .before .before .before .before .before .before .before .before .before .pre in
-    c .before .before .paint-rows .ensures
-    ∙ paint-same (a .t .ink .target) (λ p now. giving (a .t) (a .pattern) now now p) (λ p now. giving (a .t) (a .pattern) (a .mem .now) now p)
-    (rect false false (a .t .x) (a .t .y) (a .w) (a .h)) (λ q i now. fill-gives (a .t) (a .pattern) now (a .mem .now) now q (p .1)) (state (a .mem .now) 0)
+returns-3 c = search needs
 
 pub fill-rect-spec : {M : Type 1} → statement M
 fill-rect-spec =

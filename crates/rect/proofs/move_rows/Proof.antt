@@ -14,11 +14,11 @@ use Rattle.rect.proofs.move_rows.Statement.{statement}
 use Rattle.rect.proofs.move_rows.Tie as tie
 
 abbrev Inv-loop : tie.InvT-loop
-Inv-loop mem₀ t w h back n j₀ mem j =
-    Given (t .ink .target) (sourceByte t mem₀) (t .x) (doneTop back (t .y) h j) w j mem₀ mem × (j ≤ h) × (n ≡ w * t .from .bytes)
+Inv-loop mem₀ t w h toLeft toTop n j₀ mem j =
+    Given (t .ink .target) (sourceByte t mem₀) (t .x) (doneTop toTop (t .y) h j) w j mem₀ mem × (j ≤ h) × (n ≡ w * t .from .bytes)
 
 abbrev μ-loop : tie.MeasureT-loop
-μ-loop mem₀ t w h back n j₀ mem j = h - j
+μ-loop mem₀ t w h toLeft toTop n j₀ mem j = h - j
 
 mul-n : tie.Need-mul-n Inv-loop μ-loop
 mul-n c =
@@ -35,7 +35,7 @@ cast-n c =
 loop-holds : tie.Need-loop-holds Inv-loop μ-loop
 loop-holds c =
     let a = c .before .before .args in
-    (given-none (a .t .ink .target) (sourceByte (a .t) (a .mem .now)) (a .t .x) (doneTop (a .back) (a .t .y) (a .h) 0) (a .w) (a .mem .now), omega arith, refl)
+    (given-none (a .t .ink .target) (sourceByte (a .t) (a .mem .now)) (a .t .x) (doneTop (a .toTop) (a .t .y) (a .h) 0) (a .w) (a .mem .now), omega arith, refl)
 
 place-requires : tie.Need-place-requires Inv-loop μ-loop
 place-requires c κs = (c .loop-test .taken, c .before .before .before .before .pre .can .high)
@@ -47,7 +47,7 @@ move-row-requires c κs =
     let k = c .before .before .before .loop in
     let y = c .before .place .result in
     let e = c .before .place .ensures in
-    let rows = nth-in (a .back) (a .t .y) (a .h) (k .j) (c .before .before .loop-test .taken) in
+    let rows = nth-in (a .toTop) (a .t .y) (a .h) (k .j) (c .before .before .loop-test .taken) in
     rw (k .inv .0 .long) (row-moves p y (omega arith) (omega arith))
 
 add-j : tie.Need-add-j Inv-loop μ-loop
@@ -64,7 +64,7 @@ loop-again c =
     let taken = c .before .before .before .before .before .loop-test .taken in
     let y = c .before .before .before .before .place .result in
     let e = c .before .before .before .before .place .ensures in
-    let rows = nth-in (a .back) (a .t .y) (a .h) (k .j) taken in (
+    let rows = nth-in (a .toTop) (a .t .y) (a .h) (k .j) taken in (
       next-row p (k .j) y (a .mem .now) (k .mem) _ taken e (omega arith) (omega arith) (k .inv .0) (c .before .before .move-row .ensures),
       omega arith,
       refl,
@@ -78,8 +78,8 @@ returns c =
     let a = c .before .before .before .before .args in
     let k = c .before .loop in
     let end : k .j ≡ a .h = omega (arith, c .loop-test .left) in
-    subst (λ (y : ℕ). Given (a .t .ink .target) (sourceByte (a .t) (a .mem .now)) (a .t .x) y (a .w) (a .h) (a .mem .now) (k .mem)) (done-all (a .back) (a .t .y) (a .h) (k .j) end)
-    (subst (λ (n : ℕ). Given (a .t .ink .target) (sourceByte (a .t) (a .mem .now)) (a .t .x) (doneTop (a .back) (a .t .y) (a .h) (k .j)) (a .w) n (a .mem .now) (k .mem)) end (k .inv .0))
+    subst (λ (y : ℕ). Given (a .t .ink .target) (sourceByte (a .t) (a .mem .now)) (a .t .x) y (a .w) (a .h) (a .mem .now) (k .mem)) (done-all (a .toTop) (a .t .y) (a .h) (k .j) end)
+    (subst (λ (n : ℕ). Given (a .t .ink .target) (sourceByte (a .t) (a .mem .now)) (a .t .x) (doneTop (a .toTop) (a .t .y) (a .h) (k .j)) (a .w) n (a .mem .now) (k .mem)) end (k .inv .0))
 
 pub move-rows-spec : {M : Type 1} → statement M
 move-rows-spec =
