@@ -1,20 +1,72 @@
--- Every marked line of the sample sheet holds: one statement over the list.
+-- Every line of the sample sheet holds: one statement over the list, whose parts are computed one by one.
 -- Assumes nothing.
-use mathlib.Core.Path.{_≡_, refl}
-use mathlib.Core.List.{map}
+use mathlib.Core.Path.{_≡_, refl, sym, ap₂, _∙_}
+use mathlib.Core.List.{List, [], _∷_, _++_, map, map-append}
+use Prim.Native.Nat.{ℕ}
 use Rattle.raster.specs.Rop.{ropBit, ropBits}
-use Rattle.surface.specs.Place.{rowBytes, byteAt, monoBit, rowPixels, firstByte, byteCount, inMemory, onSurface}
-use Rattle.surface.specs.Pixels.{across}
+use Rattle.colour.specs.Convert.{allowed, converted}
+use Rattle.keys.specs.Key.{within, keyMatch}
+use Rattle.surface.specs.Place.{rowBytes, byteAt, byteOf, readBytes, writeBytes, readPx, writePx, monoBit, rowPixels, firstByte, byteCount, inMemory, onSurface}
+use Rattle.surface.specs.Pixels.{across, rect}
 use Rattle.spans.specs.Span.{allOn}
-use Rattle.formats.specs.Format.{targetOf}
+use Rattle.formats.specs.Format.{targetOf, sourceOf}
 use Rattle.formats.specs.Step.{rowLength, stepOf, dataBytes, dataWords}
 use Rattle.views.specs.View.{viewAnswer}
 use Rattle.line.specs.Line.{far, towards, xMajor, longer, shorter, aside, place, pointAt, pointsFrom, pointCount, points}
 use Rattle.line.specs.Stipple.{stepped, after, styleAfter}
 use Rattle.positions.specs.Position.{steppedXY}
 use Rattle.scale.specs.Scale.{scaled}
-use Rattle.samples.specs.Sheet.{sheet}
+use Rattle.ink.specs.Pattern.{patternBit, patternPixel, patternIn}
+use Rattle.paint.specs.Paint.{dab, paint}
+use Rattle.paint.specs.Mix.{colourSource, chosen, mixed}
+use Rattle.sweep.specs.Copy.{sourcePlace, sourceBy, giving}
+use Rattle.registers.specs.Kept.{kept}
+use Rattle.registers.specs.Regs.{putReg}
+use Rattle.registers.specs.Offsets.{placeOf}
+use Rattle.bank.specs.Bank.{freshBank, stored}
+use Rattle.cuts.specs.Cut.{clipOf, cutAt, copyCut}
+use Rattle.command.specs.Decode.{inkOf, copyTask}
+use Rattle.table.specs.Table.{allOnAt, copyVerdict}
+use Rattle.acts.specs.Deed.{rectEnded, carrying}
+use Rattle.engine.specs.Step.{freshEngine, storedIn, carried, commanded, toRegister, written}
+use Rattle.samples.specs.Sheet.{Line, marked, thumbnails, rowSmears, columnSmears, keyed, keyedSmears, smears, sheet}
+
+-- the lines of a list hold
+abbrev Hold : List Line → Type 0
+Hold lines = map (λ line. line .given) lines ≡ map (λ line. line .said) lines
+
+joined : (xs ys : List Line) → Hold xs → Hold ys → Hold (xs ++ ys)
+joined xs ys p q = map-append (λ (line : Line). line .given) xs ys ∙ ap₂ _++_ p q ∙ sym (map-append (λ (line : Line). line .said) xs ys)
+
+marked-hold : Hold marked
+unfolding ropBit ropBits rowBytes byteAt monoBit rowPixels firstByte byteCount inMemory onSurface across allOn targetOf rowLength stepOf dataBytes dataWords viewAnswer far towards xMajor longer shorter aside place pointAt pointsFrom pointCount points stepped after styleAfter steppedXY
+marked-hold = refl
+
+thumbnails-hold : Hold thumbnails
+unfolding scaled
+thumbnails-hold = refl
+
+rows-hold : Hold rowSmears
+unfolding rowBytes byteAt rowPixels firstByte byteCount inMemory onSurface across allOn targetOf stepOf steppedXY ropBit ropBits allowed converted within keyMatch byteOf readBytes writeBytes readPx writePx rect sourceOf patternBit patternPixel patternIn dab paint colourSource chosen mixed sourcePlace sourceBy giving kept putReg placeOf freshBank stored clipOf cutAt copyCut inkOf copyTask allOnAt copyVerdict rectEnded carrying freshEngine storedIn carried commanded toRegister written
+rows-hold = refl
+
+columns-hold : Hold columnSmears
+unfolding rowBytes byteAt rowPixels firstByte byteCount inMemory onSurface across allOn targetOf stepOf steppedXY ropBit ropBits allowed converted within keyMatch byteOf readBytes writeBytes readPx writePx rect sourceOf patternBit patternPixel patternIn dab paint colourSource chosen mixed sourcePlace sourceBy giving kept putReg placeOf freshBank stored clipOf cutAt copyCut inkOf copyTask allOnAt copyVerdict rectEnded carrying freshEngine storedIn carried commanded toRegister written
+columns-hold = refl
+
+by-source-key : keyed (0x38 ∷ 1 ∷ 0x18 ∷ 2 ∷ 0x1c ∷ 2 ∷ 0x30 ∷ 0xaa00 ∷ []) ≡ 1 ∷ 1 ∷ 1 ∷ 1 ∷ []
+unfolding rowBytes byteAt rowPixels firstByte byteCount inMemory onSurface across allOn targetOf stepOf steppedXY ropBit ropBits allowed converted within keyMatch byteOf readBytes writeBytes readPx writePx rect sourceOf patternBit patternPixel patternIn dab paint colourSource chosen mixed sourcePlace sourceBy giving kept putReg placeOf freshBank stored clipOf cutAt copyCut inkOf copyTask allOnAt copyVerdict rectEnded carrying freshEngine storedIn carried commanded toRegister written
+by-source-key = refl
+
+by-target-key : keyed (0x38 ∷ 2 ∷ 0x20 ∷ 2 ∷ 0x24 ∷ 2 ∷ 0x30 ∷ 0xaa ∷ []) ≡ 1 ∷ 2 ∷ 2 ∷ 2 ∷ []
+unfolding rowBytes byteAt rowPixels firstByte byteCount inMemory onSurface across allOn targetOf stepOf steppedXY ropBit ropBits allowed converted within keyMatch byteOf readBytes writeBytes readPx writePx rect sourceOf patternBit patternPixel patternIn dab paint colourSource chosen mixed sourcePlace sourceBy giving kept putReg placeOf freshBank stored clipOf cutAt copyCut inkOf copyTask allOnAt copyVerdict rectEnded carrying freshEngine storedIn carried commanded toRegister written
+by-target-key = refl
+
+keyed-hold : Hold keyedSmears
+keyed-hold = ap₂ (λ (a b : List ℕ). a ∷ b ∷ []) by-source-key by-target-key
+
+smears-hold : Hold smears
+smears-hold = joined rowSmears (columnSmears ++ keyedSmears) rows-hold (joined columnSmears keyedSmears columns-hold keyed-hold)
 
 pub samples : map (λ line. line .given) sheet ≡ map (λ line. line .said) sheet
-unfolding ropBit ropBits rowBytes byteAt monoBit rowPixels firstByte byteCount inMemory onSurface across allOn targetOf rowLength stepOf dataBytes dataWords viewAnswer far towards xMajor longer shorter aside place pointAt pointsFrom pointCount points stepped after styleAfter steppedXY scaled
-samples = refl
+samples = joined marked (thumbnails ++ smears) marked-hold (joined thumbnails smears thumbnails-hold smears-hold)

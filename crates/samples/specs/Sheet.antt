@@ -1,6 +1,6 @@
 -- The marked lines of the sample sheet of document 01, and those of the requests that followed, as a list: what the definitions give beside what the sheet says.
 -- Assumes nothing.
-use mathlib.Core.List.{List, [], _∷_, map}
+use mathlib.Core.List.{List, [], _∷_, _++_, map}
 use mathlib.Core.Bool.{true, false, cond}
 use Prim.Native.Nat.{ℕ, zero, suc, _-_, _/_, _%_}
 use lib.Dec.{eqb}
@@ -14,6 +14,8 @@ use Rattle.line.specs.Stipple.{styleAfter}
 use Rattle.positions.specs.Position.{origin, placed, steppedXY}
 use Rattle.scale.specs.declared.Scale.{Scale}
 use Rattle.scale.specs.Scale.{scaled}
+use Rattle.engine.specs.declared.Engine.{Engine}
+use Rattle.engine.specs.Step.{freshEngine, written}
 
 -- a line of the sheet: the numbers that the definitions give, and those that the sheet says
 pub record Line : Type 0 where
@@ -37,8 +39,30 @@ monoPixels word =
 abbrev pub columnsTo : ℕ → ℕ → Scale
 columnsTo sourceSize size = record { to = 0; size = size; from = 0; sourceSize = sourceSize }
 
-abbrev pub sheet : List Line
-sheet =
+-- what a fresh engine leaves of a memory after writes, each an offset and a word
+abbrev pub played : Engine → List ℕ → List ℕ → List ℕ
+played e m (o ∷ d ∷ more) = played (written e m o d .engine) (written e m o d .memory) more
+played e m (o ∷ []) = m
+played e m [] = m
+
+-- four bytes as a row of one surface of 8 bpp, or as a column, after more writes and a screen copy of three of them, by its srcXY, dstXY and command
+abbrev pub rowCopied : List ℕ → List ℕ → ℕ → ℕ → ℕ → List ℕ
+rowCopied more m from to command =
+    played (freshEngine 4) m (0x14 ∷ 0x10004 ∷ 0x54 ∷ 0x10004 ∷ 0x0c ∷ 0x10004 ∷ 0x68 ∷ 0x10003 ∷ 0x5c ∷ from ∷ 0x6c ∷ to ∷ more ++ (0x70 ∷ command ∷ []))
+
+abbrev pub columnCopied : List ℕ → ℕ → ℕ → ℕ → List ℕ
+columnCopied m from to command =
+    played (freshEngine 4) m (0x14 ∷ 0x10001 ∷ 0x54 ∷ 0x10001 ∷ 0x0c ∷ 0x40001 ∷ 0x68 ∷ 0x30001 ∷ 0x5c ∷ from ∷ 0x6c ∷ to ∷ 0x70 ∷ command ∷ [])
+
+abbrev pub abcd : List ℕ
+abcd = 65 ∷ 66 ∷ 67 ∷ 68 ∷ []
+
+abbrev pub keyed : List ℕ → List ℕ
+keyed keys = rowCopied keys (1 ∷ 2 ∷ 3 ∷ 4 ∷ []) 0 1 0xcc000101
+
+-- ---- the lines, of document 01 and of the requests
+abbrev pub marked : List Line
+marked =
     -- five bits 1, 8, 16, 31 become 8, 66, 132, 255; six bits 1, 32, 63 become 4, 130, 255
     is (map (repeated 5) (1 ∷ 8 ∷ 16 ∷ 31 ∷ [])) (8 ∷ 66 ∷ 132 ∷ 255 ∷ [])
     ∷ is (map (repeated 6) (1 ∷ 32 ∷ 63 ∷ [])) (4 ∷ 130 ∷ 255 ∷ [])
@@ -60,7 +84,43 @@ sheet =
     ∷ is (map (λ packing. dataWords 0 (stepOf packing 0 9 0) 9 2) (1 ∷ 3 ∷ [])) (1 ∷ 2 ∷ [])
     -- 24 bpp, stride 7: x = 1 taken, x = 2 refused 7
     ∷ is (map (λ x. viewAnswer 65536 0 0x40007 x 0 1) (1 ∷ 2 ∷ [])) (0 ∷ 7 ∷ [])
-    -- request One, a stretch of 4 to 2 columns takes 0, 2; of 3 to 5 it takes 0, 0, 1, 1, 2
-    ∷ is (map (scaled (columnsTo 4 2)) (0 ∷ 1 ∷ [])) (0 ∷ 2 ∷ [])
+    ∷ []
+
+abbrev pub thumbnails : List Line
+thumbnails =
+    -- a stretch of 4 to 2 columns takes 0, 2; of 3 to 5 it takes 0, 0, 1, 1, 2
+    is (map (scaled (columnsTo 4 2)) (0 ∷ 1 ∷ [])) (0 ∷ 2 ∷ [])
     ∷ is (map (scaled (columnsTo 3 5)) (0 ∷ 1 ∷ 2 ∷ 3 ∷ 4 ∷ [])) (0 ∷ 0 ∷ 1 ∷ 1 ∷ 2 ∷ [])
     ∷ []
+
+abbrev pub rowSmears : List Line
+rowSmears =
+    -- of a row A B C D the first three copied onto the last three: A A A A; from the right (bit 14): A A B C
+    is (rowCopied [] abcd 0 1 0xcc000101) (65 ∷ 65 ∷ 65 ∷ 65 ∷ [])
+    ∷ is (rowCopied [] abcd 2 3 0xcc004101) (65 ∷ 65 ∷ 66 ∷ 67 ∷ [])
+    -- the last three onto the first three: B C D D; from the right: D D D D
+    ∷ is (rowCopied [] abcd 1 0 0xcc000101) (66 ∷ 67 ∷ 68 ∷ 68 ∷ [])
+    ∷ is (rowCopied [] abcd 3 2 0xcc004101) (68 ∷ 68 ∷ 68 ∷ 68 ∷ [])
+    ∷ []
+
+abbrev pub columnSmears : List Line
+columnSmears =
+    -- of a column likewise, by bit 15
+    is (columnCopied abcd 0 0x10000 0xcc000101) (65 ∷ 65 ∷ 65 ∷ 65 ∷ [])
+    ∷ is (columnCopied abcd 0x20000 0x30000 0xcc008101) (65 ∷ 65 ∷ 66 ∷ 67 ∷ [])
+    ∷ is (columnCopied abcd 0x10000 0 0xcc000101) (66 ∷ 67 ∷ 68 ∷ 68 ∷ [])
+    ∷ is (columnCopied abcd 0x30000 0x20000 0xcc008101) (68 ∷ 68 ∷ 68 ∷ 68 ∷ [])
+    ∷ []
+
+abbrev pub keyedSmears : List Line
+keyedSmears =
+    -- keys read likewise, of 1 2 3 4 the first three onto the last three: with source key 2 to 2 and ROP2 AA: 1 1 1 1; with target key 2 to 2 and ROP1 AA: 1 2 2 2
+    is (keyed (0x38 ∷ 1 ∷ 0x18 ∷ 2 ∷ 0x1c ∷ 2 ∷ 0x30 ∷ 0xaa00 ∷ [])) (1 ∷ 1 ∷ 1 ∷ 1 ∷ [])
+    ∷ is (keyed (0x38 ∷ 2 ∷ 0x20 ∷ 2 ∷ 0x24 ∷ 2 ∷ 0x30 ∷ 0xaa ∷ [])) (1 ∷ 2 ∷ 2 ∷ 2 ∷ [])
+    ∷ []
+
+abbrev pub smears : List Line
+smears = rowSmears ++ (columnSmears ++ keyedSmears)
+
+abbrev pub sheet : List Line
+sheet = marked ++ (thumbnails ++ smears)
