@@ -105,13 +105,15 @@ static int copy_limit(void)
     return 1;
 }
 
+/* to the right and down, from the lower right corner: a move */
 static void over_set(void)
 {
     registers((n + 8) * bytes);
     out(srcBaseAddr, 0);
-    out(dstXY, both(5, 3));
-    out(command, 0xcc000001);
+    out(dstXY, both(n + 4, n + 2));
+    out(command, 0xcc00c001);
 }
+static void over_ours(void) { sink += out(launch, both(n - 1, n - 1)); }
 static void over_plain(void) { sink += plain_copy_over(bytes, target(), 0, 0, 5, 3, n, n); }
 static int over_limit(void)
 {
@@ -119,6 +121,16 @@ static int over_limit(void)
         memmove(theirs + (size_t)(j + 3) * stride + 5 * bytes, theirs + (size_t)j * stride, (size_t)n * bytes);
     return 1;
 }
+
+/* onto the right-hand neighbour, from the upper left corner: the first column spreads */
+static void smear_set(void)
+{
+    registers((n + 8) * bytes);
+    out(srcBaseAddr, 0);
+    out(dstXY, both(1, 0));
+    out(command, 0xcc000001);
+}
+static void smear_plain(void) { sink += plain_copy(bytes, target(), target(), 1, 0, n, n); }
 
 static void key_set(void)
 {
@@ -285,7 +297,8 @@ static const struct work works[] = {
     {"pattern fill 5A", 3, 30, 0, xor_set, launch_at_0, xor_plain, 0, 0},
     {"mono pattern, transparent", 3, 30, 0, mono_pattern_set, launch_at_0, mono_pattern_plain, 0, 0},
     {"plain copy", 3, 30, 0, copy_set, launch_at_0, copy_plain, copy_pixman, copy_limit},
-    {"overlapping copy", 3, 30, 0, over_set, launch_at_0, over_plain, 0, over_limit},
+    {"overlapping copy", 3, 30, 0, over_set, over_ours, over_plain, 0, over_limit},
+    {"smear", 3, 30, 0, smear_set, launch_at_0, smear_plain, 0, 0},
     {"copy with source key", 3, 30, 0, key_set, launch_at_0, key_plain, 0, 0},
     {"copy 66", 3, 30, 0, invert_set, launch_at_0, invert_plain, 0, 0},
     {"copy with target key", 3, 30, 0, into_key_set, launch_at_0, into_key_plain, 0, 0},
