@@ -1,5 +1,5 @@
-"""A proof sheet of three picture discs, with forty thumbnails of sleeves, as a recorded stream of register writes, for the
-program that prints pictures.
+"""A proof sheet of three picture discs, with forty thumbnails of sleeves and a border, as a recorded stream of register
+writes, for the program that prints pictures.
 
 python3 tools/demo.py docs/demo.stream    writes it: pairs of little-endian words, offset then data
 """
@@ -21,6 +21,7 @@ STRIP, THUMB = 108, 12  # the first row of the strip of thumbnails, and a thumbn
 LAUNCH, PATTERN, COLOUR_PATTERN = 0x80, 0x44, 0x100
 COPY, STRETCH, HOST, FILL, LINE = 0xCC000001, 0xCC000002, 0xCC000003, 0xCC000005, 0xCC000006
 STEP_X, STIPPLED, MONO_PATTERN, TRANSPARENT = 1 << 10, 1 << 12, 1 << 13, 1 << 16
+FROM_RIGHT, FROM_BOTTOM = 1 << 14, 1 << 15
 PATTERN_COPY = 0xF0000000 | FILL & 0xFF
 FORMAT_16, MONO_BYTES, COLOUR_WORDS = 0x30000, 0x400000, 0xC30000
 
@@ -99,9 +100,10 @@ class Stream:
         self.set(lineStipple=0b0001111, lineStyle=6 << 8)
         self.line(x, y, to_x, to_y, colour, LINE | STIPPLED | TRANSPARENT)
 
-    def copy(self, x: int, y: int, width: int, height: int, to_x: int, to_y: int) -> None:
+    def copy(self, x: int, y: int, width: int, height: int, to_x: int, to_y: int, turn: int = 0) -> None:
+        """A rectangle of the sheet; both places are those of the corner that the turn names."""
         self.set(srcFormat=FORMAT_16 | STRIDE, dstSize=height << 16 | width, dstXY=to_y << 16 | to_x)
-        self.launch(COPY, y << 16 | x)
+        self.launch(COPY | turn, y << 16 | x)
 
     def stretch(self, x: int, y: int, size: tuple[int, int], to_x: int, to_y: int, to_size: tuple[int, int],
                 command: int = STRETCH) -> None:
@@ -296,6 +298,19 @@ def marks(sheet: Stream) -> None:
     sheet.keyed(None)
 
 
+def border(sheet: Stream) -> None:
+    """Three lines along each side of the sheet. The end of a side is painted, and one copy of it onto its neighbour, over the
+    side's whole length and away from that end, spreads it."""
+    for line, tint in enumerate((mix(GOLD, INK, 0.5), GOLD, mix(GOLD, INK, 0.7)), 1):
+        for x, y in ((6, line), (line, 6), (WIDTH - 7, HEIGHT - 1 - line), (WIDTH - 1 - line, HEIGHT - 7)):
+            sheet.fill(x, y, 1, 1, tint)
+    across, down = WIDTH - 13, HEIGHT - 13
+    sheet.copy(6, 1, across, 3, 7, 1)
+    sheet.copy(1, 6, 3, down, 1, 7)
+    sheet.copy(WIDTH - 7, HEIGHT - 4, across, 3, WIDTH - 8, HEIGHT - 4, FROM_RIGHT)
+    sheet.copy(WIDTH - 4, HEIGHT - 7, 3, down, WIDTH - 4, HEIGHT - 8, FROM_BOTTOM)
+
+
 # --- forty thumbnails ---
 
 def round_fill(sheet: Stream, x: int, y: int, size: int, radius: float, colour: Colour) -> None:
@@ -404,6 +419,7 @@ def proof_sheet() -> Stream:
     sheet.clip(0, 0, WIDTH, HEIGHT)
     sheet.hatch(0, 0, WIDTH, HEIGHT, bytes.fromhex("8800220088002200"), (58, 62, 84), (24, 26, 38))
     marks(sheet)
+    border(sheet)
     sheet.fill(8, 8, 190, 150, (8, 8, 14))
     sheet.fill(6, 6, 190, 150, PAPER)
     sheet.fill(6, 6, 190, 12, INK)
