@@ -299,16 +299,16 @@ def marks(sheet: Stream) -> None:
 
 
 def border(sheet: Stream) -> None:
-    """Three lines along each side of the sheet. The end of a side is painted, and one copy of it onto its neighbour, over the
-    side's whole length and away from that end, spreads it."""
+    """Three lines along each side of the sheet, clockwise. The first end of a side is painted, and one copy of it onto its
+    neighbour, over the side's whole length and away from that end, spreads it: each side from another corner."""
     for line, tint in enumerate((mix(GOLD, INK, 0.5), GOLD, mix(GOLD, INK, 0.7)), 1):
-        for x, y in ((6, line), (line, 6), (WIDTH - 7, HEIGHT - 1 - line), (WIDTH - 1 - line, HEIGHT - 7)):
+        for x, y in ((6, line), (WIDTH - 1 - line, 6), (WIDTH - 7, HEIGHT - 1 - line), (line, HEIGHT - 7)):
             sheet.fill(x, y, 1, 1, tint)
     across, down = WIDTH - 13, HEIGHT - 13
     sheet.copy(6, 1, across, 3, 7, 1)
-    sheet.copy(1, 6, 3, down, 1, 7)
-    sheet.copy(WIDTH - 7, HEIGHT - 4, across, 3, WIDTH - 8, HEIGHT - 4, FROM_RIGHT)
-    sheet.copy(WIDTH - 4, HEIGHT - 7, 3, down, WIDTH - 4, HEIGHT - 8, FROM_BOTTOM)
+    sheet.copy(WIDTH - 2, 6, 3, down, WIDTH - 2, 7, FROM_RIGHT)
+    sheet.copy(WIDTH - 7, HEIGHT - 2, across, 3, WIDTH - 8, HEIGHT - 2, FROM_RIGHT | FROM_BOTTOM)
+    sheet.copy(1, HEIGHT - 7, 3, down, 1, HEIGHT - 8, FROM_BOTTOM)
 
 
 # --- forty thumbnails ---
