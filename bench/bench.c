@@ -272,6 +272,33 @@ static void line_plain(void)
     sink += plain_line(bytes, target(), n - 1, 0, n / 3, n - 1, 0xfff, 0xfff, &pen);
 }
 
+/* on tiles: the target, the source, or both */
+static u32 tiles_across(void) { return (n * bytes + 127) / 128; }
+static void tiles_set(int to, int from, u32 word)
+{
+    registers(n * bytes);
+    out(dstBaseAddr, (u32)to << 31);
+    out(dstFormat, pixel_code[bytes] << 16 | (to ? tiles_across() : stride));
+    out(srcBaseAddr, (u32)from << 31 | SOURCE);
+    out(srcFormat, pixel_code[bytes] << 16 | (from ? tiles_across() : stride));
+    out(command, word);
+}
+static struct plain_surface place(u8 *at, int tiles) { return (struct plain_surface){at, tiles ? tiles_across() : stride}; }
+static void tiles_copy(int to, int from)
+{
+    sink += plain_tiles_copy(bytes, place(theirs, to), to, place(theirs + SOURCE, from), from, n, n);
+}
+static void tiles_fill_set(void) { tiles_set(1, 0, 0xcc000005); }
+static void tiles_fill_plain(void) { sink += plain_tiles_fill(bytes, place(theirs, 1), n, n, FORE); }
+static void tiles_xor_set(void) { tiles_set(1, 0, 0x5a000005); }
+static void tiles_xor_plain(void) { sink += plain_tiles_xor(bytes, place(theirs, 1), n, n, patterns); }
+static void tiles_copy_set(void) { tiles_set(1, 1, 0xcc000001); }
+static void tiles_copy_plain(void) { tiles_copy(1, 1); }
+static void to_tiles_set(void) { tiles_set(1, 0, 0xcc000001); }
+static void to_tiles_plain(void) { tiles_copy(1, 0); }
+static void from_tiles_set(void) { tiles_set(0, 1, 0xcc000001); }
+static void from_tiles_plain(void) { tiles_copy(0, 1); }
+
 static void write_ours(void)
 {
     for (u32 k = 0; k < 64; k++)
@@ -311,6 +338,11 @@ static const struct work works[] = {
     {"host image", 3, 30, 0, host_set, host_ours, host_plain, 0, 0},
     {"line", 3, 30, -1, line_set, line_ours, line_plain, 0, 0},
     {"stippled line", 3, 30, -1, stipple_set, line_ours, line_plain, 0, 0},
+    {"solid fill, tiles", 3, 30, 0, tiles_fill_set, launch_at_0, tiles_fill_plain, 0, 0},
+    {"pattern fill 5A, tiles", 3, 30, 0, tiles_xor_set, launch_at_0, tiles_xor_plain, 0, 0},
+    {"plain copy, tiles", 3, 30, 0, tiles_copy_set, launch_at_0, tiles_copy_plain, 0, 0},
+    {"copy rows to tiles", 3, 30, 0, to_tiles_set, launch_at_0, to_tiles_plain, 0, 0},
+    {"copy tiles to rows", 3, 30, 0, from_tiles_set, launch_at_0, from_tiles_plain, 0, 0},
     {"register write", 1, 16, 64, fill_set, write_ours, write_plain, 0, 0},
 };
 

@@ -414,3 +414,69 @@ u32 plain_write(struct plain_regs *r, u32 offset, u32 word)
     r->at[offset / 4] = word;
     return 0;
 }
+
+/* ---- tiles: each row in pieces of at most 128 bytes, from pixel (0, 0) on */
+
+INLINE u8 *piece_of(struct plain_surface s, int tiles, u32 at, u32 y)
+{
+    return tiles ? s.at + ((u64)(y / 32) * s.stride + at / 128) * 4096 + y % 32 * 128 + at % 128 : s.at + (u64)y * s.stride + at;
+}
+
+INLINE u32 piece_size(u32 at, u32 end)
+{
+    return end - at < 128 ? end - at : 128;
+}
+
+INLINE u32 tiles_fill(int bytes, struct plain_surface to, u32 w, u32 h, u32 colour)
+{
+    u8 row[128 * 3];
+    for (u32 i = 0; i < sizeof row; i++)
+        row[i] = colour >> i % bytes * 8;
+    for (u32 j = 0; j < h; j++) {
+        for (u32 at = 0; at < w * bytes; at += 128) {
+            u8 *d = piece_of(to, 1, at, j);
+            u32 many = piece_size(at, w * bytes);
+            for (u32 i = 0; i < many; i++)
+                d[i] = row[at % bytes + i];
+        }
+    }
+    return w * h;
+}
+
+u32 plain_tiles_fill(int bytes, struct plain_surface to, u32 w, u32 h, u32 colour)
+{
+    BY_BYTES(tiles_fill(1, to, w, h, colour), tiles_fill(2, to, w, h, colour), tiles_fill(3, to, w, h, colour), tiles_fill(4, to, w, h, colour))
+}
+
+INLINE u32 tiles_xor(int bytes, struct plain_surface to, u32 w, u32 h, const u8 *pattern)
+{
+    for (u32 j = 0; j < h; j++) {
+        const u8 *row = pattern + j % 8 * 8 * bytes;
+        for (u32 at = 0; at < w * bytes; at += 128) {
+            u8 *d = piece_of(to, 1, at, j);
+            u32 many = piece_size(at, w * bytes);
+            for (u32 i = 0; i < many; i++)
+                d[i] ^= row[(at + i) % (8 * bytes)];
+        }
+    }
+    return w * h;
+}
+
+u32 plain_tiles_xor(int bytes, struct plain_surface to, u32 w, u32 h, const u8 *pattern)
+{
+    BY_BYTES(tiles_xor(1, to, w, h, pattern), tiles_xor(2, to, w, h, pattern), tiles_xor(3, to, w, h, pattern), tiles_xor(4, to, w, h, pattern))
+}
+
+u32 plain_tiles_copy(int bytes, struct plain_surface to, int to_tiles, struct plain_surface from, int from_tiles, u32 w, u32 h)
+{
+    for (u32 j = 0; j < h; j++) {
+        for (u32 at = 0; at < w * bytes; at += 128) {
+            u8 *d = piece_of(to, to_tiles, at, j);
+            const u8 *s = piece_of(from, from_tiles, at, j);
+            u32 many = piece_size(at, w * bytes);
+            for (u32 i = 0; i < many; i++)
+                d[i] = s[i];
+        }
+    }
+    return w * h;
+}

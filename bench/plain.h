@@ -7,7 +7,7 @@ typedef unsigned short u16;
 typedef unsigned int u32;
 typedef unsigned long long u64;
 
-/* A surface: its first byte, the bytes from row to row. */
+/* A surface: its first byte, the bytes from row to row; on tiles, the tiles from one row of tiles to the next. */
 struct plain_surface {
     u8 *at;
     u32 stride;
@@ -49,6 +49,9 @@ u32 plain_line(int bytes, struct plain_surface to, int x0, int y0, int x1, int y
 void plain_blit_open(struct plain_blit *b, int bytes, struct plain_surface to, u32 x, u32 y, u32 w, u32 h, u32 fore, u32 back);
 u32 plain_blit_word(struct plain_blit *b, u32 word);
 u32 plain_blit_mono(struct plain_blit *b, u32 word);
+u32 plain_tiles_fill(int bytes, struct plain_surface to, u32 w, u32 h, u32 colour);
+u32 plain_tiles_xor(int bytes, struct plain_surface to, u32 w, u32 h, const u8 *pattern);
+u32 plain_tiles_copy(int bytes, struct plain_surface to, int to_tiles, struct plain_surface from, int from_tiles, u32 w, u32 h);
 u32 plain_write(struct plain_regs *r, u32 offset, u32 word);
 
 #endif

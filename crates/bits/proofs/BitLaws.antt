@@ -13,7 +13,7 @@ use borrow.Author.Tests.{eq-eqb, ne-eqb}
 use Rattle.surface.specs.declared.Surface.{Surface}
 use Rattle.surface.specs.Place.{byteAt, byteOf, monoBit, writeBytes, Held}
 use Rattle.surface.specs.Pixels.{Px, px, across}
-use Rattle.surface.proofs.Run.{pixel-held, run-pixel}
+use Rattle.surface.proofs.Run.{in-rows, pixel-held, run-pixel}
 use Rattle.surface.proofs.Rects.{same-px, in-across}
 use Rattle.surface.proofs.Lists.{In, by-cases}
 use Rattle.spans.proofs.Spans.{IsByte}
@@ -53,16 +53,16 @@ bit-given bit fore back clear h = by-cases (ℕ-discrete bit 1) (λ e. rw e (one
     none-of false = refl
 
 -- ---- a pixel of the row, by where it begins
-pub run-held : (s : Surface) (len x y m count i n at : ℕ) → RowOn s len x m y count → i < m → n ≡ s .bytes → at ≡ byteOf s x y 0 → Held (at + i * n) n len
-run-held s len x y m count i n at row h e a =
-    rw e (pixel-held (row .on (x + i) (omega arith) (omega arith)) (at + i * s .bytes) (run-pixel s x y at a i))
+pub run-held : (s : Surface) → s .tiled ≡ false → (len x y m count i n at : ℕ) → RowOn s len x m y count → i < m → n ≡ s .bytes → at ≡ byteOf s x y 0 → Held (at + i * n) n len
+run-held s flat len x y m count i n at row h e a =
+    rw e (pixel-held (in-rows flat) (row .on (x + i) (omega arith) (omega arith)) (at + i * s .bytes) (run-pixel s flat x y at a i))
 
-pub bit-turn : (p : Plain) (byte k x y i n at : ℕ) (st st′ : State) → n ≡ p .target .bytes → at ≡ byteOf (p .target) x y 0
+pub bit-turn : (p : Plain) → p .target .tiled ≡ false → (byte k x y i n at : ℕ) (st st′ : State) → n ≡ p .target .bytes → at ≡ byteOf (p .target) x y 0
     → st′ ≡ dabAt (at + i * n) n (coloured p (bitOf byte (k + i))) st → st′ ≡ dab (p .target) (px (x + i) y) (coloured p (bitOf byte (k + (x + i - x)))) st
-bit-turn p byte k x y i n at st st′ e a d =
+bit-turn p flat byte k x y i n at st st′ e a d =
     let z : x + i - x ≡ i = omega arith in
     d ∙ ap (λ (b : ℕ). dabAt (at + i * b) b (coloured p (bitOf byte (k + i))) st) e
-    ∙ dab-at (p .target) (px (x + i) y) (at + i * p .target .bytes) (coloured p (bitOf byte (k + i))) st (run-pixel (p .target) x y at a i)
+    ∙ dab-at (p .target) (in-rows flat) (px (x + i) y) (at + i * p .target .bytes) (coloured p (bitOf byte (k + i))) st (run-pixel (p .target) flat x y at a i)
     ∙ ap (λ (c : ℕ). dab (p .target) (px (x + i) y) (coloured p (bitOf byte (k + c))) st) (sym z)
 
 -- ---- a byte read once
@@ -112,6 +112,7 @@ module _ (t : Mono) (w j len n : ℕ) (row : RowMono t w j len n) where
 -- ---- a rectangle that can be copied has its rows ready
 pub mono-line : {t : Mono} {w h len : ℕ} → CanMono t w h len → (j n : ℕ) → j < h → n + w < 2 ^ 32 → RowMono t w j len n
 mono-line {t} {w} {h} {len} can j n l room = record {
+  flat = can .flat;
   colour = can .colour;
   target = record {
     wide = can .wide;

@@ -1,7 +1,7 @@
 -- What the pixels of a mono source are given: bit 1 the one colour, bit 0 the other one, or nothing where that is transparent.
 -- Assumes nothing.
 use mathlib.Core.Path.{_≡_}
-use mathlib.Core.Bool.{true, cond}
+use mathlib.Core.Bool.{true, false, cond}
 use mathlib.Core.List.{List, map}
 use mathlib.Core.Option.{Option, none, some}
 use Prim.Native.Nat.{ℕ, _+_, _-_, _/_, _%_, _^_, _<_, _≤_}
@@ -35,6 +35,7 @@ monoly t ps = map (λ q. touch q (λ now. monoGiving t now q)) ps
 
 -- row j of a rectangle of w columns, in a memory of len bytes, after n pixels that were written: on both surfaces, and no byte of its source is one of its target
 pub record RowMono (t : Mono) (w j len n : ℕ) : Type 0 where
+  pub flat : t .plain .target .tiled ≡ false
   pub colour : Colour (t .plain .target)
   pub target : RowOn (t .plain .target) len (t .x) w (t .y + j) n
   pub small : Small (t .from)
@@ -47,6 +48,7 @@ pub record RowMono (t : Mono) (w j len n : ℕ) : Type 0 where
 
 -- all its rows
 pub record CanMono (t : Mono) (w h len : ℕ) : Type 0 where
+  pub flat : t .plain .target .tiled ≡ false
   pub colour : Colour (t .plain .target)
   pub wide : t .x + w ≤ 2 ^ 13
   pub high : t .y + h ≤ 2 ^ 13

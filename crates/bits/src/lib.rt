@@ -56,7 +56,7 @@ fn put_run(
     m: u32,
     count: u32,
 ) -> u32
-    requires { ⌜ (Colour (p .target) × RowOn (p .target) (length (now mem)) x m y count) × ((k + m ≤ 8) × (n ≡ p .target .bytes)) ⌝ }
+    requires { ⌜ ((Colour (p .target) × (p .target .tiled ≡ false)) × RowOn (p .target) (length (now mem)) x m y count) × ((k + m ≤ 8) × (n ≡ p .target .bytes)) ⌝ }
     ensures { λ r. ⌜ (state (now (mem .exit)) r ≡ paint (p .target) (byteTouches p byte k x (across false x m y)) (state (now (mem .entry)) count)) × (r ≤ count + m) ⌝ }
 {
     let at = surface::byte_of(p.target, x, y, 0);
@@ -81,7 +81,7 @@ pub fn put_bits(
     m: u32,
     count: u32,
 ) -> u32
-    requires { ⌜ (Colour (p .target) × RowOn (p .target) (length (now mem)) x m y count) × (k + m ≤ 8) ⌝ }
+    requires { ⌜ ((Colour (p .target) × (p .target .tiled ≡ false)) × RowOn (p .target) (length (now mem)) x m y count) × (k + m ≤ 8) ⌝ }
     ensures { λ r. ⌜ (state (now (mem .exit)) r ≡ paint (p .target) (byteTouches p byte k x (across false x m y)) (state (now (mem .entry)) count)) × (r ≤ count + m) ⌝ }
 {
     let n = p.target.bytes;

@@ -88,6 +88,7 @@ pub fn fill_task(r: Regs) -> Task
         base: 0,
         stride: 0,
         bytes: 0,
+        tiled: false,
     };
     Task {
         ink: ink,

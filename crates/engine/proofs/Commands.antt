@@ -39,7 +39,7 @@ use Rattle.bank.specs.Bank.{stored, patterned}
 use Rattle.registers.specs.Offsets.{placeOf}
 use Rattle.command.specs.Decode.{target, origins, stretchOrigins, inkOf, fillTask, copyTask, stretchOf, lineOf, penOf, feedOf}
 use Rattle.cuts.specs.Cut.{bit, number, clipOf, cutAt, fillCut, copyCut, covered, copyOrder, needed}
-use Rattle.table.specs.Table.{targetFine, bothFine, allOnAt, pixels, stretchNeeded, stretchFault, hostFault, fillVerdict, copyVerdict, stretchVerdict, hostVerdict, lineVerdict}
+use Rattle.table.specs.Table.{targetFine, bothFine, hostFine, allOnAt, pixels, stretchNeeded, stretchFault, hostFault, fillVerdict, copyVerdict, stretchVerdict, hostVerdict, lineVerdict}
 use Rattle.table.proofs.Stretches.{stretch-can}
 use Rattle.table.proofs.Verdicts.{fill-can, copy-can, line-can, host-can}
 use Rattle.engine.specs.declared.Engine.{Engine}
@@ -60,11 +60,11 @@ abbrev pub commandRow : Regs → ℕ → ℕ
 commandRow r len = firstOf 4 (row4 r ∷ row5 r ∷ row6 r ∷ row7 len r ∷ row8 r ∷ [])
 
 -- rows 4 to 8 by the number, with what else they look at
-abbrev rows : ℕ → Bool → Bool → Bool → Bool → (List Px → Bool) → List Px → List Px → List Px → Bool → Bool → Bool → Bool → ℕ
-rows n both one fault2 fault3 on copy fill line need1 need2 clash1 clash2 =
+abbrev rows : ℕ → Bool → Bool → Bool → Bool → Bool → (List Px → Bool) → List Px → List Px → List Px → Bool → Bool → Bool → Bool → ℕ
+rows n both host one fault2 fault3 on copy fill line need1 need2 clash1 clash2 =
     firstOf 4
     (byNumber n false false false false false false true
-    ∷ byNumber n false both both both one one false
+    ∷ byNumber n false both both host one one false
     ∷ ((eqb n 2 && fault2) || (eqb n 3 && fault3))
     ∷ (not (on (byNumber n [] copy fill fill fill line [])) || ((eqb n 1 && need1) || (eqb n 2 && need2)))
     ∷ ((eqb n 1 && clash1) || (eqb n 2 && clash2))
@@ -90,7 +90,7 @@ module _ (r : Regs) (len : ℕ) where
 
   abbrev rowsAt : ℕ → ℕ
   rowsAt n =
-      rows n (not (bothFine r)) (not (targetFine r)) (stretchFault r) (hostFault r) (allOn (target r) len) (copyOrder r) (covered (fillCut r))
+      rows n (not (bothFine r)) (not (hostFine r)) (not (targetFine r)) (stretchFault r) (hostFault r) (allOn (target r) len) (copyOrder r) (covered (fillCut r))
       (coveredPoints (clipOf r) (points (lineOf r))) copyOff stretchOff copyMeets stretchMeets
 
   pub row-nop : number r ≡ 0 → commandRow r len ≡ 0
@@ -112,7 +112,7 @@ module _ (r : Regs) (len : ℕ) where
 
   pub row-host : number r ≡ 3 → commandRow r len ≡ hostVerdict r len
   unfolding coveredBy hostVerdict firstOf
-  row-host n = ap rowsAt n ∙ ap (λ t. cond (not (bothFine r)) 5 (cond (hostFault r) 6 (cond t 7 0))) (or-false (not (allOn (target r) len (covered (fillCut r)))))
+  row-host n = ap rowsAt n ∙ ap (λ t. cond (not (hostFine r)) 5 (cond (hostFault r) 6 (cond t 7 0))) (or-false (not (allOn (target r) len (covered (fillCut r)))))
 
   pub row-fill : number r ≡ 5 → commandRow r len ≡ fillVerdict r len
   unfolding coveredBy fillVerdict firstOf
@@ -251,7 +251,7 @@ begun-carried : (old e : Engine) (m : List ℕ) → number (regs e) ≡ 3 → Ca
 unfolding hostVerdict
 begun-carried old e m n =
     let r = regs e in
-    judged old _ (not (bothFine r)) (hostFault r) (not (allOn (target r) (length m) (covered (fillCut r)))) false (row-host r (length m) n)
+    judged old _ (not (hostFine r)) (hostFault r) (not (allOn (target r) (length m) (covered (fillCut r)))) false (row-host r (length m) n)
     refl
     (λ v. picked (λ (k : Made). Painting r [] m (making e k)) (ltb 0 (wordsOf (feedOf r))) _ _ (λ _. nothing r _ m) (λ _. nothing r _ m))
 
@@ -281,7 +281,7 @@ unfolding hostVerdict inkOf
 fed-carried e m d n =
     let r = regs e in
     let more = wordsOf (feedOf r) in
-    judged e _ (not (bothFine r)) (hostFault r) (not (allOn (target r) (length m) (covered (fillCut r)))) false (row-host r (length m) n)
+    judged e _ (not (hostFine r)) (hostFault r) (not (allOn (target r) (length m) (covered (fillCut r)))) false (row-host r (length m) n)
     refl
     (λ v. by-test
     (λ t. Painting r (cond t (wordTouches e d) []) m

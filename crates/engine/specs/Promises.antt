@@ -25,7 +25,7 @@ use Rattle.host.specs.Host.{wordsOf}
 use Rattle.command.specs.Decode.{target, origins, stretchOrigins, copyTask, feedOf}
 use Rattle.positions.specs.Position.{placed}
 use Rattle.cuts.specs.Cut.{bit, number, clipOf, fillCut, copyCut, covered, needed}
-use Rattle.table.specs.Table.{targetFine, bothFine, allOnAt, pixels, stretchNeeded, stretchFault, hostFault, hostVerdict}
+use Rattle.table.specs.Table.{targetFine, bothFine, hostFine, allOnAt, pixels, stretchNeeded, stretchFault, hostFault, hostVerdict}
 use Rattle.acts.specs.Deed.{noBlit, byNumber}
 use Rattle.engine.specs.declared.Engine.{Engine}
 use Rattle.engine.specs.Step.{Step, written, numberOf, countOf, regs, freshEngine, readFrom}
@@ -77,9 +77,9 @@ row3 Nowhere e o = e .blit .waiting
 abbrev pub row4 : Regs → Bool
 row4 r = byNumber (number r) false false false false false false true
 
--- 5: a surface it uses is tiled or has a format not listed, or the conversion is not allowed; nop uses none
+-- 5: a surface it uses has a format not listed, its mono, packed or host-blit source is tiled, or the conversion is not allowed; nop uses none
 abbrev pub row5 : Regs → Bool
-row5 r = byNumber (number r) false (not (bothFine r)) (not (bothFine r)) (not (bothFine r)) (not (targetFine r)) (not (targetFine r)) false
+row5 r = byNumber (number r) false (not (bothFine r)) (not (bothFine r)) (not (hostFine r)) (not (targetFine r)) (not (targetFine r)) false
 
 -- 6: a stretch copy of a source with no width or no height to a target that has both; a fault of a host blit
 abbrev pub row6 : Regs → Bool

@@ -1,15 +1,16 @@
 -- Laws of what a surface's words say: whatever they are, the surface is small; and a target that is named is no mono one.
 -- Assumes nothing.
-use mathlib.Core.Path.{_≡_}
+use mathlib.Core.Path.{_≡_, refl, _∙_}
 use mathlib.Core.Bool.{Bool, true, false, cond, not, _||_, false≢true}
 use Prim.Native.Nat.{ℕ, _+_, _*_, _/_, _%_, _^_, _<_, _≤_}
 use native.Mathlib.Omega.{arith}
 use lib.Dec.{eqb}
+use borrow.Author.Tests.{not-true}
 use Rattle.surface.specs.Place.{Small, Colour}
-use Rattle.formats.specs.Format.{isTiled, targetCode, sourceCode, coloured, bytesOf, targetNamed, targetOf, sourceOf}
+use Rattle.formats.specs.Format.{isTiled, targetCode, sourceCode, coloured, bytesOf, targetNamed, viewNamed, targetOf, sourceOf}
 use Rattle.formats.specs.Step.{packingOf, bitsPer, rowLength, stepOf}
 use Rattle.surface.proofs.Bytes.{product-lt}
-use Rattle.surface.proofs.OnLaws.{and-right}
+use Rattle.surface.proofs.OnLaws.{and-left, and-right}
 
 bytes-cases : (a b c d : Bool) → cond a 2 (cond b 3 (cond c 4 (cond d 1 0))) < 5
 bytes-cases true b c d = omega arith
@@ -35,10 +36,25 @@ pub target-small : (base format : ℕ) → Small (targetOf base format)
 unfolding targetOf
 target-small base format = record { base = omega arith; stride = omega arith; bytes = bytes-small (targetCode format) }
 
-pub target-colour : (base format : ℕ) → targetNamed base format ≡ true → Colour (targetOf base format)
+pub target-colour : (base format : ℕ) → targetNamed format ≡ true → Colour (targetOf base format)
 unfolding targetOf
-target-colour base format e =
-    record { small = target-small base format; some = coloured-bytes (targetCode format) (and-right (not (isTiled base)) (coloured (targetCode format)) e) }
+target-colour base format e = record { small = target-small base format; some = coloured-bytes (targetCode format) e }
+
+-- the flag is the word's
+pub target-layout : (base format : ℕ) → targetOf base format .tiled ≡ isTiled base
+unfolding targetOf
+target-layout base format = refl
+
+pub source-layout : (base format width : ℕ) → sourceOf base format width .tiled ≡ isTiled base
+unfolding sourceOf
+source-layout base format width = refl
+
+-- a surface whose rows can be viewed is a target in rows
+pub view-target : (base format : ℕ) → viewNamed base format ≡ true → targetNamed format ≡ true
+view-target base format e = and-right (not (isTiled base)) (targetNamed format) e
+
+pub view-flat : (base format : ℕ) → viewNamed base format ≡ true → targetOf base format .tiled ≡ false
+view-flat base format e = target-layout base format ∙ not-true (isTiled base) (and-left (not (isTiled base)) (targetNamed format) e)
 
 -- ---- steps
 bits-le : (bytes : ℕ) → bytes < 5 → bitsPer bytes < 2 ^ 6

@@ -1,9 +1,8 @@
 // What the two words of a surface say: where it is, how its rows step, and its format.
 use surface::Surface;
 ghost use mathlib.Core.Path.{_≡_};
-ghost use mathlib.Core.Bool.{not};
 ghost use Prim.Native.Nat.{_+_, _-_, _%_, _^_, _<_};
-ghost use Rattle.formats.specs.Format.{bytesOf, coloured, isTiled, targetNamed, targetOf, sourceNamed, sourceOf};
+ghost use Rattle.formats.specs.Format.{bytesOf, coloured, isTiled, targetNamed, viewNamed, targetOf, sourceNamed, hostNamed, sourceOf};
 ghost use Rattle.formats.specs.Step.{rowLength, stepOf, Sized};
 
 fn bytes_of(code: u32) -> u32
@@ -24,17 +23,24 @@ fn is_coloured(code: u32) -> bool
     (code == 1) | ((code == 3) | ((code == 4) | (code == 5)))
 }
 
-fn is_linear(base: u32) -> bool
-    ensures { λ r. ⌜ r ≡ not (isTiled base) ⌝ }
+fn is_tiled(base: u32) -> bool
+    ensures { λ r. ⌜ r ≡ isTiled base ⌝ }
 {
-    !(base / 0x8000_0000 % 2 == 1)
+    base / 0x8000_0000 % 2 == 1
 }
 
 // Whether a target's words name a surface.
-pub fn names_target(base: u32, format: u32) -> bool
-    ensures { λ r. ⌜ r ≡ targetNamed base format ⌝ }
+pub fn names_target(format: u32) -> bool
+    ensures { λ r. ⌜ r ≡ targetNamed format ⌝ }
 {
-    is_linear(base) & is_coloured(format / 0x1_0000 % 8)
+    is_coloured(format / 0x1_0000 % 8)
+}
+
+// Whether they name one whose rows can be viewed.
+pub fn names_view(base: u32, format: u32) -> bool
+    ensures { λ r. ⌜ r ≡ viewNamed base format ⌝ }
+{
+    !is_tiled(base) & names_target(format)
 }
 
 pub fn target_of(base: u32, format: u32) -> Surface
@@ -44,6 +50,7 @@ pub fn target_of(base: u32, format: u32) -> Surface
         base: base % 0x100_0000,
         stride: format % 0x4000,
         bytes: bytes_of(format / 0x1_0000 % 8),
+        tiled: is_tiled(base),
     }
 }
 
@@ -52,7 +59,18 @@ pub fn names_source(base: u32, format: u32) -> bool
     ensures { λ r. ⌜ r ≡ sourceNamed base format ⌝ }
 {
     let code = format / 0x1_0000 % 16;
-    is_linear(base) & ((code == 0) | is_coloured(code))
+    if is_tiled(base) {
+        return is_coloured(code) & (format / 0x40_0000 % 4 == 0);
+    }
+    (code == 0) | is_coloured(code)
+}
+
+// Whether a host blit's do.
+pub fn names_host(base: u32, format: u32) -> bool
+    ensures { λ r. ⌜ r ≡ hostNamed base format ⌝ }
+{
+    let code = format / 0x1_0000 % 16;
+    !is_tiled(base) & ((code == 0) | is_coloured(code))
 }
 
 // The bytes of a row of so many pixels.
@@ -89,5 +107,6 @@ pub fn source_of(base: u32, format: u32, width: u32) -> Surface
         base: base % 0x100_0000,
         stride: step_of(format / 0x40_0000 % 4, bytes, width, format % 0x4000),
         bytes: bytes,
+        tiled: is_tiled(base),
     }
 }

@@ -4,7 +4,7 @@ use mathlib.Core.Path.{_≡_, refl, sym, ap, _∙_}
 use mathlib.Core.Bool.{Bool, true, false, cond, _&&_}
 use mathlib.Core.List.{List, [], _∷_, _++_, append-assoc, append-nil}
 use Prim.Native.Nat.{ℕ, zero, suc, _+_, _-_, _*_, _/_, _%_, _^_, _<_, _≤_}
-use native.Mathlib.Nat.{add-zero, suc-mul, mul-le-mul, le-mul-of-pos-right, pow-le-pow-right}
+use native.Mathlib.Nat.{add-zero, mul-comm, mul-le-mul, le-mul-of-pos-right, pow-le-pow-right}
 use native.Mathlib.Numerals.{add-one}
 use native.Mathlib.Omega.{arith}
 use lib.Dec.{eqb, ltb}
@@ -12,9 +12,10 @@ use lib.ListN.{length, take, set, length-append, length-set}
 use lib.Seq.{take-suc-set}
 use borrow.Author.Tests.{lt-ltb}
 use Rattle.surface.specs.declared.Surface.{Surface}
-use Rattle.surface.specs.Place.{rowBytes, byteAt, readPx, Colour}
+use Rattle.surface.specs.Place.{readPx, Colour}
 use Rattle.surface.specs.Pixels.{Px, rect}
 use Rattle.spans.specs.Span.{allOn}
+use Rattle.surface.proofs.Rows.{byteAt-area}
 use Rattle.surface.proofs.OnLaws.{colour-first, lastByte, last-in-row, on-column, on-last}
 use Rattle.surface.proofs.Rects.{rect-length}
 use Rattle.spans.proofs.Corner.{rect-corner}
@@ -111,16 +112,15 @@ refusal-short n k =
 
 -- ---- a rectangle that is on the surface has no more pixels than the memory has bytes
 pixels-few : (s : Surface) (len x y w h : ℕ) → Colour s → 0 < w → 0 < h → allOn s len (rect false false x y w h) ≡ true → h * w ≤ len
-unfolding byteAt rowBytes
 pixels-few s len x y w h colour pw ph e =
     let at = x + (w - 1) in
     let on = sym (rect-corner false false s len x y w h pw ph) ∙ e in
     let last = on-last s len at (y + (h - 1)) on in
     let row = last-in-row s at (on-column s len at (y + (h - 1)) on) in
     let column : at ≤ lastByte s at = omega (arith, colour-first s at (colour .some), le-mul-of-pos-right at (colour .some)) in
-    let rows : (h - 1) * w ≤ (y + (h - 1)) * s .stride = mul-le-mul (omega arith) (omega arith) in
-    let split : h * w ≡ (h - 1) * w + w = ap (λ (n : ℕ). n * w) (omega arith) ∙ suc-mul (h - 1) w in
-    omega arith
+    let area = byteAt-area s (lastByte s at) (y + (h - 1)) row in
+    let inside : h * w ≤ (y + (h - 1) + 1) * (lastByte s at + 1) = mul-le-mul (omega arith) (omega arith) in
+    omega (arith, mul-comm (lastByte s at + 1) (y + (h - 1) + 1))
 
 picture-short : (r : Regs) (m : List ℕ) → length m ≤ 65536 → length (picture r m) ≤ 786449
 unfolding picture

@@ -136,7 +136,7 @@ fn mono_part(
     let x = feed.x + i;
     let y = feed.y + j;
     if paint::covers(c, x, y) {
-        if paint::covers(c, x + (m - 1), y) {
+        if paint::covers(c, x + (m - 1), y) & !p.target.tiled {
             let b = t + i / 8 - column;
             let byte = (word >> (8 * b)) % 256;
             return bits::put_bits(mem, p, byte, i % 8, x - 16384, y - 16384, m, n);

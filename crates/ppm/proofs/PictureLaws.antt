@@ -95,7 +95,7 @@ module _ (s : Surface) where
 
 -- ---- what there is where a picture is shown
 pub record Shown (r : Regs) (len : ℕ) : Type 0 where
-  pub named : targetNamed (r .dstBaseAddr) (r .dstFormat) ≡ true
+  pub named : targetNamed (r .dstFormat) ≡ true
   pub wide : left r < right r
   pub high : top r < bottom r
   pub on : allOn (target r) len (pixels r) ≡ true
@@ -103,7 +103,7 @@ pub record Shown (r : Regs) (len : ℕ) : Type 0 where
 pub shown : (r : Regs) (len : ℕ) → shows r len ≡ true → Shown r len
 unfolding shows
 shown r len e =
-    let a = targetNamed (r .dstBaseAddr) (r .dstFormat) in
+    let a = targetNamed (r .dstFormat) in
     let b = ltb (left r) (right r) in
     let c = ltb (top r) (bottom r) in
     let d = allOn (target r) len (pixels r) in

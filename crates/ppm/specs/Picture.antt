@@ -61,7 +61,7 @@ pixels r = rect false false (left r) (top r) (right r - left r) (bottom r - top 
 -- there is a picture: the target is a surface, the rectangle has a pixel, and all its pixels are on the surface
 unfoldable pub shows : Regs → ℕ → Bool
 shows r len =
-    targetNamed (r .dstBaseAddr) (r .dstFormat) && (ltb (left r) (right r) && (ltb (top r) (bottom r) && allOn (target r) len (pixels r)))
+    targetNamed (r .dstFormat) && (ltb (left r) (right r) && (ltb (top r) (bottom r) && allOn (target r) len (pixels r)))
 
 unfoldable pub picture : Regs → List ℕ → List ℕ
 picture r m =

@@ -154,7 +154,7 @@ fn say_nothing(out: &mut [u8], at: usize) -> usize
 fn has_picture(len: usize, r: Regs) -> bool
     ensures { λ b. ⌜ b ≡ shows r len ⌝ }
 {
-    if !formats::names_target(r.dstBaseAddr, r.dstFormat) {
+    if !formats::names_target(r.dstFormat) {
         return false;
     }
     let left = r.clip0Min % 0x1000;

@@ -5,4 +5,5 @@ pub mod Mono
 pub mod Straight
 pub mod Plain
 pub mod Moves
+pub mod Moved
 pub mod Smear

@@ -26,7 +26,7 @@ use Rattle.bits.proofs.BitLaws.{bit-given}
 use Rattle.bits.specs.Bits.{coloured, monoGiving, CanMono}
 use Rattle.sweep.specs.declared.Task.{Task}
 use Rattle.sweep.specs.Copy.{sourcePlace, giving, asBefore, inTurn, CanPaint, Orderly}
-use Rattle.rect.specs.Fast.{bitwise, monoOf}
+use Rattle.rect.specs.Fast.{bitwise, monoOf, Flat}
 use Rattle.sweep.proofs.TaskLaws.{can-number}
 use Rattle.rect.proofs.Sources.{mono-source}
 use Rattle.rect.proofs.Order.{between, as-before}
@@ -78,9 +78,10 @@ mono-corner t w h len e can orderly l u pattern m n = either false false ∙ sym
         → paint (t .ink .target) (inTurn t pattern (rect l u (t .x) (t .y) w h)) (state m n) ≡ paint (t .ink .target) (asBefore t pattern m (rect false false (t .x) (t .y) w h)) (state m n)
     either l u = as-before t w h len can (λ _. orderly) l u (λ _ same. absurd (mono-other t e (can .colour .some) same)) pattern m n
 
-pub can-mono : (t : Task) (w h len : ℕ) → bitwise t ≡ true → CanPaint t w h len → Orderly t w h → CanMono (monoOf t) w h len
+pub can-mono : (t : Task) (w h len : ℕ) → bitwise t ≡ true → Flat t → CanPaint t w h len → Orderly t w h → CanMono (monoOf t) w h len
 unfolding monoOf sourcePlace
-can-mono t w h len e can orderly = record {
+can-mono t w h len e flat can orderly = record {
+  flat = flat .target;
   colour = can .colour;
   wide = can .wide;
   high = can .high;

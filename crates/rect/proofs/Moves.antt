@@ -70,10 +70,10 @@ module _ {t : Task} {w h len : ℕ} {toLeft toTop : Bool} (mv : Moves t w h len 
 
   -- byte i of a row's run, and of its source's
   to-place : (y i : ℕ) → toRow t y + i ≡ byteOf (t .ink .target) (t .x + i / bytes) y (i % bytes)
-  to-place y i = subst (λ (b : ℕ). toRow t y + i ≡ byteOf (t .ink .target) (t .x + i / b) y (i % b)) (sym same-bytes) (run-place (t .ink .target) (mv .can .colour .some) (t .x) y i)
+  to-place y i = subst (λ (b : ℕ). toRow t y + i ≡ byteOf (t .ink .target) (t .x + i / b) y (i % b)) (sym same-bytes) (run-place (t .ink .target) (mv .can .colour .some) (t .x) y (mv .flat .target) i)
 
   from-place : (y i : ℕ) → fromRow t y + i ≡ byteOf (t .from) (t .sx + i / bytes) (t .sy + (y - t .y)) (i % bytes)
-  from-place y i = run-place (t .from) (source-colour .some) (t .sx) (t .sy + (y - t .y)) i
+  from-place y i = run-place (t .from) (source-colour .some) (t .sx) (t .sy + (y - t .y)) (mv .flat .from) i
 
   source-of : (y c : ℕ) → sourcePlace t (px (t .x + c) y) ≡ px (t .sx + c) (t .sy + (y - t .y))
   unfolding sourcePlace
@@ -149,7 +149,7 @@ module _ {t : Task} {w h len : ℕ} {toLeft toTop : Bool} (mv : Moves t w h len 
       → Given (t .ink .target) (sourceByte t m₀) (t .x) (doneTop toTop (t .y) h j) w j m₀ m → Shifted (toRow t y) (fromRow t y) 0 (w * bytes) m m₁
       → Given (t .ink .target) (sourceByte t m₀) (t .x) (doneTop toTop (t .y) h (j + 1)) w (j + 1) m₀ m₁
   next-row j y m₀ m m₁ l e top bottom given run =
-      given-row (t .ink .target) (mv .can .colour .some) (sourceByte t m₀) (t .x) w
+      given-row (t .ink .target) (mv .flat .target) (mv .can .colour .some) (sourceByte t m₀) (t .x) w
       (λ c lc. on-column (t .ink .target) len (t .x + c) y (can-pixel (mv .can) (t .x + c) y (in-rectangle y c top bottom lc) .0 .on))
       (doneTop toTop (t .y) h j) j (doneTop toTop (t .y) h (j + 1)) y (fromRow t y) m₀ m m₁ (one-more toTop (t .y) h j y l e) given
       (subst (λ (b : ℕ). Shifted (toRow t y) (fromRow t y) 0 (w * b) m m₁) same-bytes run)
@@ -159,7 +159,7 @@ module _ {t : Task} {w h len : ℕ} {toLeft toTop : Bool} (mv : Moves t w h len 
       values c k lc lk =
           let q = px (t .x + c) y in
           let at : fromRow t y + (c * t .ink .target .bytes + k) ≡ byteOf (t .from) (sourcePlace t q .x) (sourcePlace t q .y) k =
-          ap (λ (b : ℕ). fromRow t y + (c * b + k)) (sym same-bytes) ∙ run-byte (t .from) (t .sx) (t .sy + (y - t .y)) (fromRow t y) refl c k
+          ap (λ (b : ℕ). fromRow t y + (c * b + k)) (sym same-bytes) ∙ run-byte (t .from) (mv .flat .from) (t .sx) (t .sy + (y - t .y)) (fromRow t y) refl c k
           ∙ ap (λ (r : Px). byteOf (t .from) (r .x) (r .y) k) (sym (source-of y c)) in
           ap (λ (a : ℕ). getD m a 0) at
           ∙ given .others (byteOf (t .from) (sourcePlace t q .x) (sourcePlace t q .y) k) (λ p i k′ l′ f.

@@ -25,7 +25,7 @@ use Rattle.paint.specs.Paint.{state, paint}
 use Rattle.paint.specs.Mix.{mixed, bitSource, colourSource, fillSource}
 use Rattle.ink.specs.Pattern.{patternColumn, patternRow, patternBit, patternValue}
 use Rattle.sweep.specs.Copy.{sourcePlace, sourceBy, giving, asBefore, inTurn, CanPaint, Orderly}
-use Rattle.rect.specs.Fast.{behind, overlap, late}
+use Rattle.rect.specs.Fast.{behind, overlap, touching, late}
 use Rattle.paint.proofs.Owners.{byte-of, one-owner, read-px, read-bit}
 use Rattle.paint.proofs.Settle.{Local, in-place, any-order}
 use Rattle.sweep.proofs.TaskLaws.{can-pixel}
@@ -78,18 +78,24 @@ or-right : (a : Bool) {b : Bool} → b ≡ true → (a || b) ≡ true
 or-right true e = refl
 or-right false e = e
 
+pub touching-read : (t : Task) (w h : ℕ) (p q : Px) → t .from ≡ t .ink .target → Inside (t .x) (t .y) w h p → Inside (t .x) (t .y) w h q
+    → sourcePlace t q ≡ p → touching t w h ≡ true
+unfolding sourcePlace touching
+touching-read t w h p q same ip iq e =
+    ap₂ _&&_ (same-surface (t .from) (t .ink .target) same)
+    (ap₂ _&&_ (overlap-read (t .x) (t .sx) w (p .x) (q .x) (ip .left) (ip .right) (iq .left) (iq .right) (ap (λ (r : Px). r .x) e))
+    (overlap-read (t .y) (t .sy) h (p .y) (q .y) (ip .top) (ip .bottom) (iq .top) (iq .bottom) (ap (λ (r : Px). r .y) e)))
+
 late-read : (l u : Bool) (t : Task) (w h : ℕ) (p q : Px) → t .from ≡ t .ink .target → Inside (t .x) (t .y) w h p → Inside (t .x) (t .y) w h q → Ahead l u p q
     → sourcePlace t q ≡ p → late l u t w h ≡ true
-unfolding sourcePlace late
+unfolding sourcePlace touching late
 late-read l u t w h p q same ip iq ahead e =
     let ex : t .sx + (q .x - t .x) ≡ p .x = ap (λ (r : Px). r .x) e in
     let ey : t .sy + (q .y - t .y) ≡ p .y = ap (λ (r : Px). r .y) e in
-    ap₂ _&&_ (same-surface (t .from) (t .ink .target) same) (ap₂ _&&_
+    ap₂ _&&_ (touching-read t w h p q same ip iq e)
     (⊎-elim (λ a. or-left _ (behind-read u (t .y) (t .sy) (p .y) (q .y) (iq .top) a ey))
     (λ a. or-right (behind u (t .sy) (t .y))
     (ap₂ _&&_ (eq-eqb (t .sy) (t .y) (omega (arith, iq .top, a .0))) (behind-read l (t .x) (t .sx) (p .x) (q .x) (iq .left) (a .1) ex))) ahead)
-    (ap₂ _&&_ (overlap-read (t .x) (t .sx) w (p .x) (q .x) (ip .left) (ip .right) (iq .left) (iq .right) ex)
-    (overlap-read (t .y) (t .sy) h (p .y) (q .y) (ip .top) (ip .bottom) (iq .top) (iq .bottom) ey)))
 
 -- ---- no step reads what an earlier one wrote
 module _ (t : Task) (w h len : ℕ) (can : CanPaint t w h len) (orderly : t .copies ≡ true → Orderly t w h) where
@@ -106,7 +112,7 @@ module _ (t : Task) (w h len : ℕ) (can : CanPaint t w h len) (orderly : t .cop
       (rect-in false false (t .x) (t .y) w h p ip) (rect-in false false (t .sx) (t .sy) w h (sourcePlace t q) (source-inside t w h q iq)) b r)
 
   -- a byte of q's source is one of p only on one surface, where p is that source
-  shared : t .copies ≡ true → (p q : Px) → Inside (t .x) (t .y) w h p → Inside (t .x) (t .y) w h q → (a : ℕ) → IsByte (t .from) (sourcePlace t q) a → IsByte (t .ink .target) p a
+  pub shared : t .copies ≡ true → (p q : Px) → Inside (t .x) (t .y) w h p → Inside (t .x) (t .y) w h q → (a : ℕ) → IsByte (t .from) (sourcePlace t q) a → IsByte (t .ink .target) p a
       → (t .from ≡ t .ink .target) × (sourcePlace t q ≡ p)
   unfolding sourcePlace
   shared copies p q ip iq a r b =
@@ -121,9 +127,13 @@ module _ (t : Task) (w h len : ℕ) (can : CanPaint t w h len) (orderly : t .cop
   Onward l u = t .copies ≡ true → t .from ≡ t .ink .target
       → (p q : Px) → Inside (t .x) (t .y) w h p → Inside (t .x) (t .y) w h q → Ahead l u p q → sourcePlace t q ≡ p → ⊥
 
-  -- a copy that is not late goes so
+  -- a copy that shares no pixel with its source is not late, and one that is not late goes so
   pub early-onward : (l u : Bool) → late l u t w h ≡ false → Onward l u
   early-onward l u early copies same p q ip iq ahead e = false≢true (sym early ∙ late-read l u t w h p q same ip iq ahead e)
+
+  pub apart-early : (l u : Bool) → touching t w h ≡ false → late l u t w h ≡ false
+  unfolding late
+  apart-early l u e = rw e
 
   pub not-read : (l u : Bool) → Onward l u → t .copies ≡ true → (p q : Px) → Inside (t .x) (t .y) w h p → Inside (t .x) (t .y) w h q → Ahead l u p q
       → (a : ℕ) → IsByte (t .from) (sourcePlace t q) a → IsByte (t .ink .target) p a → ⊥

@@ -22,7 +22,7 @@ use Rattle.paint.proofs.MixLaws.{not-true, direct-low}
 use Rattle.straight.specs.Straight.{straightGiving, CanCopy}
 use Rattle.sweep.specs.declared.Task.{Task}
 use Rattle.sweep.specs.Copy.{sourcePlace, giving, CanPaint}
-use Rattle.rect.specs.Fast.{straight, straightOf}
+use Rattle.rect.specs.Fast.{straight, straightOf, Flat}
 use Rattle.sweep.proofs.TaskLaws.{can-number}
 use Rattle.rect.proofs.Sources.{colour-source}
 
@@ -67,9 +67,11 @@ module _ (t : Task) (e : straight t ≡ true) where
       (and-right two (direct (t .ink)) (and-left three (not (t .ink .srcKey) || eqb (t .ink .rop2) 0xaa) e))
       (λ f. eqb-true (t .ink .rop2) 0xaa (matched (t .ink .srcKey) match (eqb (t .ink .rop2) 0xaa) (and-right three (not (t .ink .srcKey) || eqb (t .ink .rop2) 0xaa) e) f))
 
-  pub can-straight : (w h len : ℕ) → CanPaint t w h len → CanCopy (straightOf t) w h len
+  pub can-straight : (w h len : ℕ) → Flat t → CanPaint t w h len → CanCopy (straightOf t) w h len
   unfolding straightOf
-  can-straight w h len can = record {
+  can-straight w h len flat can = record {
+    flat = flat .target;
+    fromFlat = flat .from;
     target = can .colour;
     from = source-colour;
     wide = can .wide;

@@ -68,11 +68,13 @@ behind true s x = ltb x s
 abbrev pub overlap : ℕ → ℕ → ℕ → Bool
 overlap s x n = ltb s (x + n) && ltb x (s + n)
 
--- a copy of w by h pixels, from the corner that the two flags name, reads a pixel after it was overwritten
+-- a copy of w by h pixels shares a pixel with its source
+unfoldable pub touching : Task → ℕ → ℕ → Bool
+touching t w h = sameSurface (t .from) (t .ink .target) && (overlap (t .sx) (t .x) w && overlap (t .sy) (t .y) h)
+
+-- and, from the corner that the two flags name, reads it after it was overwritten
 unfoldable pub late : Bool → Bool → Task → ℕ → ℕ → Bool
-late toLeft toTop t w h =
-    sameSurface (t .from) (t .ink .target)
-    && ((behind toTop (t .sy) (t .y) || (eqb (t .sy) (t .y) && behind toLeft (t .sx) (t .x))) && (overlap (t .sx) (t .x) w && overlap (t .sy) (t .y) h))
+late toLeft toTop t w h = touching t w h && (behind toTop (t .sy) (t .y) || (eqb (t .sy) (t .y) && behind toLeft (t .sx) (t .x)))
 
 -- ---- a plain copy's runs
 
@@ -89,6 +91,11 @@ fromRow t y = byteOf (t .from) (t .sx) (t .sy + (y - t .y)) 0
 
 -- ---- what functions ask for
 
+-- both surfaces are in rows
+pub record Flat (t : Task) : Type 0 where
+  pub target : t .ink .target .tiled ≡ false
+  pub from : t .from .tiled ≡ false
+
 -- row y of a rectangle can be moved as a run of n bytes
 pub record RowMoves (t : Task) (n y len : ℕ) (toLeft : Bool) : Type 0 where
   pub target : Colour (t .ink .target)
@@ -101,6 +108,7 @@ pub record RowMoves (t : Task) (n y len : ℕ) (toLeft : Bool) : Type 0 where
 
 -- a rectangle can be moved, from the corner that the two flags name
 pub record Moves (t : Task) (w h len : ℕ) (toLeft toTop : Bool) : Type 0 where
+  pub flat : Flat t
   pub plain : plainly t ≡ true
   pub can : CanPaint t w h len
   pub orderly : Orderly t w h

@@ -1,4 +1,4 @@
-// Rectangles of pixels, filled or copied: as runs of bytes or bits where they can be, and else pixel by pixel.
+// Rectangles of pixels on surfaces in rows, filled or copied: as runs of bytes or bits where they can be, and else pixel by pixel.
 use bits::Mono;
 use bits::Plain;
 use straight::Straight;
@@ -11,7 +11,7 @@ ghost use Rattle.surface.specs.Pixels.{rect};
 ghost use Rattle.paint.specs.Paint.{state, paint};
 ghost use Rattle.paint.specs.Mix.{source};
 ghost use Rattle.sweep.specs.Copy.{inTurn, CanPaint, Orderly};
-ghost use Rattle.rect.specs.Fast.{solid, plainly, straight, straightOf, bitwise, monoOf, sourceByte, behind, overlap, late, toRow, fromRow, RowMoves, Moves};
+ghost use Rattle.rect.specs.Fast.{solid, plainly, straight, straightOf, bitwise, monoOf, sourceByte, behind, overlap, touching, late, toRow, fromRow, Flat, RowMoves, Moves};
 ghost use Rattle.runs.specs.Runs.{Shifted, Given};
 
 // Row y of a plain copy, as a run of n bytes.
@@ -43,7 +43,7 @@ fn move_rows(mem: &mut [u8], t: Task, w: u32, h: u32, toLeft: bool, toTop: bool)
 }
 
 // Whether a copy moves the bytes of its source.
-fn is_plain(t: Task) -> bool
+pub fn is_plain(t: Task) -> bool
     ensures { λ r. ⌜ r ≡ plainly t ⌝ }
 {
     t.copies
@@ -54,7 +54,7 @@ fn is_plain(t: Task) -> bool
 }
 
 // Whether a fill gives each pixel colorFore.
-fn is_solid(t: Task) -> bool
+pub fn is_solid(t: Task) -> bool
     ensures { λ r. ⌜ r ≡ solid t ⌝ }
 {
     !t.copies & (t.ink.rop0 == 0xcc) & !t.ink.dstKey & !(t.ink.clear & t.ink.mono)
@@ -78,13 +78,20 @@ fn do_overlap(s: u32, x: u32, n: u32) -> bool
     (surface::wide(s) < surface::wide(x) + size) & (surface::wide(x) < surface::wide(s) + size)
 }
 
-// Whether a copy, from the corner that the two flags name, reads a pixel after it was overwritten.
+// Whether a copy shares a pixel with its source.
+pub fn is_touching(t: Task, w: u32, h: u32) -> bool
+    ensures { λ r. ⌜ r ≡ touching t w h ⌝ }
+{
+    surface::same_surface(t.from, t.ink.target)
+        & (do_overlap(t.sx, t.x, w) & do_overlap(t.sy, t.y, h))
+}
+
+// Whether, from the corner that the two flags name, it reads a pixel after it was overwritten.
 fn is_late(t: Task, w: u32, h: u32, toLeft: bool, toTop: bool) -> bool
     ensures { λ r. ⌜ r ≡ late toLeft toTop t w h ⌝ }
 {
-    let behind = is_behind(toTop, t.sy, t.y) | ((t.sy == t.y) & is_behind(toLeft, t.sx, t.x));
-    surface::same_surface(t.from, t.ink.target)
-        & (behind & (do_overlap(t.sx, t.x, w) & do_overlap(t.sy, t.y, h)))
+    is_touching(t, w, h)
+        & (is_behind(toTop, t.sy, t.y) | ((t.sy == t.y) & is_behind(toLeft, t.sx, t.x)))
 }
 
 // Whether a mono copy gives each pixel the colour of its bit.
@@ -145,8 +152,8 @@ pub fn straight_of(t: Task) -> Straight
 }
 
 // A rectangle filled; the count of pixels written.
-pub fn fill_rect(mem: &mut [u8], t: Task, pattern: [u8; 256], w: u32, h: u32) -> u32
-    requires { ⌜ CanPaint t w h (length (now mem)) × (t .copies ≡ false) ⌝ }
+pub fn fill_in_rows(mem: &mut [u8], t: Task, pattern: [u8; 256], w: u32, h: u32) -> u32
+    requires { ⌜ (t .ink .target .tiled ≡ false) × (CanPaint t w h (length (now mem)) × (t .copies ≡ false)) ⌝ }
     ensures { λ r. ⌜ state (now (mem .exit)) r ≡ paint (t .ink .target) (inTurn t pattern (rect false false (t .x) (t .y) w h)) (state (now (mem .entry)) 0) ⌝ }
 {
     if is_solid(t) {
@@ -160,7 +167,7 @@ pub fn fill_rect(mem: &mut [u8], t: Task, pattern: [u8; 256], w: u32, h: u32) ->
 }
 
 // A rectangle copied from the corner that the two flags name, each pixel from the source as it then stands; the count of pixels written.
-pub fn copy_rect(
+pub fn copy_in_rows(
     mem: &mut [u8],
     t: Task,
     pattern: [u8; 256],
@@ -169,7 +176,7 @@ pub fn copy_rect(
     toLeft: bool,
     toTop: bool,
 ) -> u32
-    requires { ⌜ CanPaint t w h (length (now mem)) × ((t .copies ≡ true) × Orderly t w h) ⌝ }
+    requires { ⌜ Flat t × (CanPaint t w h (length (now mem)) × ((t .copies ≡ true) × Orderly t w h)) ⌝ }
     ensures { λ r. ⌜ state (now (mem .exit)) r ≡ paint (t .ink .target) (inTurn t pattern (rect toLeft toTop (t .x) (t .y) w h)) (state (now (mem .entry)) 0) ⌝ }
 {
     if is_bitwise(t) {

@@ -19,7 +19,7 @@ use Rattle.runs.specs.Runs.{Shifted, Given, evenly, RectOn, Run, Up}
 use Rattle.runs.proofs.Even.{byteNumber, even-given, even-counts}
 use Rattle.runs.proofs.Runs.{run-column, run-place, given-row, given-once}
 
-module _ {s : Surface} {len x y w h : ℕ} (on : RectOn s len x y w h) where
+module _ {s : Surface} (flat : s .tiled ≡ false) {len x y w h : ℕ} (on : RectOn s len x y w h) where
   abbrev colour : 0 < s .bytes
   colour = on .colour .some
 
@@ -31,7 +31,7 @@ module _ {s : Surface} {len x y w h : ℕ} (on : RectOn s len x y w h) where
 
   in-memory : (j i : ℕ) → j < h → i < w * s .bytes → byteOf s x (y + j) 0 + i < len
   in-memory j i lj li =
-      subst (λ (a : ℕ). a < len) (sym (run-place s colour x (y + j) i))
+      subst (λ (a : ℕ). a < len) (sym (run-place s colour x (y + j) flat i))
       (colour-byte (there (i / s .bytes) j (run-column s colour x y w i li) lj) (i % s .bytes) (mod-lt i colour) .inside)
 
   first-row : y + 0 ≡ y
@@ -50,7 +50,7 @@ module _ {s : Surface} {len x y w h : ℕ} (on : RectOn s len x y w h) where
         let q : y + j ≡ y =
         same-byte s (x + b / s .bytes) (y + j) (b % s .bytes) (x + a / s .bytes) y (a % s .bytes)
         (column (b / s .bytes) j (run-column s colour x y w b (omega arith)) l) (column (a / s .bytes) j (run-column s colour x y w a inside) l)
-        (mod-lt b colour) (mod-lt a colour) (sym (run-place s colour x (y + j) b) ∙ e ∙ run-place s colour x y a) .1 in
+        (mod-lt b colour) (mod-lt a colour) (sym (run-place s colour x (y + j) flat b) ∙ e ∙ run-place s colour x y flat a) .1 in
         omega arith;
   }
 
@@ -58,8 +58,8 @@ module _ {s : Surface} {len x y w h : ℕ} (on : RectOn s len x y w h) where
     pub one-row-more : (j : ℕ) (m₀ m m₁ : List ℕ) → 0 < j → j < h → Given s (byteNumber v) x y w j m₀ m
         → Shifted (byteOf s x (y + j) 0) (byteOf s x y 0) 0 (w * s .bytes) m m₁ → Given s (byteNumber v) x y w (j + 1) m₀ m₁
     one-row-more j m₀ m m₁ some l given run =
-        given-row s colour (byteNumber v) x w (λ c lc. column c j lc l) y j y (y + j) (byteOf s x y 0) m₀ m m₁ (inl (refl, refl)) given run
-        (λ c k lc lk. ap (λ (a : ℕ). getD m a 0) (run-byte s x y (byteOf s x y 0) refl c k) ∙ given .inside (px (x + c) y) (omega arith) k lk)
+        given-row s flat colour (byteNumber v) x w (λ c lc. column c j lc l) y j y (y + j) (byteOf s x y 0) m₀ m m₁ (inl (refl, refl)) given run
+        (λ c k lc lk. ap (λ (a : ℕ). getD m a 0) (run-byte s flat x y (byteOf s x y 0) refl c k) ∙ given .inside (px (x + c) y) (omega arith) k lk)
 
 -- ---- the first row, and the whole
 module _ (s : Surface) (v x y w h : ℕ) (m : List ℕ) (on : RectOn s (length m) x y w h) (some : 0 < h) where

@@ -2,6 +2,7 @@
 -- Assumes nothing.
 use mathlib.Core.Path.{_≡_, refl, sym, ap, subst, _∙_}
 use mathlib.Core.Logic.{_⊎_, inl, inr, ⊎-elim}
+use mathlib.Core.Bool.{false}
 use mathlib.Core.List.{List}
 use Prim.Native.Nat.{ℕ, _+_, _-_, _*_, _/_, _%_, _<_, _≤_}
 use native.Mathlib.Nat.{add-mul, mod-lt, div-add-mod', div-lt-iff-lt-mul, mul-le-mul-right}
@@ -77,8 +78,8 @@ module _ (s : Surface) (colour : 0 < s .bytes) (x y : ℕ) where
   pub run-column : (w i : ℕ) → i < w * s .bytes → i / s .bytes < w
   run-column w i h = div-lt-iff-lt-mul colour .1 h
 
-  pub run-place : (i : ℕ) → byteOf s x y 0 + i ≡ byteOf s (x + i / s .bytes) y (i % s .bytes)
-  run-place i = ap (λ (n : ℕ). byteOf s x y 0 + n) (sym (div-add-mod' i (s .bytes))) ∙ run-byte s x y (byteOf s x y 0) refl (i / s .bytes) (i % s .bytes)
+  pub run-place : s .tiled ≡ false → (i : ℕ) → byteOf s x y 0 + i ≡ byteOf s (x + i / s .bytes) y (i % s .bytes)
+  run-place flat i = ap (λ (n : ℕ). byteOf s x y 0 + n) (sym (div-add-mod' i (s .bytes))) ∙ run-byte s flat x y (byteOf s x y 0) refl (i / s .bytes) (i % s .bytes)
 
 -- ---- a rectangle given
 pub given-none : (s : Surface) (byte : Px → ℕ → ℕ) (x y w : ℕ) (m : List ℕ) → Given s byte x y w 0 m m
@@ -92,7 +93,7 @@ given-once {s} {byte} {x} {y} {w} {h} {m} {a} {b} f g =
     f .others i none ∙ sym (g .others i none)))
 
 -- one row more, above or below, as a run of bytes that have the row's values
-module _ (s : Surface) (colour : 0 < s .bytes) (byte : Px → ℕ → ℕ) (x w : ℕ) (columns : (c : ℕ) → c < w → x + c < rowPixels s) where
+module _ (s : Surface) (flat : s .tiled ≡ false) (colour : 0 < s .bytes) (byte : Px → ℕ → ℕ) (x w : ℕ) (columns : (c : ℕ) → c < w → x + c < rowPixels s) where
   pub given-row : (top h top′ y from : ℕ) (m₀ m m₁ : List ℕ) → ((top′ ≡ top) × (y ≡ top + h)) ⊎ ((top′ ≡ y) × (top ≡ y + 1))
       → Given s byte x top w h m₀ m → Shifted (byteOf s x y 0) from 0 (w * s .bytes) m m₁
       → ((c k : ℕ) → c < w → k < s .bytes → getD m (from + (c * s .bytes + k)) 0 ≡ byte (px (x + c) y) k)
@@ -103,14 +104,14 @@ module _ (s : Surface) (colour : 0 < s .bytes) (byte : Px → ℕ → ℕ) (x w 
         (λ e. let c = p .x - x in
         let same : px (x + c) y ≡ p = same-px (px (x + c) y) p (omega arith) (sym e) in
         subst (λ (q : Px). getD m₁ (byteOf s (q .x) (q .y) k) 0 ≡ byte q k) same
-        (ap (λ (a : ℕ). getD m₁ a 0) (sym (run-byte s x y (byteOf s x y 0) refl c k))
+        (ap (λ (a : ℕ). getD m₁ a 0) (sym (run-byte s flat x y (byteOf s x y 0) refl c k))
         ∙ run .came (c * s .bytes + k) (omega arith) (run-inside s colour x y w c k (omega arith) l) ∙ values c k (omega arith) l))
         (λ n. let old : Inside x top w h p = ⊎-elim (λ r. omega arith) (λ r. omega arith) rows in
         untouched run (byteOf s (p .x) (p .y) k) (λ j _ r e. n (elsewhere p i k l j r e)) ∙ given .inside p old k l);
     others = λ a f.
         untouched run a (λ j _ r e.
         f (px (x + j / s .bytes) y) (let c = run-column s colour x y w j r in ⊎-elim (λ z. omega arith) (λ z. omega arith) rows) (j % s .bytes) (mod-lt j colour)
-        (sym e ∙ run-place s colour x y j))
+        (sym e ∙ run-place s colour x y flat j))
         ∙ given .others a (λ p i. f p (⊎-elim (λ z. omega arith) (λ z. omega arith) rows));
     long = run .long ∙ given .long;
   }
@@ -119,4 +120,4 @@ module _ (s : Surface) (colour : 0 < s .bytes) (byte : Px → ℕ → ℕ) (x w 
       elsewhere p i k l j r e =
           let c = run-column s colour x y w j r in
           let column : p .x < rowPixels s = subst (λ (n : ℕ). n < rowPixels s) (omega arith) (columns (p .x - x) (omega arith)) in
-          sym (same-byte s (x + j / s .bytes) y (j % s .bytes) (p .x) (p .y) k (columns (j / s .bytes) c) column (mod-lt j colour) l (sym (run-place s colour x y j) ∙ e) .1)
+          sym (same-byte s (x + j / s .bytes) y (j % s .bytes) (p .x) (p .y) k (columns (j / s .bytes) c) column (mod-lt j colour) l (sym (run-place s colour x y flat j) ∙ e) .1)

@@ -1,6 +1,7 @@
 -- Runs of bytes: a rectangle of one value, and bytes that have come from elsewhere.
 -- Assumes nothing.
 use mathlib.Core.Path.{_≡_}
+use mathlib.Core.Bool.{false}
 use mathlib.Core.List.{List, map}
 use mathlib.Core.Option.{some}
 use Prim.Native.Nat.{ℕ, _+_, _^_, _<_, _≤_}
@@ -31,7 +32,7 @@ pub record Given (s : Surface) (byte : Px → ℕ → ℕ) (x y w h : ℕ) (m m�
 
 -- ---- what functions ask for
 
--- w pixels of row y from x on are on the surface, in a memory of len bytes, after n that were written
+-- w pixels of row y from x on are on their surface, in a memory of len bytes, after n that were written
 pub record RowOn (s : Surface) (len x w y n : ℕ) : Type 0 where
   pub wide : x + w ≤ 2 ^ 13
   pub room : n + w < 2 ^ 32

@@ -9,7 +9,7 @@ ghost use Rattle.paint.specs.Paint.{state, paint};
 ghost use Rattle.runs.specs.Runs.{evenly, Shifted, RowOn, RectOn, Run, Up, Down};
 
 // The w pixels of row y from x0 on, each of value v, after n that were written.
-fn solid_row(mem: &mut [u8], s: Surface, v: u32, x0: u32, w: u32, y: u32, n: u32) -> u32
+pub fn solid_row(mem: &mut [u8], s: Surface, v: u32, x0: u32, w: u32, y: u32, n: u32) -> u32
     requires { ⌜ RowOn s (length (now mem)) x0 w y n ⌝ }
     ensures { λ r. ⌜ (state (now (mem .exit)) r ≡ paint s (evenly v (across false x0 w y)) (state (now (mem .entry)) n)) × (r ≤ n + w) ⌝ }
 {
@@ -46,9 +46,9 @@ pub fn run_down(mem: &mut [u8], d: usize, s: usize, n: usize)
     }
 }
 
-// A rectangle of one value: its first row pixel by pixel, and the others as runs of that row's bytes.
+// A rectangle of one value, its surface in rows: its first row pixel by pixel, and the others as runs of that row's bytes.
 pub fn solid_rows(mem: &mut [u8], s: Surface, v: u32, x0: u32, y0: u32, w: u32, h: u32) -> u32
-    requires { ⌜ RectOn s (length (now mem)) x0 y0 w h ⌝ }
+    requires { ⌜ (s .tiled ≡ false) × RectOn s (length (now mem)) x0 y0 w h ⌝ }
     ensures { λ r. ⌜ state (now (mem .exit)) r ≡ paint s (evenly v (rect false false x0 y0 w h)) (state (now (mem .entry)) 0) ⌝ }
 {
     if h == 0 {

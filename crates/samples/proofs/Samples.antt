@@ -24,12 +24,12 @@ use Rattle.registers.specs.Kept.{kept}
 use Rattle.registers.specs.Regs.{putReg}
 use Rattle.registers.specs.Offsets.{placeOf}
 use Rattle.bank.specs.Bank.{freshBank, stored}
-use Rattle.cuts.specs.Cut.{clipOf, cutAt, copyCut}
-use Rattle.command.specs.Decode.{inkOf, copyTask}
-use Rattle.table.specs.Table.{allOnAt, copyVerdict}
+use Rattle.cuts.specs.Cut.{clipOf, cutAt, fillCut, copyCut}
+use Rattle.command.specs.Decode.{inkOf, fillTask, copyTask}
+use Rattle.table.specs.Table.{allOnAt, fillVerdict, copyVerdict}
 use Rattle.acts.specs.Deed.{rectEnded, carrying}
-use Rattle.engine.specs.Step.{freshEngine, storedIn, carried, commanded, toRegister, written}
-use Rattle.samples.specs.Sheet.{Line, marked, thumbnails, rowSmears, columnSmears, keyed, keyedSmears, smears, sheet}
+use Rattle.engine.specs.Step.{freshEngine, refusal, storedIn, carried, commanded, toRegister, written}
+use Rattle.samples.specs.Sheet.{Line, marked, thumbnails, rowSmears, columnSmears, keyed, keyedSmears, smears, tiles, sheet}
 
 -- the lines of a list hold
 abbrev Hold : List Line → Type 0
@@ -68,5 +68,9 @@ keyed-hold = ap₂ (λ (a b : List ℕ). a ∷ b ∷ []) by-source-key by-target
 smears-hold : Hold smears
 smears-hold = joined rowSmears (columnSmears ++ keyedSmears) rows-hold (joined columnSmears keyedSmears columns-hold keyed-hold)
 
+tiles-hold : Hold tiles
+unfolding rowBytes byteAt rowPixels firstByte byteCount inMemory onSurface across allOn targetOf steppedXY ropBit ropBits byteOf readBytes writeBytes readPx writePx rect patternBit patternPixel patternIn dab paint chosen mixed sourcePlace sourceBy giving kept putReg placeOf freshBank stored clipOf cutAt fillCut inkOf fillTask fillVerdict rectEnded carrying freshEngine refusal storedIn carried commanded toRegister written
+tiles-hold = refl
+
 pub samples : map (λ line. line .given) sheet ≡ map (λ line. line .said) sheet
-samples = joined marked (thumbnails ++ smears) marked-hold (joined thumbnails smears thumbnails-hold smears-hold)
+samples = joined marked (thumbnails ++ (smears ++ tiles)) marked-hold (joined thumbnails (smears ++ tiles) thumbnails-hold (joined smears tiles smears-hold tiles-hold))

@@ -6,7 +6,8 @@ use Prim.Native.Nat.{ℕ, zero, suc, _-_, _/_, _%_}
 use lib.Dec.{eqb}
 use Rattle.colour.specs.Convert.{repeated, narrowed}
 use Rattle.raster.specs.Rop.{ropBits}
-use Rattle.surface.specs.Place.{surface, monoBit}
+use Rattle.surface.specs.declared.Surface.{Surface}
+use Rattle.surface.specs.Place.{surface, byteAt, byteOf, rowPixels, monoBit}
 use Rattle.formats.specs.Step.{stepOf, dataWords}
 use Rattle.views.specs.View.{viewAnswer}
 use Rattle.line.specs.Line.{lineFrom, flat, points}
@@ -15,7 +16,7 @@ use Rattle.positions.specs.Position.{origin, placed, steppedXY}
 use Rattle.scale.specs.declared.Scale.{Scale}
 use Rattle.scale.specs.Scale.{scaled}
 use Rattle.engine.specs.declared.Engine.{Engine}
-use Rattle.engine.specs.Step.{freshEngine, written}
+use Rattle.engine.specs.Step.{freshEngine, written, numberOf}
 
 -- a line of the sheet: the numbers that the definitions give, and those that the sheet says
 pub record Line : Type 0 where
@@ -59,6 +60,25 @@ abcd = 65 ∷ 66 ∷ 67 ∷ 68 ∷ []
 
 abbrev pub keyed : List ℕ → List ℕ
 keyed keys = rowCopied keys (1 ∷ 2 ∷ 3 ∷ 4 ∷ []) 0 1 0xcc000101
+
+-- a tiled surface from byte 0 on
+abbrev pub tiled : ℕ → ℕ → Surface
+tiled across bytes = record { base = 0; stride = across; bytes = bytes; tiled = true }
+
+-- the number that the last of such writes is answered
+abbrev pub answered : Engine → List ℕ → List ℕ → ℕ
+answered e m (o ∷ d ∷ n ∷ more) = answered (written e m o d .engine) (written e m o d .memory) (n ∷ more)
+answered e m (o ∷ d ∷ []) = numberOf (written e m o d .answer)
+answered e m (o ∷ []) = 0
+answered e m [] = 0
+
+abbrev pub zeros : ℕ → List ℕ
+zeros zero = []
+zeros (suc n) = 0 ∷ zeros n
+
+-- that of a fill of pixel x of row 0, at 24 bpp and one tile across
+abbrev pub filledAt : ℕ → ℕ
+filledAt x = answered (freshEngine 128) (zeros 128) (0x10 ∷ 0x80000000 ∷ 0x14 ∷ 0x40001 ∷ 0x0c ∷ 0x10080 ∷ 0x68 ∷ 0x10001 ∷ 0x6c ∷ x ∷ 0x70 ∷ 0xcc000105 ∷ [])
 
 -- ---- the lines, of document 01 and of the requests
 abbrev pub marked : List Line
@@ -122,5 +142,15 @@ keyedSmears =
 abbrev pub smears : List Line
 smears = rowSmears ++ (columnSmears ++ keyedSmears)
 
+abbrev pub tiles : List Line
+tiles =
+    -- 8 tiles across, byte column 128 of row 32: 9 × 4096; 3 across, byte column 5 of row 33: 3 × 4096 + 133
+    is (byteAt (tiled 8 1) 128 32 ∷ byteAt (tiled 3 1) 5 33 ∷ []) (36864 ∷ 12421 ∷ [])
+    -- 24 bpp, 2 tiles across: pixel 42 has bytes 126, 127 and 4096
+    ∷ is (map (byteOf (tiled 2 3) 42 0) (0 ∷ 1 ∷ 2 ∷ [])) (126 ∷ 127 ∷ 4096 ∷ [])
+    -- 24 bpp, 1 tile across: a row has 42 pixels, so that x = 41 is taken and x = 42 a 7
+    ∷ is (rowPixels (tiled 1 3) ∷ filledAt 41 ∷ filledAt 42 ∷ []) (42 ∷ 0 ∷ 7 ∷ [])
+    ∷ []
+
 abbrev pub sheet : List Line
-sheet = marked ++ (thumbnails ++ smears)
+sheet = marked ++ (thumbnails ++ (smears ++ tiles))

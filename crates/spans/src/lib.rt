@@ -20,9 +20,9 @@ fn row_pixels(s: Surface) -> usize
 {
     let n = s.bytes;
     if n == 0 {
-        return 8 * surface::wide(s.stride);
+        return 8 * surface::row_bytes(s);
     }
-    surface::wide(s.stride) / surface::wide(n)
+    surface::row_bytes(s) / surface::wide(n)
 }
 
 // The first byte of its row that pixel x lies in.

@@ -12,7 +12,7 @@ use Rattle.colour.specs.Convert.{converted}
 use Rattle.surface.specs.Place.{byteOf, readBytes, writeBytes, readPx, writePx, Held}
 use Rattle.surface.specs.Pixels.{Px, px, across}
 use Rattle.surface.proofs.Bytes.{read-fits}
-use Rattle.surface.proofs.Run.{pixel-held, run-pixel, read-run, write-run}
+use Rattle.surface.proofs.Run.{in-rows, pixel-held, run-pixel, read-run, write-run}
 use Rattle.paint.specs.Paint.{state, touch, dab, paint, nth}
 use Rattle.paint.proofs.Frame.{Bytes}
 use Rattle.paint.proofs.Turns.{row-left, row-whole, row-again, row-ends}
@@ -63,12 +63,12 @@ module _ (t : Straight) (from to d s v : ℕ) (m : List ℕ) (formats : Formats 
       (low ∙ ap (λ (i : ℕ). i % 2 ^ 32) (c ∙ ap₂ (λ (f g : ℕ). converted f g v) (formats .source) (formats .target)) ∙ by-key false e)
 
 -- ---- the same, of pixels whose bytes begin there
-pub copied-px : (t : Straight) (d s x y x′ y′ : ℕ) (m : List ℕ) → d ≡ byteOf (t .target) x y 0 → s ≡ byteOf (t .from) x′ y′ 0
+pub copied-px : (t : Straight) → t .target .tiled ≡ false → t .from .tiled ≡ false → (d s x y x′ y′ : ℕ) (m : List ℕ) → d ≡ byteOf (t .target) x y 0 → s ≡ byteOf (t .from) x′ y′ 0
     → copied t d s m ≡ writePx m (t .target) x y (straightValue t (readPx m (t .target) x y) (readPx m (t .from) x′ y′))
 unfolding copied
-copied-px t d s x y x′ y′ m e f =
-    write-run (t .target) x y d e (straightValue t (readBytes m (λ k. d + k) 0 (t .target .bytes)) (readBytes m (λ k. s + k) 0 (t .from .bytes))) m
-    ∙ ap₂ (λ (old v : ℕ). writePx m (t .target) x y (straightValue t old v)) (read-run (t .target) x y d e m) (read-run (t .from) x′ y′ s f m)
+copied-px t to from d s x y x′ y′ m e f =
+    write-run (t .target) (in-rows to) x y d e (straightValue t (readBytes m (λ k. d + k) 0 (t .target .bytes)) (readBytes m (λ k. s + k) 0 (t .from .bytes))) m
+    ∙ ap₂ (λ (old v : ℕ). writePx m (t .target) x y (straightValue t old v)) (read-run (t .target) (in-rows to) x y d e m) (read-run (t .from) (in-rows from) x′ y′ s f m)
 
 -- a turn's number, counted from another place
 pub nth-from : (b : Bool) (at n i : ℕ) → at + nth b 0 n i ≡ nth b at n i
@@ -78,17 +78,17 @@ nth-from true at n i = omega arith
 -- ---- pixel number k of row j
 module _ {t : Straight} {w j len n from to d s : ℕ} (row : RowCopies t w j len n) (run : RunAt t from to d s j) (k : ℕ) where
   target-at : d + k * to ≡ byteOf (t .target) (t .x + k) (t .y + j) 0
-  target-at = ap (λ (b : ℕ). d + k * b) (run .formats .target) ∙ run-pixel (t .target) (t .x) (t .y + j) d (run .first) k
+  target-at = ap (λ (b : ℕ). d + k * b) (run .formats .target) ∙ run-pixel (t .target) (row .flat) (t .x) (t .y + j) d (run .first) k
 
   source-at : s + k * from ≡ byteOf (t .from) (t .sx + k) (t .sy + j) 0
-  source-at = ap (λ (b : ℕ). s + k * b) (run .formats .source) ∙ run-pixel (t .from) (t .sx) (t .sy + j) s (run .sourceFirst) k
+  source-at = ap (λ (b : ℕ). s + k * b) (run .formats .source) ∙ run-pixel (t .from) (row .fromFlat) (t .sx) (t .sy + j) s (run .sourceFirst) k
 
   -- its bytes, and its source's, are in memory
   pub pixel-copies : k < w → PixelCopies t from to (d + k * to) (s + k * from) len
   pixel-copies h = record {
     formats = run .formats;
-    stored = subst (λ (b : ℕ). Held (d + k * to) b len) (sym (run .formats .target)) (pixel-held (row .onTarget k h) (d + k * to) target-at);
-    read = subst (λ (b : ℕ). Held (s + k * from) b len) (sym (run .formats .source)) (pixel-held (row .onSource k h) (s + k * from) source-at);
+    stored = subst (λ (b : ℕ). Held (d + k * to) b len) (sym (run .formats .target)) (pixel-held (in-rows (row .flat)) (row .onTarget k h) (d + k * to) target-at);
+    read = subst (λ (b : ℕ). Held (s + k * from) b len) (sym (run .formats .source)) (pixel-held (in-rows (row .fromFlat)) (row .onSource k h) (s + k * from) source-at);
   }
 
   -- the pixel whose bytes were copied is given its value
@@ -99,7 +99,7 @@ module _ {t : Straight} {w j len n from to d s : ℕ} (row : RowCopies t w j len
       let column : k ≡ t .x + k - t .x = omega arith in
       let line : j ≡ t .y + j - t .y = omega arith in
       ap (λ (left : List ℕ). state left (count + 1))
-      (e ∙ copied-px t (d + k * to) (s + k * from) (t .x + k) (t .y + j) (t .sx + (t .x + k - t .x)) (t .sy + (t .y + j - t .y)) m target-at
+      (e ∙ copied-px t (row .flat) (row .fromFlat) (d + k * to) (s + k * from) (t .x + k) (t .y + j) (t .sx + (t .x + k - t .x)) (t .sy + (t .y + j - t .y)) m target-at
       (source-at ∙ ap₂ (λ (a b : ℕ). byteOf (t .from) (t .sx + a) (t .sy + b) 0) column line))
 
 -- ---- the loop over a row: after i turns what remains of the row, painted on the memory now, is the row painted on the memory at the start
@@ -145,6 +145,8 @@ module _ {t : Straight} {w j n i : ℕ} {back : Bool} {m₀ m : List ℕ} (left 
 -- ---- the rows of a rectangle
 pub can-row : {t : Straight} {w h len : ℕ} → CanCopy t w h len → (j n : ℕ) → j < h → n + w < 2 ^ 32 → RowCopies t w j len n
 can-row can j n low room = record {
+  flat = can .flat;
+  fromFlat = can .fromFlat;
   target = can .target;
   from = can .from;
   room = room;

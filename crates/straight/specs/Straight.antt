@@ -1,7 +1,7 @@
 -- Straight copies: each pixel is given its source, converted, or stays as it is where the source matches the key.
 -- Assumes nothing.
 use mathlib.Core.Path.{_≡_}
-use mathlib.Core.Bool.{Bool, cond, _&&_}
+use mathlib.Core.Bool.{Bool, false, cond, _&&_}
 use mathlib.Core.List.{List, map}
 use mathlib.Core.Option.{Option, some}
 use Prim.Native.Nat.{ℕ, _+_, _-_, _%_, _^_, _<_, _≤_}
@@ -37,8 +37,10 @@ copied t d s m =
 
 -- ---- what functions ask for
 
--- a rectangle of w by h pixels that can be copied, in a memory of len bytes: on its target, and its source on its surface
+-- a rectangle of w by h pixels that can be copied, in a memory of len bytes: on its target, and its source on its surface, both in rows
 pub record CanCopy (t : Straight) (w h len : ℕ) : Type 0 where
+  pub flat : t .target .tiled ≡ false
+  pub fromFlat : t .from .tiled ≡ false
   pub target : Colour (t .target)
   pub from : Colour (t .from)
   pub wide : t .x + w ≤ 2 ^ 13
@@ -49,6 +51,8 @@ pub record CanCopy (t : Straight) (w h len : ℕ) : Type 0 where
 
 -- its row number j can be, after n pixels that were written
 pub record RowCopies (t : Straight) (w j len n : ℕ) : Type 0 where
+  pub flat : t .target .tiled ≡ false
+  pub fromFlat : t .from .tiled ≡ false
   pub target : Colour (t .target)
   pub from : Colour (t .from)
   pub room : n + w < 2 ^ 32

@@ -1,18 +1,21 @@
 -- Rows of a stretch whose pixels get their sources, or stay as they are where the source matches the key.
 -- Assumes nothing.
 use mathlib.Core.Path.{_≡_, refl, sym, ap, ap₂, subst, _∙_}
+use mathlib.Core.Bool.{Bool, true, not, _&&_}
 use mathlib.Core.List.{List}
 use Prim.Native.Nat.{ℕ, _+_, _-_, _*_, _<_, _≤_}
 use native.Mathlib.Omega.{arith}
 use lib.ListN.{length}
+use borrow.Author.Tests.{not-true}
 use Rattle.surface.specs.Place.{byteOf, Held, OnColour}
 use Rattle.surface.specs.Pixels.{px}
-use Rattle.surface.proofs.Run.{pixel-held, run-pixel}
+use Rattle.surface.proofs.OnLaws.{and-left, and-right}
+use Rattle.surface.proofs.Run.{in-rows, pixel-held, run-pixel}
 use Rattle.paint.specs.Clip.{origin}
 use Rattle.paint.specs.Paint.{state, dab}
 use Rattle.straight.specs.Straight.{straightGiving, copied, PixelCopies}
 use Rattle.straight.proofs.StraightLaws.{copied-px}
-use Rattle.rect.specs.Fast.{straightOf}
+use Rattle.rect.specs.Fast.{straightOf, Flat}
 use Rattle.scale.specs.declared.Stretch.{Stretch}
 use Rattle.scale.specs.declared.Walk.{Walk}
 use Rattle.scale.specs.Scale.{scaled, walkAt}
@@ -20,13 +23,22 @@ use Rattle.scale.specs.Stretch.{takenAt, pixelTask}
 use Rattle.stretch.specs.Row.{openTask, straightTouch, rowOf, RowTakes, RunAt, RowTaken}
 use Rattle.stretch.proofs.Taken.{walk-place, RowLeft, row-goes-on, row-ended}
 
+-- the test: both surfaces in rows, and r
+pub straight-only : (t : Stretch) (r : Bool) → ((not (t .ink .target .tiled) && not (t .from .tiled)) && r) ≡ true → Flat (openTask t) × (r ≡ true)
+straight-only t r e =
+    let a = not (t .ink .target .tiled) in
+    let b = not (t .from .tiled) in
+    let both = and-left (a && b) r e in
+    (record { target = not-true (t .ink .target .tiled) (and-left a b both); from = not-true (t .from .tiled) (and-right a b both) }, and-right (a && b) r e)
+
 -- where the row begins, by the source's row
-pub run-here : {t : Stretch} {from to d s x y sy : ℕ} → from ≡ t .from .bytes → to ≡ t .ink .target .bytes → 0 < t .from .bytes → d ≡ byteOf (t .ink .target) x y 0
+pub run-here : {t : Stretch} {from to d s x y sy : ℕ} → from ≡ t .from .bytes → to ≡ t .ink .target .bytes → (0 < t .from .bytes) × Flat (openTask t) → d ≡ byteOf (t .ink .target) x y 0
     → s ≡ byteOf (t .from) 0 sy 0 → sy ≡ rowOf t y → RunAt t from to d s x y
 run-here {t} source target some first sourceFirst row = record {
+  flat = some .1;
   source = source;
   target = target;
-  some = omega arith;
+  some = omega (arith, some .0);
   first = first;
   sourceFirst = sourceFirst ∙ ap (λ (k : ℕ). byteOf (t .from) 0 k 0) row;
 }
@@ -37,12 +49,12 @@ module _ {t : Stretch} {x y w len n from to d s : ℕ} (row : RowTakes t x y w l
   column = scaled (t .columns) (origin + (x + i)) - origin
 
   target-at : d + i * to ≡ byteOf (t .ink .target) (x + i) y 0
-  target-at = ap (λ (b : ℕ). d + i * b) (run .target) ∙ run-pixel (t .ink .target) x y d (run .first) i
+  target-at = ap (λ (b : ℕ). d + i * b) (run .target) ∙ run-pixel (t .ink .target) (run .flat .target) x y d (run .first) i
 
   source-at : s + column * from ≡ byteOf (t .from) column (rowOf t y) 0
   source-at =
       let same : 0 + column ≡ column = omega arith in
-      ap (λ (b : ℕ). s + column * b) (run .source) ∙ run-pixel (t .from) 0 (rowOf t y) s (run .sourceFirst) column ∙ ap (λ (k : ℕ). byteOf (t .from) k (rowOf t y) 0) same
+      ap (λ (b : ℕ). s + column * b) (run .source) ∙ run-pixel (t .from) (run .flat .from) 0 (rowOf t y) s (run .sourceFirst) column ∙ ap (λ (k : ℕ). byteOf (t .from) k (rowOf t y) 0) same
 
   pub pixel-copies : i < w → PixelCopies (straightOf (openTask t)) from to (d + i * to) (s + column * from) len
   unfolding straightOf
@@ -51,8 +63,8 @@ module _ {t : Stretch} {x y w len n from to d s : ℕ} (row : RowTakes t x y w l
       let on : OnColour (t .from) len column (rowOf t y) = record { colour = record { small = row .small; some = subst (λ (b : ℕ). 0 < b) (run .source) (run .some) }; on = takes .from } in
       record {
         formats = record { source = run .source; target = run .target };
-        stored = subst (λ (b : ℕ). Held (d + i * to) b len) (sym (run .target)) (pixel-held (takes .on) (d + i * to) target-at);
-        read = subst (λ (b : ℕ). Held (s + column * from) b len) (sym (run .source)) (pixel-held on (s + column * from) source-at);
+        stored = subst (λ (b : ℕ). Held (d + i * to) b len) (sym (run .target)) (pixel-held (in-rows (run .flat .target)) (takes .on) (d + i * to) target-at);
+        read = subst (λ (b : ℕ). Held (s + column * from) b len) (sym (run .source)) (pixel-held (in-rows (run .flat .from)) on (s + column * from) source-at);
       }
 
   pixel-given : (count : ℕ) (m m′ : List ℕ) → m′ ≡ copied (straightOf (openTask t)) (d + i * to) (s + column * from) m
@@ -62,7 +74,7 @@ module _ {t : Stretch} {x y w len n from to d s : ℕ} (row : RowTakes t x y w l
       let across : column ≡ column + (x + i - (x + i)) = omega arith in
       let down : rowOf t y ≡ rowOf t y + (y - y) = omega arith in
       ap (λ (left : List ℕ). state left (count + 1))
-      (e ∙ copied-px (straightOf (openTask t)) (d + i * to) (s + column * from) (x + i) y (column + (x + i - (x + i))) (rowOf t y + (y - y)) m target-at
+      (e ∙ copied-px (straightOf (openTask t)) (run .flat .target) (run .flat .from) (d + i * to) (s + column * from) (x + i) y (column + (x + i - (x + i))) (rowOf t y + (y - y)) m target-at
       (source-at ∙ ap₂ (λ (a b : ℕ). byteOf (t .from) a b 0) across down))
 
 -- ---- a turn of the loop, and the row when all its pixels have theirs

@@ -15,7 +15,7 @@ use Rattle.scale.specs.declared.Walk.{Walk}
 use Rattle.scale.specs.Scale.{scaled, walkAt, OnScale}
 use Rattle.scale.specs.Stretch.{pixelTask, CanStretch}
 use Rattle.straight.specs.Straight.{straightGiving}
-use Rattle.rect.specs.Fast.{straightOf}
+use Rattle.rect.specs.Fast.{straightOf, Flat}
 
 -- the copy of a pixel, with its places left open
 abbrev pub openTask : Stretch → Task
@@ -64,6 +64,7 @@ rowOf t y = scaled (t .rows) (origin + y) - origin
 
 -- these are the formats; row y of the target begins at d, from column x on, and the source's row at s
 pub record RunAt (t : Stretch) (from to d s x y : ℕ) : Type 0 where
+  pub flat : Flat (openTask t)
   pub source : from ≡ t .from .bytes
   pub target : to ≡ t .ink .target .bytes
   pub some : 0 < from

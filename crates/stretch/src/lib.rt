@@ -14,7 +14,7 @@ ghost use Rattle.sweep.specs.Copy.{sourceFrom};
 ghost use Rattle.sweep.specs.Row.{SourceKey, TargetKey, Laid};
 ghost use Rattle.scale.specs.Stretch.{stretched, stretchedInTurn, CanStretch};
 ghost use Rattle.straight.specs.Straight.{copied, PixelCopies};
-ghost use Rattle.rect.specs.Fast.{straightOf};
+ghost use Rattle.rect.specs.Fast.{straightOf, Flat};
 ghost use Rattle.stretch.specs.Row.{openTask, inRow, straightly, rowOf, RowTakes, ColumnsAt, RunAt, OnSource, Begins, RowTaken};
 
 // The copy of a pixel, with its places left open.
@@ -89,7 +89,7 @@ fn straight_row(
     w: u32,
     n: u32,
 ) -> u32
-    requires { ⌜ RowTakes t x y w (length (now mem)) n × (ColumnsAt t columns x × ((sy ≡ rowOf t y) × (0 < t .from .bytes))) ⌝ }
+    requires { ⌜ RowTakes t x y w (length (now mem)) n × (ColumnsAt t columns x × ((sy ≡ rowOf t y) × ((0 < t .from .bytes) × Flat (openTask t)))) ⌝ }
     ensures { λ r. ⌜ RowTaken t x y w n (now (mem .entry)) (now (mem .exit)) r ⌝ }
 {
     let from = t.from.bytes;
@@ -122,7 +122,7 @@ fn straight_rows(
     w: u32,
     h: u32,
 ) -> u32
-    requires { ⌜ Begins t columns rows x y w h (length (now mem)) × (0 < t .from .bytes) ⌝ }
+    requires { ⌜ Begins t columns rows x y w h (length (now mem)) × ((0 < t .from .bytes) × Flat (openTask t)) ⌝ }
     ensures { λ r. ⌜ state (now (mem .exit)) r ≡ paint (t .ink .target) (straightly t (rect false false x y w h)) (state (now (mem .entry)) 0) ⌝ }
 {
     let mut walk = rows;
@@ -298,7 +298,7 @@ pub fn paint_stretch(
     }
     let columns = scale::start(t.columns, 16384 + x);
     let rows = scale::start(t.rows, 16384 + y);
-    if rect::is_straight(task_of(t)) {
+    if !t.ink.target.tiled & !t.from.tiled & rect::is_straight(task_of(t)) {
         return straight_rows(mem, t, columns, rows, x, y, w, h);
     }
     mixed_rows(mem, t, columns, rows, pattern, x, y, w, h)

@@ -1,11 +1,12 @@
 -- Laws of drawing by address: one point and the others, and that a line inside the clip whose points get their source is drawn so.
 -- Assumes nothing.
 use mathlib.Core.Path.{_≡_, refl, sym, ap₂, subst, _∙_}
-use mathlib.Core.Bool.{true, _&&_}
+use mathlib.Core.Bool.{true, not, _&&_}
 use mathlib.Core.List.{List, [], _∷_}
 use Prim.Native.Nat.{ℕ, zero, suc, _+_, _-_, _^_, _<_, _≤_}
 use native.Mathlib.Decide.{ℕ-discrete}
 use native.Mathlib.Omega.{arith}
+use borrow.Author.Tests.{not-true}
 use Rattle.surface.specs.declared.Surface.{Surface}
 use Rattle.surface.specs.Place.{readPx, onSurface}
 use Rattle.surface.specs.Pixels.{Px}
@@ -82,8 +83,11 @@ module _ (c : Clip) (l : Line) (start : inClip c (l .x0) (l .y0) ≡ true) (end 
 
 -- ---- when a line is walked
 module _ (ink : Ink) (c : Clip) (l : Line) (style : ℕ) (can : walks ink c l style ≡ true) where
+  first-four : (((direct ink && whole style) && inClip c (l .x0) (l .y0)) && inClip c (l .x1) (l .y1)) ≡ true
+  first-four = and-left _ (not (ink .target .tiled)) can
+
   first-three : ((direct ink && whole style) && inClip c (l .x0) (l .y0)) ≡ true
-  first-three = and-left _ (inClip c (l .x1) (l .y1)) can
+  first-three = and-left _ (inClip c (l .x1) (l .y1)) first-four
 
   first-two : (direct ink && whole style) ≡ true
   first-two = and-left _ (inClip c (l .x0) (l .y0)) first-three
@@ -95,7 +99,7 @@ module _ (ink : Ink) (c : Clip) (l : Line) (style : ℕ) (can : walks ink c l st
   from-inside = and-right (direct ink && whole style) _ first-three
 
   pub to-inside : inClip c (l .x1) (l .y1) ≡ true
-  to-inside = and-right ((direct ink && whole style) && inClip c (l .x0) (l .y0)) _ can
+  to-inside = and-right ((direct ink && whole style) && inClip c (l .x0) (l .y0)) _ first-four
 
   pub walkable : {len : ℕ} → Drawable (ink .target) len c l → Walkable (ink .target) len l style
   unfolding points
@@ -103,6 +107,7 @@ module _ (ink : Ink) (c : Clip) (l : Line) (style : ℕ) (can : walks ink c l st
       let a = in-clip c (l .x0) (l .y0) from-inside in
       let b = in-clip c (l .x1) (l .y1) to-inside in
       record {
+        flat = not-true (ink .target .tiled) (and-right (((direct ink && whole style) && inClip c (l .x0) (l .y0)) && inClip c (l .x1) (l .y1)) _ can);
         surface = h .surface;
         ahead = record { line = h .line; left = omega arith; top = omega arith; right = omega arith; bottom = omega arith };
         fields = and-right (direct ink) _ first-two;

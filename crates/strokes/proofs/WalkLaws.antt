@@ -9,8 +9,8 @@ use borrow.Author.Tests.{ltb-true, ltb-false, leb-false}
 use lib.Arith.{digits-div, digits-mod}
 use lib.Dec.{leb, ltb}
 use Rattle.surface.specs.declared.Surface.{Surface}
-use Rattle.surface.specs.Place.{byteAt, byteOf, Small}
-use Rattle.surface.proofs.Rows.{byteAt-small}
+use Rattle.surface.specs.Place.{byteOf, Small}
+use Rattle.surface.proofs.Rows.{byteAt-flat, byteAt-small}
 use Rattle.surface.proofs.Run.{run-pixel}
 use Rattle.paint.specs.Clip.{origin}
 use Rattle.line.specs.declared.Point.{Point}
@@ -75,16 +75,17 @@ both-sum : (a d e : ℕ) → ((a + d) % 2 ^ 64 + e) % 2 ^ 64 ≡ (a + (d + e) % 
 both-sum a d e = omega arith
 
 -- ---- the address of a pixel
-step-right : (s : Surface) (x x′ y : ℕ) → x′ ≡ x + 1 → byteOf s x′ y 0 ≡ byteOf s x y 0 + s .bytes
-step-right s x x′ y e =
+step-right : (s : Surface) → s .tiled ≡ false → (x x′ y : ℕ) → x′ ≡ x + 1 → byteOf s x′ y 0 ≡ byteOf s x y 0 + s .bytes
+step-right s flat x x′ y e =
     let first = byteOf s x y 0 in
-    ap (λ (c : ℕ). byteOf s c y 0) e ∙ sym (run-pixel s x y first refl 1) ∙ ap (λ (n : ℕ). first + n) (one-mul (s .bytes))
+    ap (λ (c : ℕ). byteOf s c y 0) e ∙ sym (run-pixel s flat x y first refl 1) ∙ ap (λ (n : ℕ). first + n) (one-mul (s .bytes))
 
-step-down : (s : Surface) (x y y′ : ℕ) → y′ ≡ y + 1 → byteOf s x y′ 0 ≡ byteOf s x y 0 + s .stride
-unfolding byteOf byteAt
-step-down s x y y′ e = rw e (omega (arith, add-mul y 1 (s .stride)))
+step-down : (s : Surface) → s .tiled ≡ false → (x y y′ : ℕ) → y′ ≡ y + 1 → byteOf s x y′ 0 ≡ byteOf s x y 0 + s .stride
+unfolding byteOf
+step-down s flat x y y′ e =
+    rw e (omega (arith, byteAt-flat s (x * s .bytes + 0) y flat, byteAt-flat s (x * s .bytes + 0) (y + 1) flat, add-mul y 1 (s .stride)))
 
-module _ (s : Surface) (small : Small s) (x y : ℕ) (hx : x < 8192) (hy : y < 8192) where
+module _ (s : Surface) (flat : s .tiled ≡ false) (small : Small s) (x y : ℕ) (hx : x < 8192) (hy : y < 8192) where
   address-small : byteOf s x y 0 < 2 ^ 60
   unfolding byteOf
   address-small =
@@ -95,15 +96,15 @@ module _ (s : Surface) (small : Small s) (x y : ℕ) (hx : x < 8192) (hy : y < 8
   go-across x′ up e h = shift-sum up (s .bytes) (byteOf s x y 0) (byteOf s x′ y 0) address-small h (by-way up e)
     where
       by-way : (up : Bool) → Step up 1 x x′ → Step up (s .bytes) (byteOf s x y 0) (byteOf s x′ y 0)
-      by-way true e = step-right s x x′ y e
-      by-way false e = step-right s x′ x y e
+      by-way true e = step-right s flat x x′ y e
+      by-way false e = step-right s flat x′ x y e
 
   go-down : (y′ : ℕ) → (up : Bool) → Step up 1 y y′ → byteOf s x y′ 0 < 2 ^ 60 → byteOf s x y′ 0 ≡ (byteOf s x y 0 + shift up (s .stride)) % 2 ^ 64
   go-down y′ up e h = shift-sum up (s .stride) (byteOf s x y 0) (byteOf s x y′ 0) address-small h (by-way up e)
     where
       by-way : (up : Bool) → Step up 1 y y′ → Step up (s .stride) (byteOf s x y 0) (byteOf s x y′ 0)
-      by-way true e = step-down s x y y′ e
-      by-way false e = step-down s x y′ y e
+      by-way true e = step-down s flat x y y′ e
+      by-way false e = step-down s flat x y′ y e
 
 -- ---- the walk
 pub steps-small : (s : Surface) (l : Line) → Placed l → stepsOf s l .limit + stepsOf s l .more < 2 ^ 32
@@ -120,7 +121,7 @@ walk-start s l a r e f = record { at = rw (first l) e; rest = f ∙ start-rest (
 abbrev address : Surface → Point → ℕ
 address s p = byteOf s (p .x - origin) (p .y - origin) 0
 
-module _ (s : Surface) (small : Small s) (l : Line) (ahead : Ahead l) (i : ℕ) (h : i + 1 ≤ longer l) where
+module _ (s : Surface) (flat : s .tiled ≡ false) (small : Small s) (l : Line) (ahead : Ahead l) (i : ℕ) (h : i + 1 ≤ longer l) where
   abbrev p : Point
   p = pointAt l i
 
@@ -131,25 +132,25 @@ module _ (s : Surface) (small : Small s) (l : Line) (ahead : Ahead l) (i : ℕ) 
   moves-across e f =
       let b = point-box l i (omega arith) in
       let b′ = point-box l (i + 1) h in
-      rw f (go-across s small (p .x - origin) (p .y - origin) (omega arith) (omega arith) (p′ .x - origin) _ e
-      (address-small s small (p′ .x - origin) (p .y - origin) (omega arith) (omega arith)))
+      rw f (go-across s flat small (p .x - origin) (p .y - origin) (omega arith) (omega arith) (p′ .x - origin) _ e
+      (address-small s flat small (p′ .x - origin) (p .y - origin) (omega arith) (omega arith)))
 
   moves-down : Step (leb (l .y0) (l .y1)) 1 (p .y - origin) (p′ .y - origin) → p′ .x ≡ p .x → address s p′ ≡ (address s p + down s l) % 2 ^ 64
   moves-down e f =
       let b = point-box l i (omega arith) in
       let b′ = point-box l (i + 1) h in
-      rw f (go-down s small (p .x - origin) (p .y - origin) (omega arith) (omega arith) (p′ .y - origin) _ e
-      (address-small s small (p .x - origin) (p′ .y - origin) (omega arith) (omega arith)))
+      rw f (go-down s flat small (p .x - origin) (p .y - origin) (omega arith) (omega arith) (p′ .y - origin) _ e
+      (address-small s flat small (p .x - origin) (p′ .y - origin) (omega arith) (omega arith)))
 
   moves-both : Step (leb (l .x0) (l .x1)) 1 (p .x - origin) (p′ .x - origin) → Step (leb (l .y0) (l .y1)) 1 (p .y - origin) (p′ .y - origin)
       → address s p′ ≡ (address s p + (across s l + down s l) % 2 ^ 64) % 2 ^ 64
   moves-both e f =
       let b = point-box l i (omega arith) in
       let b′ = point-box l (i + 1) h in
-      let mid = address-small s small (p′ .x - origin) (p .y - origin) (omega arith) (omega arith) in
-      let one = go-across s small (p .x - origin) (p .y - origin) (omega arith) (omega arith) (p′ .x - origin) _ e mid in
-      let two = go-down s small (p′ .x - origin) (p .y - origin) (omega arith) (omega arith) (p′ .y - origin) _ f
-      (address-small s small (p′ .x - origin) (p′ .y - origin) (omega arith) (omega arith)) in
+      let mid = address-small s flat small (p′ .x - origin) (p .y - origin) (omega arith) (omega arith) in
+      let one = go-across s flat small (p .x - origin) (p .y - origin) (omega arith) (omega arith) (p′ .x - origin) _ e mid in
+      let two = go-down s flat small (p′ .x - origin) (p .y - origin) (omega arith) (omega arith) (p′ .y - origin) _ f
+      (address-small s flat small (p′ .x - origin) (p′ .y - origin) (omega arith) (omega arith)) in
       two ∙ ap (λ (a : ℕ). (a + down s l) % 2 ^ 64) one ∙ both-sum (address s p) (across s l) (down s l)
 
   along-x : xMajor l ≡ true → aside (longer l) (shorter l) (i + 1) ≡ aside (longer l) (shorter l) i → address s p′ ≡ (address s p + across s l) % 2 ^ 64

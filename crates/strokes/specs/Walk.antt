@@ -2,7 +2,7 @@
 -- remainder that says when it goes along the minor axis too. The stipple's word is kept as its four numbers.
 -- Assumes nothing.
 use mathlib.Core.Path.{_≡_}
-use mathlib.Core.Bool.{Bool, true, cond, _&&_}
+use mathlib.Core.Bool.{Bool, true, false, cond, not, _&&_}
 use mathlib.Core.List.{List, [], _∷_}
 use Prim.Native.Nat.{ℕ, _+_, _-_, _*_, _%_, _^_, _<_, _≤_}
 use lib.Dec.{eqb, leb, ltb}
@@ -80,9 +80,9 @@ pub record Fields (p : Phase) : Type 0 where
 
 -- ---- what functions ask for
 
--- both ends are inside the clip, and each point gets its source
+-- both ends are inside the clip, each point gets its source, and the target is in rows
 abbrev pub walks : Ink → Clip → Line → ℕ → Bool
-walks ink c l style = ((direct ink && whole style) && inClip c (l .x0) (l .y0)) && inClip c (l .x1) (l .y1)
+walks ink c l style = (((direct ink && whole style) && inClip c (l .x0) (l .y0)) && inClip c (l .x1) (l .y1)) && not (ink .target .tiled)
 
 -- n bytes from an address on, in a memory of len bytes, after k pixels that were written
 pub record Spot (at n len k : ℕ) : Type 0 where
@@ -99,6 +99,7 @@ pub record Ahead (l : Line) : Type 0 where
 
 -- a line that can be walked, in a memory of len bytes
 pub record Walkable (s : Surface) (len : ℕ) (l : Line) (style : ℕ) : Type 0 where
+  pub flat : s .tiled ≡ false
   pub surface : Colour s
   pub ahead : Ahead l
   pub fields : whole style ≡ true

@@ -217,6 +217,7 @@ fn can_walk(ink: Ink, c: Clip, l: Line, style: u32) -> bool
         & is_whole(style)
         & paint::covers(c, l.x0, l.y0)
         & paint::covers(c, l.x1, l.y1)
+        & !ink.target.tiled
 }
 
 // The line drawn.

@@ -1,6 +1,6 @@
 -- Runs of bytes: what a write of n bytes leaves, and what is read back after it. Stated once over the number of bytes.
 -- Assumes nothing.
-use mathlib.Core.Path.{_≡_, refl, ap₂, subst⁻¹, _∙_}
+use mathlib.Core.Path.{_≡_, refl, ap, ap₂, subst⁻¹, _∙_}
 use mathlib.Core.List.{List}
 use Prim.Native.Nat.{ℕ, zero, suc, _+_, _*_, _/_, _%_, _^_, _<_, _≤_}
 use native.Mathlib.Nat.{lt-of-le-of-lt, mul-le-mul-left, mul-lt-mul-of-pos-right, le-of-lt, pow-suc}
@@ -59,6 +59,20 @@ module _ (at : ℕ → ℕ) where
   read-alike k zero m m′ h = refl
   read-alike k (suc n) m m′ h =
       ap₂ (λ (a b : ℕ). a + 256 * b) (h k (omega arith) (omega arith)) (read-alike (suc k) n m m′ (λ j l u. h j (omega arith) (omega arith)))
+
+-- addresses that agree read and write alike
+pub read-there : (m : List ℕ) (at at′ : ℕ → ℕ) (k n : ℕ) → ((j : ℕ) → j < k + n → at j ≡ at′ j) → readBytes m at k n ≡ readBytes m at′ k n
+unfolding readBytes
+read-there m at at′ k zero h = refl
+read-there m at at′ k (suc n) h =
+    ap₂ (λ (a b : ℕ). getD m a 0 + 256 * b) (h k (omega arith)) (read-there m at at′ (suc k) n (λ j l. h j (omega arith)))
+
+pub write-there : (at at′ : ℕ → ℕ) (k n v : ℕ) (m : List ℕ) → ((j : ℕ) → j < k + n → at j ≡ at′ j) → writeBytes at k n v m ≡ writeBytes at′ k n v m
+unfolding writeBytes
+write-there at at′ k zero v m h = refl
+write-there at at′ k (suc n) v m h =
+    ap (λ (a : ℕ). writeBytes at (suc k) n (v / 256) (set m a (v % 256))) (h k (omega arith))
+    ∙ write-there at at′ (suc k) n (v / 256) (set m (at′ k) (v % 256)) (λ j l. h j (omega arith))
 
 -- in a memory of bytes the number fits the bytes that it is read from
 pub read-fits : (m : List ℕ) (at : ℕ → ℕ) (k n : ℕ) → ((j : ℕ) → getD m (at j) 0 < 256) → readBytes m at k n < 256 ^ n

@@ -1,3 +1,4 @@
+pub mod Tiles
 pub mod Rows
 pub mod Bytes
 pub mod OnLaws

@@ -7,12 +7,13 @@ use native.Mathlib.Omega.{arith}
 use lib.ListN.{length, getD}
 use Rattle.surface.specs.declared.Surface.{Surface}
 use Rattle.surface.specs.Place.{rowBytes, byteOf, readPx, writePx, rowPixels, OnColour}
-use Rattle.surface.proofs.Rows.{digits-same, byteAt-inj}
+use Rattle.surface.proofs.Tiles.{digits-same}
+use Rattle.surface.proofs.Rows.{byteAt-inj}
 use Rattle.surface.proofs.Bytes.{length-written, written-other, read-written, read-alike, read-fits}
 use Rattle.surface.proofs.OnLaws.{colour-first, colour-count, in-row, on-column, colour-byte}
 
 -- ---- two different pixels of a surface share no byte
-in-row-byte : (s : Surface) (x k : ℕ) → 0 < s .bytes → x < rowPixels s → k < s .bytes → x * s .bytes + k < rowBytes s
+pub in-row-byte : (s : Surface) (x k : ℕ) → 0 < s .bytes → x < rowPixels s → k < s .bytes → x * s .bytes + k < rowBytes s
 in-row-byte s x k p h l = rw (← colour-first s x p) (in-row s x k h (rw (colour-count s x p) l))
 
 pub same-byte : (s : Surface) (x y k x′ y′ k′ : ℕ) → x < rowPixels s → x′ < rowPixels s → k < s .bytes → k′ < s .bytes

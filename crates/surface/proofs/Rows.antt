@@ -1,35 +1,71 @@
--- What is known elsewhere of the layout: laws of `byteAt` and `rowBytes`. Beside this file and the proofs of `byte_at` and `row_pixels` these open them:
--- `WalkLaws` of strokes, for the step from row to row, and `Fits` of picture, for the length of a picture; and the examples that are worked out.
+-- What is known elsewhere of the layout: laws of `byteAt` and `rowBytes`, over both layouts. Beside this file and the proofs of `byte_at` and `row_bytes` these open them:
+-- the examples that are worked out.
 -- Assumes nothing.
-use mathlib.Core.Path.{_≡_, sym, ap, _∙_}
+use mathlib.Core.Path.{_≡_, refl}
+use mathlib.Core.Bool.{Bool, true, false}
 use Prim.Native.Nat.{ℕ, _+_, _*_, _/_, _%_, _^_, _<_, _≤_}
-use native.Mathlib.Nat.{mul-le-mul-right}
+use native.Mathlib.Nat.{mul-le-mul-right, mul-le-mul-left}
 use native.Mathlib.Omega.{arith}
-use lib.Arith.{digits-div, digits-mod}
 use Rattle.surface.specs.declared.Surface.{Surface}
 use Rattle.surface.specs.Place.{rowBytes, byteAt, Near}
 use Rattle.surface.proofs.Bytes.{product-lt}
+use Rattle.surface.proofs.Tiles.{digits-same, tileAt, tile-mono, tile-inj, tile-small, tile-area}
 
-pub digits-same : (q q′ : ℕ) {m r r′ : ℕ} → r < m → r′ < m → q * m + r ≡ q′ * m + r′ → (q ≡ q′) × (r ≡ r′)
-digits-same q q′ {m} h h′ e =
-    (sym (digits-div q h) ∙ ap (λ (n : ℕ). n / m) e ∙ digits-div q′ h′, sym (digits-mod q h) ∙ ap (λ (n : ℕ). n % m) e ∙ digits-mod q′ h′)
+-- ---- by the layout
+pub by-layout : {A : Type 0} (s : Surface) → (s .tiled ≡ false → A) → (s .tiled ≡ true → A) → A
+by-layout {A} s f g = by-test (s .tiled) refl
+  where
+    by-test : (t : Bool) → s .tiled ≡ t → A
+    by-test false e = f e
+    by-test true e = g e
+
+module _ (s : Surface) (c y : ℕ) where
+  pub byteAt-flat : s .tiled ≡ false → byteAt s c y ≡ s .base + y * s .stride + c
+  unfolding byteAt
+  byteAt-flat e = rw e
+
+  pub byteAt-tiled : s .tiled ≡ true → byteAt s c y ≡ s .base + tileAt (s .stride) c y
+  unfolding byteAt
+  byteAt-tiled e = rw e (omega arith)
+
+module _ (s : Surface) where
+  pub rowBytes-flat : s .tiled ≡ false → rowBytes s ≡ s .stride
+  unfolding rowBytes
+  rowBytes-flat e = rw e
+
+  pub rowBytes-tiled : s .tiled ≡ true → rowBytes s ≡ 128 * s .stride
+  unfolding rowBytes
+  rowBytes-tiled e = rw e
+
+-- ---- laws of both
 
 -- further right or further down is no lower address
 pub byteAt-mono : (s : Surface) {c c′ y y′ : ℕ} → c′ < rowBytes s → c ≤ c′ → y ≤ y′ → byteAt s c y ≤ byteAt s c′ y′
-unfolding byteAt
-byteAt-mono s h hc hy = omega (arith, mul-le-mul-right (s .stride) hy)
+byteAt-mono s {c} {c′} {y} {y′} h hc hy =
+    by-layout s (λ e. omega (arith, byteAt-flat s c y e, byteAt-flat s c′ y′ e, mul-le-mul-right (s .stride) hy))
+    (λ e. rw (byteAt-tiled s c y e, byteAt-tiled s c′ y′ e) (omega (arith, tile-mono (s .stride) c y c′ y′ (rw (rowBytes-tiled s e) at h) hc hy)))
 
 -- within the rows no two bytes have one address
 pub byteAt-inj : (s : Surface) (c y c′ y′ : ℕ) → c < rowBytes s → c′ < rowBytes s → byteAt s c y ≡ byteAt s c′ y′ → (y ≡ y′) × (c ≡ c′)
-unfolding byteAt rowBytes
-byteAt-inj s c y c′ y′ h h′ e = let f : y * s .stride + c ≡ y′ * s .stride + c′ = omega arith in digits-same y y′ h h′ f
+byteAt-inj s c y c′ y′ h h′ e =
+    by-layout s
+    (λ t. let f : y * s .stride + c ≡ y′ * s .stride + c′ = omega (arith, byteAt-flat s c y t, byteAt-flat s c′ y′ t) in
+    digits-same y y′ (rw (rowBytes-flat s t) at h) (rw (rowBytes-flat s t) at h′) f)
+    (λ t. let f : tileAt (s .stride) c y ≡ tileAt (s .stride) c′ y′ = omega (arith, byteAt-tiled s c y t, byteAt-tiled s c′ y′ t) in
+    tile-inj (s .stride) c y c′ y′ (rw (rowBytes-tiled s t) at h) (rw (rowBytes-tiled s t) at h′) f)
 
 -- an address that can be worked out
 pub byteAt-small : {s : Surface} {c y : ℕ} → Near s c y → byteAt s c y < 2 ^ 60
-unfolding byteAt
-byteAt-small {s} {c} {y} near = omega (arith, near, near .small, product-lt 40 17 {a = y} {b = s .stride} (near .down) (near .small .stride))
+byteAt-small {s} {c} {y} near =
+    by-layout s (λ e. omega (arith, byteAt-flat s c y e, near, near .small, product-lt 34 17 {a = y} {b = s .stride} (near .down) (near .small .stride)))
+    (λ e. omega (arith, byteAt-tiled s c y e, near .small .base, tile-small (near .small .stride) (near .across) (near .down)))
 
--- the bytes of a row follow each other
-pub byteAt-run : (s : Surface) (c k y : ℕ) → byteAt s (c + k) y ≡ byteAt s c y + k
-unfolding byteAt
-byteAt-run s c k y = omega arith
+-- all that is left of and above a byte lies before it
+pub byteAt-area : (s : Surface) (c y : ℕ) → c < rowBytes s → s .base + (c + 1) * (y + 1) ≤ byteAt s c y + 1
+byteAt-area s c y h =
+    by-layout s (λ e. let k = rw (rowBytes-flat s e) at h in omega (arith, byteAt-flat s c y e, mul-le-mul-left {m = c + 1} {n = s .stride} y (omega arith)))
+    (λ e. omega (arith, byteAt-tiled s c y e, tile-area (s .stride) c y (rw (rowBytes-tiled s e) at h)))
+
+-- ---- in rows the bytes of a row follow each other
+pub byteAt-run : (s : Surface) → s .tiled ≡ false → (c k y : ℕ) → byteAt s (c + k) y ≡ byteAt s c y + k
+byteAt-run s e c k y = omega (arith, byteAt-flat s c y e, byteAt-flat s (c + k) y e)

@@ -1,50 +1,106 @@
--- A pixel's bytes lie one after the other from an address on, and so do the pixels of a row: read and written at one to four bytes.
+-- A pixel's bytes lie one after the other from an address on where it falls across no two tiles, and in rows so do the pixels of a row:
+-- read and written at one to four bytes.
 -- Assumes nothing.
-use mathlib.Core.Path.{_≡_, sym, ap, _∙_}
+use mathlib.Core.Path.{_≡_, refl, sym, ap, _∙_}
+use mathlib.Core.Bool.{Bool, true, false, _&&_}
 use mathlib.Core.List.{List}
-use Prim.Native.Nat.{ℕ, _+_, _-_, _*_, _/_, _%_}
+use Prim.Native.Nat.{ℕ, _+_, _-_, _*_, _/_, _%_, _<_}
 use native.Mathlib.Nat.{add-zero, add-mul}
 use native.Mathlib.Omega.{arith}
+use native.Mathlib.Decide.{ℕ-discrete}
+use lib.Dec.{eqb}
 use lib.ListN.{getD, set}
+use borrow.Author.Tests.{eqb-true, eqb-false}
 use Rattle.surface.specs.declared.Surface.{Surface}
-use Rattle.surface.specs.Place.{byteAt, byteOf, readBytes, writeBytes, readPx, writePx, OnColour, Held}
-use Rattle.surface.proofs.Rows.{byteAt-run}
-use Rattle.surface.proofs.OnLaws.{colour-byte}
+use Rattle.surface.specs.Place.{byteAt, byteOf, readBytes, writeBytes, readPx, writePx, Colour, OnColour, Held}
+use Rattle.surface.proofs.Tiles.{tile-run}
+use Rattle.surface.proofs.Rows.{by-layout, byteAt-tiled, byteAt-run}
+use Rattle.surface.proofs.Bytes.{read-there, write-there}
+use Rattle.surface.proofs.Lists.{by-cases}
+use Rattle.surface.proofs.OnLaws.{and-right, colour-byte}
 
-pub byte-run : (s : Surface) (x y k : ℕ) → byteOf s x y k ≡ byteOf s x y 0 + k
+-- ---- within a pixel
+
+-- a pixel's bytes are in one piece: in rows, or as many as divide a tile's row
+pub data InPiece : Surface → Type 0 where
+  in-rows : {s : Surface} → s .tiled ≡ false → InPiece s
+  by-one : {s : Surface} → s .bytes ≡ 1 → InPiece s
+  by-two : {s : Surface} → s .bytes ≡ 2 → InPiece s
+  by-four : {s : Surface} → s .bytes ≡ 4 → InPiece s
+
+-- the test for the other kind: three bytes a pixel, in tiles
+pub three-bytes : (s : Surface) → (s .tiled && eqb (s .bytes) 3) ≡ true → s .bytes ≡ 3
+three-bytes s e = eqb-true (s .bytes) 3 (and-right (s .tiled) (eqb (s .bytes) 3) e)
+
+three-in-rows : (t : Bool) (b : ℕ) → (t && eqb b 3) ≡ false → b ≡ 3 → t ≡ false
+three-in-rows true b e h = absurd (eqb-false b 3 e h)
+three-in-rows false b e h = refl
+
+pub in-piece : (s : Surface) → Colour s → (s .tiled && eqb (s .bytes) 3) ≡ false → InPiece s
+in-piece s colour e =
+    by-cases (ℕ-discrete (s .bytes) 1) by-one
+    (λ p. by-cases (ℕ-discrete (s .bytes) 2) by-two
+    (λ q. by-cases (ℕ-discrete (s .bytes) 4) by-four
+    (λ r. in-rows (three-in-rows (s .tiled) (s .bytes) e (omega (arith, colour .small .bytes))))))
+
+-- what ends inside its tile's row follows on in either layout
+byteAt-follows : (s : Surface) (c k y : ℕ) → c % 128 + k < 128 → byteAt s (c + k) y ≡ byteAt s c y + k
+byteAt-follows s c k y h =
+    by-layout s (λ e. byteAt-run s e c k y) (λ e. omega (arith, byteAt-tiled s c y e, byteAt-tiled s (c + k) y e, tile-run (s .stride) c k y h))
+
+follows : (s : Surface) → InPiece s → (x y k : ℕ) → k < s .bytes → byteAt s (x * s .bytes + k) y ≡ byteAt s (x * s .bytes) y + k
+follows s (in-rows e) x y k h = byteAt-run s e (x * s .bytes) k y
+follows s (by-one e) x y k h = byteAt-follows s (x * s .bytes) k y (omega (arith, ap (λ (n : ℕ). x * n) e))
+follows s (by-two e) x y k h = byteAt-follows s (x * s .bytes) k y (omega (arith, ap (λ (n : ℕ). x * n) e))
+follows s (by-four e) x y k h = byteAt-follows s (x * s .bytes) k y (omega (arith, ap (λ (n : ℕ). x * n) e))
+
+pub byte-run : (s : Surface) → InPiece s → (x y k : ℕ) → k < s .bytes → byteOf s x y k ≡ byteOf s x y 0 + k
 unfolding byteOf
-byte-run s x y k = byteAt-run s (x * s .bytes) k y ∙ ap (λ (a : ℕ). byteAt s a y + k) (sym (add-zero (x * s .bytes)))
+byte-run s p x y k h = follows s p x y k h ∙ ap (λ (a : ℕ). byteAt s a y + k) (sym (add-zero (x * s .bytes)))
 
-pub pixel-held : {s : Surface} {len x y : ℕ} → OnColour s len x y → (a : ℕ) → a ≡ byteOf s x y 0 → Held a (s .bytes) len
-pixel-held {s} {len} {x} {y} on a e =
+pub pixel-held : {s : Surface} {len x y : ℕ} → InPiece s → OnColour s len x y → (a : ℕ) → a ≡ byteOf s x y 0 → Held a (s .bytes) len
+pixel-held {s} {len} {x} {y} piece on a e =
     let p = on .colour .some in
     record {
       some = p;
       few = on .colour .small .bytes;
-      inside = omega (arith, colour-byte on (s .bytes - 1) (omega arith) .inside, byte-run s x y (s .bytes - 1));
+      inside = omega (arith, colour-byte on (s .bytes - 1) (omega arith) .inside, byte-run s piece x y (s .bytes - 1) (omega arith));
     }
 
-module _ (s : Surface) (x y a : ℕ) (e : a ≡ byteOf s x y 0) where
-  from : (k : ℕ) → a + k ≡ byteOf s x y k
-  from k = ap (λ (b : ℕ). b + k) e ∙ sym (byte-run s x y k)
+module _ (s : Surface) (piece : InPiece s) (x y a : ℕ) (e : a ≡ byteOf s x y 0) where
+  from : (k : ℕ) → k < s .bytes → a + k ≡ byteOf s x y k
+  from k h = ap (λ (b : ℕ). b + k) e ∙ sym (byte-run s piece x y k h)
 
+  pub read-run : (m : List ℕ) → readBytes m (λ k. a + k) 0 (s .bytes) ≡ readPx m s x y
+  unfolding readPx
+  read-run m = read-there m (λ k. a + k) (byteOf s x y) 0 (s .bytes) (λ k h. from k (omega arith))
+
+  pub write-run : (v : ℕ) (m : List ℕ) → writeBytes (λ k. a + k) 0 (s .bytes) v m ≡ writePx m s x y v
+  unfolding writePx
+  write-run v m = write-there (λ k. a + k) (byteOf s x y) 0 (s .bytes) v m (λ k h. from k (omega arith))
+
+-- ---- along a row
+module _ (s : Surface) (rows : s .tiled ≡ false) (x y a : ℕ) (e : a ≡ byteOf s x y 0) where
   -- byte k of pixel number i from there on, and where that pixel begins
   pub run-byte : (i k : ℕ) → a + (i * s .bytes + k) ≡ byteOf s (x + i) y k
   unfolding byteOf
   run-byte i k =
-      let column : x * s .bytes + (i * s .bytes + k) ≡ (x + i) * s .bytes + k = rw (add-mul x i (s .bytes)) (omega arith) in
-      from (i * s .bytes + k) ∙ ap (λ (c : ℕ). byteAt s c y) column
+      let column : x * s .bytes + 0 + (i * s .bytes + k) ≡ (x + i) * s .bytes + k = rw (add-mul x i (s .bytes)) (omega arith) in
+      ap (λ (b : ℕ). b + (i * s .bytes + k)) e ∙ sym (byteAt-run s rows (x * s .bytes + 0) (i * s .bytes + k) y) ∙ ap (λ (c : ℕ). byteAt s c y) column
 
   pub run-pixel : (i : ℕ) → a + i * s .bytes ≡ byteOf s (x + i) y 0
   run-pixel i = ap (λ (n : ℕ). a + n) (sym (add-zero (i * s .bytes))) ∙ run-byte i 0
 
-  pub read-run : (m : List ℕ) → readBytes m (λ k. a + k) 0 (s .bytes) ≡ readPx m s x y
-  unfolding readPx
-  read-run m i = readBytes m (λ k. from k i) 0 (s .bytes)
+-- ---- a pixel of three bytes, wherever they lie
+module _ (at : ℕ → ℕ) (n v : ℕ) (m : List ℕ) (e : n ≡ 3) where
+  pub three-read : getD m (at 0) 0 + 256 * (getD m (at 1) 0 + 256 * getD m (at 2) 0) ≡ readBytes m at 0 n
+  unfolding readBytes
+  three-read = rw e (omega arith)
 
-  pub write-run : (v : ℕ) (m : List ℕ) → writeBytes (λ k. a + k) 0 (s .bytes) v m ≡ writePx m s x y v
-  unfolding writePx
-  write-run v m i = writeBytes (λ k. from k i) 0 (s .bytes) v m
+  pub three-written : {m₁ m₂ m₃ : List ℕ} → m₁ ≡ set m (at 0) (v % 256) → m₂ ≡ set m₁ (at 1) (v / 256 % 256)
+      → m₃ ≡ set m₂ (at 2) (v / 256 / 256 % 256) → m₃ ≡ writeBytes at 0 n v m
+  unfolding writeBytes
+  three-written p q r = rw e (cc)
 
 -- ---- at a known number of bytes
 module _ (at n : ℕ) (m : List ℕ) where

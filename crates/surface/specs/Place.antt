@@ -1,30 +1,37 @@
 -- Where the bytes of a pixel are, how a pixel is read and written, and when it is on its surface.
--- A surface is its base, its stride and its bytes per pixel; 0 bytes per pixel is mono, one bit a pixel.
+-- A surface is its base, its stride, its bytes per pixel and whether it is tiled; 0 bytes per pixel is mono, one bit a pixel.
+-- In rows the stride is the bytes from row to row. In tiles of 128 bytes by 32 rows, each laid row by row, it is the tiles from one row of tiles to the next.
 -- Assumes nothing.
 use mathlib.Core.Path.{_≡_}
-use mathlib.Core.Bool.{Bool, true, cond, _&&_}
+use mathlib.Core.Bool.{Bool, true, false, cond, not, _&&_, _||_}
 use mathlib.Core.List.{List}
 use Prim.Native.Nat.{ℕ, zero, suc, _+_, _*_, _/_, _%_, _-_, _^_, _<_, _≤_}
 use lib.Dec.{eqb, ltb}
 use lib.ListN.{getD, set}
 use Rattle.surface.specs.declared.Surface.{Surface}
 
+-- a surface in rows
 abbrev pub surface : ℕ → ℕ → ℕ → Surface
-surface base stride bytes = record { base = base; stride = stride; bytes = bytes }
+surface base stride bytes = record { base = base; stride = stride; bytes = bytes; tiled = false }
 
--- the same base, step and format
+-- the same base, step, format and layout
+abbrev pub alike : Bool → Bool → Bool
+alike a b = (a && b) || (not a && not b)
+
 abbrev pub sameSurface : Surface → Surface → Bool
-sameSurface a b = eqb (a .base) (b .base) && (eqb (a .stride) (b .stride) && eqb (a .bytes) (b .bytes))
+sameSurface a b = eqb (a .base) (b .base) && (eqb (a .stride) (b .stride) && (eqb (a .bytes) (b .bytes) && alike (a .tiled) (b .tiled)))
 
 -- ---- the layout, which nothing else knows
 
 -- how many bytes a row has
 unfoldable pub rowBytes : Surface → ℕ
-rowBytes s = s .stride
+rowBytes s = cond (s .tiled) (128 * s .stride) (s .stride)
 
 -- the address of byte number `column` of row y
 unfoldable pub byteAt : Surface → ℕ → ℕ → ℕ
-byteAt s column y = s .base + y * s .stride + column
+byteAt s column y = cond (s .tiled)
+    (s .base + (y / 32 * s .stride + column / 128) * 4096 + (y % 32 * 128 + column % 128))
+    (s .base + y * s .stride + column)
 
 -- ---- a pixel's bytes
 
@@ -91,7 +98,7 @@ pub record Colour (s : Surface) : Type 0 where
 pub record Near (s : Surface) (column y : ℕ) : Type 0 where
   pub small : Small s
   pub across : column < 2 ^ 40
-  pub down : y < 2 ^ 40
+  pub down : y < 2 ^ 34
 
 -- byte k of a colour pixel, in a memory of len bytes
 pub record HasByte (s : Surface) (len x y k : ℕ) : Type 0 where

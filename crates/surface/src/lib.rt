@@ -1,20 +1,23 @@
 // A surface, and the bytes and bits of its pixels in memory.
 ghost use mathlib.Core.Path.{_≡_};
-ghost use Prim.Native.Nat.{_+_, _-_, _/_, _%_, _<_};
+ghost use Prim.Native.Nat.{_+_, _-_, _/_, _%_, _^_, _<_};
 ghost use lib.ListN.{length, getD, set};
-ghost use Rattle.surface.specs.Place.{sameSurface, byteAt, byteOf, readBytes, writeBytes, readPx, writePx, monoBit};
-ghost use Rattle.surface.specs.Place.{Colour, Near, Held, OnColour, OnMono};
+ghost use Rattle.surface.specs.Place.{sameSurface, rowBytes, byteAt, byteOf, readBytes, writeBytes, readPx, writePx, monoBit};
+ghost use Rattle.surface.specs.Place.{Small, Colour, Near, Held, OnColour, OnMono};
 
 pub struct Surface {
     pub base: u32,
     pub stride: u32,
     pub bytes: u32,
+    pub tiled: bool,
 }
 
 pub fn same_surface(a: Surface, b: Surface) -> bool
     ensures { λ r. ⌜ r ≡ sameSurface a b ⌝ }
 {
-    (a.base == b.base) & ((a.stride == b.stride) & (a.bytes == b.bytes))
+    (a.base == b.base)
+        & ((a.stride == b.stride)
+            & ((a.bytes == b.bytes) & ((a.tiled & b.tiled) | (!a.tiled & !b.tiled))))
 }
 
 pub fn wide(x: u32) -> usize
@@ -28,7 +31,24 @@ pub fn byte_at(s: Surface, column: usize, y: usize) -> usize
     requires { ⌜ Near s column y ⌝ }
     ensures { λ r. ⌜ r ≡ byteAt s column y ⌝ }
 {
-    wide(s.base) + y * wide(s.stride) + column
+    let base = wide(s.base);
+    let stride = wide(s.stride);
+    if s.tiled {
+        return base + (y / 32 * stride + column / 128) * 4096 + (y % 32 * 128 + column % 128);
+    }
+    base + y * stride + column
+}
+
+// How many bytes a row has.
+pub fn row_bytes(s: Surface) -> usize
+    requires { ⌜ Small s ⌝ }
+    ensures { λ r. ⌜ (r ≡ rowBytes s) × (r < 2 ^ 24) ⌝ }
+{
+    let stride = wide(s.stride);
+    if s.tiled {
+        return 128 * stride;
+    }
+    stride
 }
 
 // The address of byte k of pixel (x, y).
@@ -96,20 +116,56 @@ pub fn put_bytes(mem: &mut [u8], at: usize, n: u32, v: u32)
     put_byte(mem, at + 3, v2 / 256);
 }
 
+// A pixel of three bytes, wherever each of them lies.
+fn get_three(mem: &[u8], s: Surface, x: u32, y: u32) -> u32
+    requires { ⌜ OnColour s (length (now mem)) x y × (s .bytes ≡ 3) ⌝ }
+    ensures { λ r. ⌜ r ≡ readPx (now (mem .entry)) s x y ⌝ }
+{
+    let at0 = byte_of(s, x, y, 0);
+    let at1 = byte_of(s, x, y, 1);
+    let at2 = byte_of(s, x, y, 2);
+    let b0 = get_byte(mem, at0);
+    let b1 = get_byte(mem, at1);
+    let b2 = get_byte(mem, at2);
+    b0 + 256 * (b1 + 256 * b2)
+}
+
+fn put_three(mem: &mut [u8], s: Surface, x: u32, y: u32, v: u32)
+    requires { ⌜ OnColour s (length (now mem)) x y × (s .bytes ≡ 3) ⌝ }
+    ensures { λ _. ⌜ now (mem .exit) ≡ writePx (now (mem .entry)) s x y v ⌝ }
+{
+    let at0 = byte_of(s, x, y, 0);
+    let at1 = byte_of(s, x, y, 1);
+    let at2 = byte_of(s, x, y, 2);
+    put_byte(mem, at0, v);
+    let v1 = v / 256;
+    put_byte(mem, at1, v1);
+    put_byte(mem, at2, v1 / 256);
+}
+
 pub fn get_pixel(mem: &[u8], s: Surface, x: u32, y: u32) -> u32
     requires { ⌜ OnColour s (length (now mem)) x y ⌝ }
     ensures { λ r. ⌜ r ≡ readPx (now (mem .entry)) s x y ⌝ }
 {
+    let n = s.bytes;
+    if s.tiled & (n == 3) {
+        return get_three(mem, s, x, y);
+    }
     let at = byte_of(s, x, y, 0);
-    get_bytes(mem, at, s.bytes)
+    get_bytes(mem, at, n)
 }
 
 pub fn put_pixel(mem: &mut [u8], s: Surface, x: u32, y: u32, v: u32)
     requires { ⌜ OnColour s (length (now mem)) x y ⌝ }
     ensures { λ _. ⌜ now (mem .exit) ≡ writePx (now (mem .entry)) s x y v ⌝ }
 {
+    let n = s.bytes;
+    if s.tiled & (n == 3) {
+        put_three(mem, s, x, y, v);
+        return;
+    }
     let at = byte_of(s, x, y, 0);
-    put_bytes(mem, at, s.bytes, v);
+    put_bytes(mem, at, n, v);
 }
 
 // The byte that a mono pixel lies in.

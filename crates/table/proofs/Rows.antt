@@ -14,7 +14,7 @@ use Rattle.registers.specs.declared.Regs.{Regs}
 use Rattle.cuts.specs.declared.Cut.{Cut}
 use Rattle.command.specs.Decode.{target, origins, lineOf}
 use Rattle.cuts.specs.Cut.{clipOf, fillCut, copyCut, covered, needed}
-use Rattle.table.specs.Table.{targetFine, bothFine, allOnAt, pixels, hostFault, sourceRows, fillVerdict, copyVerdict, hostVerdict, lineVerdict}
+use Rattle.table.specs.Table.{targetFine, bothFine, hostFine, allOnAt, pixels, hostFault, sourceRows, fillVerdict, copyVerdict, hostVerdict, lineVerdict}
 
 -- rows 7 and 8
 module _ (t s : Surface) (len : ℕ) (c : Cut) (lenient : Bool) where
@@ -63,15 +63,15 @@ module _ (r : Regs) (len : ℕ) where
   copy-by f a b s m = rw (f, a, b, s, m)
 
   -- host blit
-  pub host-format : bothFine r ≡ false → 5 ≡ hostVerdict r len
+  pub host-format : hostFine r ≡ false → 5 ≡ hostVerdict r len
   unfolding hostVerdict
   host-format f = rw f
 
-  pub host-faulty : bothFine r ≡ true → hostFault r ≡ true → 6 ≡ hostVerdict r len
+  pub host-faulty : hostFine r ≡ true → hostFault r ≡ true → 6 ≡ hostVerdict r len
   unfolding hostVerdict
   host-faulty f h = rw (f, h)
 
-  pub host-by : {on : Bool} → bothFine r ≡ true → hostFault r ≡ false → allOn (target r) len (covered (fillCut r)) ≡ on → cond (not on) 7 0 ≡ hostVerdict r len
+  pub host-by : {on : Bool} → hostFine r ≡ true → hostFault r ≡ false → allOn (target r) len (covered (fillCut r)) ≡ on → cond (not on) 7 0 ≡ hostVerdict r len
   unfolding hostVerdict
   host-by f h a = rw (f, h, a)
 

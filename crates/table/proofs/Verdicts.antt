@@ -36,7 +36,7 @@ use Rattle.positions.specs.Position.{placed}
 use Rattle.cuts.specs.declared.Cut.{Cut}
 use Rattle.command.specs.Decode.{target, origins, inkOf, plainBlit, plainOf, fillTask, copyTask, lineOf, feedOf}
 use Rattle.cuts.specs.Cut.{bit, width, height, clipOf, firstOf, cutAt, fillCut, copyCut, covered, needed, CutRange}
-use Rattle.table.specs.Table.{targetFine, bothFine, allOnAt, pixels, hostFault, fillVerdict, copyVerdict, hostVerdict, lineVerdict, InRows}
+use Rattle.table.specs.Table.{targetFine, bothFine, hostFine, allOnAt, pixels, hostFault, fillVerdict, copyVerdict, hostVerdict, lineVerdict, InRows}
 use Rattle.cuts.proofs.CutLaws.{clip-bits, Bounded, cut-bounded}
 use Rattle.table.proofs.Sources.{needed-first, needed-as-pixels, needed-pixels, no-clash}
 
@@ -224,7 +224,7 @@ line-can r len e =
 
 -- ---- host blits
 pub record HostPassed (r : Regs) (len : ℕ) : Type 0 where
-  pub fine : bothFine r ≡ true
+  pub fine : hostFine r ≡ true
   pub fault : hostFault r ≡ false
   pub on : allOn (target r) len (covered (fillCut r)) ≡ true
 
@@ -232,7 +232,7 @@ pub host-passed : (r : Regs) (len : ℕ) → hostVerdict r len ≡ 0 → HostPas
 unfolding hostVerdict
 host-passed r len e =
     let A = allOn (target r) len (covered (fillCut r)) in
-    let p = passed (bothFine r) 5 (cond (hostFault r) 6 (cond (not A) 7 0)) (omega arith) e in
+    let p = passed (hostFine r) 5 (cond (hostFault r) 6 (cond (not A) 7 0)) (omega arith) e in
     let q = spared (hostFault r) 6 (cond (not A) 7 0) (omega arith) (p .1) in
     record { fine = p .0; fault = q .0; on = passed A 7 0 (omega arith) (q .1) .0 }
 
@@ -294,7 +294,7 @@ pub host-can : (r : Regs) (len : ℕ) → hostVerdict r len ≡ 0 → 0 < wordsO
 unfolding inkOf feedOf fillCut
 host-can r len e words =
     let p = host-passed r len e in
-    let colour = target-colour (r .dstBaseAddr) (r .dstFormat) (target-named r (p .fine)) in
+    let colour = target-colour (r .dstBaseAddr) (r .dstFormat) (and-left (targetFine r) _ (p .fine)) in
     record {
       colour = colour;
       bits12 = clip-bits r;

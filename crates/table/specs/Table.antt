@@ -9,7 +9,7 @@ use Rattle.surface.specs.declared.Surface.{Surface}
 use Rattle.surface.specs.Place.{sameSurface, onSurface, rowPixels, Small}
 use Rattle.surface.specs.Pixels.{Px}
 use Rattle.spans.specs.Span.{allOn, spanOf, meet}
-use Rattle.formats.specs.Format.{targetNamed, sourceNamed}
+use Rattle.formats.specs.Format.{targetNamed, sourceNamed, hostNamed}
 use Rattle.formats.specs.Step.{packingOf, rowLength}
 use Rattle.paint.specs.Clip.{origin, pixelAt}
 use Rattle.line.specs.Line.{points}
@@ -24,12 +24,19 @@ use Rattle.scale.specs.Stretch.{takenAt}
 use Rattle.command.specs.Decode.{target, origins, stretchOrigins, stretchOf, lineOf}
 use Rattle.cuts.specs.Cut.{low13, high13, width, height, clipOf, fillCut, copyCut, covered, needed}
 
--- ---- row 5: a surface is tiled or has a format not listed, or the conversion is not allowed
+-- ---- row 5: a surface has a format not listed, a mono, packed or host-blit source is tiled, or the conversion is not allowed
 abbrev pub targetFine : Regs → Bool
-targetFine r = targetNamed (r .dstBaseAddr) (r .dstFormat)
+targetFine r = targetNamed (r .dstFormat)
+
+-- with a source that is named or not
+abbrev pub fineWith : Bool → Regs → Bool
+fineWith named r = targetFine r && (named && allowed (origins r .bytes) (target r .bytes))
 
 abbrev pub bothFine : Regs → Bool
-bothFine r = targetFine r && (sourceNamed (r .srcBaseAddr) (r .srcFormat) && allowed (origins r .bytes) (target r .bytes))
+bothFine r = fineWith (sourceNamed (r .srcBaseAddr) (r .srcFormat)) r
+
+abbrev pub hostFine : Regs → Bool
+hostFine r = fineWith (hostNamed (r .srcBaseAddr) (r .srcFormat)) r
 
 -- ---- row 7: a source position, counted from 16384, is on its surface
 abbrev pub onAt : Surface → ℕ → Px → Bool
@@ -80,7 +87,7 @@ hostFault r =
 
 unfoldable pub hostVerdict : Regs → ℕ → ℕ
 hostVerdict r len =
-    cond (not (bothFine r)) 5 (cond (hostFault r) 6 (cond (not (allOn (target r) len (covered (fillCut r)))) 7 0))
+    cond (not (hostFine r)) 5 (cond (hostFault r) 6 (cond (not (allOn (target r) len (covered (fillCut r)))) 7 0))
 
 unfoldable pub lineVerdict : Regs → ℕ → ℕ
 lineVerdict r len = cond (not (targetFine r)) 5 (cond (lineOff (target r) len (clipOf r) (points (lineOf r))) 7 0)

@@ -9,16 +9,27 @@ ghost use Prim.Native.Nat.{_-_, _<_};
 ghost use Rattle.surface.specs.Place.{Small};
 ghost use Rattle.spans.specs.Span.{spanOf, meet};
 ghost use Rattle.cuts.specs.Cut.{covered, needed};
-ghost use Rattle.table.specs.Table.{bothFine, allOnAt, pixels, reachOf, takenCut, sourceRows, stretchRows, stretchFault, hostFault, InRows, Reaches, OnScales, fillVerdict, copyVerdict, stretchVerdict, hostVerdict, lineVerdict};
+ghost use Rattle.table.specs.Table.{fineWith, bothFine, hostFine, allOnAt, pixels, reachOf, takenCut, sourceRows, stretchRows, stretchFault, hostFault, InRows, Reaches, OnScales, fillVerdict, copyVerdict, stretchVerdict, hostVerdict, lineVerdict};
+
+fn fine_with(named: bool, r: Regs) -> bool
+    ensures { λ b. ⌜ b ≡ fineWith named r ⌝ }
+{
+    let s = command::source_surface(r);
+    let t = command::target_surface(r);
+    formats::names_target(r.dstFormat) & (named & colour::may_convert(s.bytes, t.bytes))
+}
 
 fn both_fine(r: Regs) -> bool
     ensures { λ b. ⌜ b ≡ bothFine r ⌝ }
 {
-    let s = command::source_surface(r);
-    let t = command::target_surface(r);
-    formats::names_target(r.dstBaseAddr, r.dstFormat)
-        & (formats::names_source(r.srcBaseAddr, r.srcFormat)
-            & colour::may_convert(s.bytes, t.bytes))
+    fine_with(formats::names_source(r.srcBaseAddr, r.srcFormat), r)
+}
+
+// The same for a host blit.
+fn host_fine(r: Regs) -> bool
+    ensures { λ b. ⌜ b ≡ hostFine r ⌝ }
+{
+    fine_with(formats::names_host(r.srcBaseAddr, r.srcFormat), r)
 }
 
 // Whether every source pixel that a copy needs is on its surface: the first is not negative, and the last is there.
@@ -75,7 +86,7 @@ fn source_rows(len: usize, t: Surface, s: Surface, c: Cut, b: Cut, lenient: bool
 pub fn fill_verdict(len: usize, r: Regs) -> u32
     ensures { λ n. ⌜ n ≡ fillVerdict r len ⌝ }
 {
-    if !formats::names_target(r.dstBaseAddr, r.dstFormat) {
+    if !formats::names_target(r.dstFormat) {
         return 5;
     }
     let t = command::target_surface(r);
@@ -189,7 +200,7 @@ fn host_fault(r: Regs) -> bool
 pub fn host_verdict(len: usize, r: Regs) -> u32
     ensures { λ n. ⌜ n ≡ hostVerdict r len ⌝ }
 {
-    if !both_fine(r) {
+    if !host_fine(r) {
         return 5;
     }
     if host_fault(r) {
@@ -206,7 +217,7 @@ pub fn host_verdict(len: usize, r: Regs) -> u32
 pub fn line_verdict(len: usize, r: Regs) -> u32
     ensures { λ n. ⌜ n ≡ lineVerdict r len ⌝ }
 {
-    if !formats::names_target(r.dstBaseAddr, r.dstFormat) {
+    if !formats::names_target(r.dstFormat) {
         return 5;
     }
     let t = command::target_surface(r);

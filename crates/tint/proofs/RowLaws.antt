@@ -12,7 +12,7 @@ use Rattle.surface.specs.declared.Surface.{Surface}
 use Rattle.surface.specs.Place.{byteOf, readBytes, writeBytes, readPx, writePx, OnColour}
 use Rattle.surface.specs.Pixels.{Px, px, across}
 use Rattle.surface.proofs.Bytes.{read-fits}
-use Rattle.surface.proofs.Run.{run-pixel, read-run, write-run}
+use Rattle.surface.proofs.Run.{in-rows, run-pixel, read-run, write-run}
 use Rattle.surface.proofs.Rects.{in-across}
 use Rattle.surface.proofs.OnLaws.{colour-byte}
 use Rattle.paint.specs.Paint.{State, state, Touch, touch, dab, paint}
@@ -75,7 +75,7 @@ pub total-none : (adds : List ℕ) (k w i r : ℕ) → w ≤ i → r + total add
 unfolding total
 total-none adds k w i r h = let q : w - i ≡ 0 = omega arith in rw q (omega arith)
 
-module _ (s : Surface) (keep flip adds : List ℕ) (first x y : ℕ) (colour : 0 < s .bytes) (few : s .bytes < 5) (bk : Bytes keep) (bf : Bytes flip)
+module _ (s : Surface) (keep flip adds : List ℕ) (first x y : ℕ) (flat : s .tiled ≡ false) (colour : 0 < s .bytes) (few : s .bytes < 5) (bk : Bytes keep) (bf : Bytes flip)
     (sound : (i : ℕ) → i < 8 → Sound (s .bytes) (maskIn (s .bytes) keep (first + i)) (maskIn (s .bytes) flip (first + i)) (getD adds (first + i) 0)) where
   -- w pixels from number c on
   pixels : (c w r : ℕ) (m : List ℕ) → c + w ≤ 8 → Bytes m
@@ -91,13 +91,13 @@ module _ (s : Surface) (keep flip adds : List ℕ) (first x y : ℕ) (colour : 0
       let value = masked (readPx m s (x + c) y) (maskIn n keep k) (maskIn n flip k) in
       let wrote : blended keep flip (k * n) at n m ≡ writePx m s (x + c) y value =
       pixel-blended keep flip (k * n) at n m bk bf b
-      ∙ ap (λ (d : ℕ). writeBytes (λ j. at + j) 0 n (masked d (maskIn n keep k) (maskIn n flip k)) m) (read-run s (x + c) y at refl m)
-      ∙ write-run s (x + c) y at refl value m in
+      ∙ ap (λ (d : ℕ). writeBytes (λ j. at + j) 0 n (masked d (maskIn n keep k) (maskIn n flip k)) m) (read-run s (in-rows flat) (x + c) y at refl m)
+      ∙ write-run s (in-rows flat) (x + c) y at refl value m in
       let did = step s (x + c) y (maskIn n keep k) (maskIn n flip k) (getD adds k 0) r m few b (sound c (omega arith)) ∙ ap (λ (l : List ℕ). state l (r + getD adds k 0)) (sym wrote) in
       let next : x + c + 1 ≡ x + (c + 1) = omega arith in
       let more : first + c + 1 ≡ first + (c + 1) = omega arith in
       let table : (first + (c + 1)) * n ≡ k * n + n = ap (λ (u : ℕ). u * n) (sym more) ∙ add-mul k 1 n ∙ ap (λ (u : ℕ). k * n + u) (one-mul n) in
-      let place : byteOf s (x + (c + 1)) y 0 ≡ at + n = ap (λ (u : ℕ). byteOf s u y 0) (sym next) ∙ sym (run-pixel s (x + c) y at refl 1) ∙ ap (λ (u : ℕ). at + u) (one-mul n) in
+      let place : byteOf s (x + (c + 1)) y 0 ≡ at + n = ap (λ (u : ℕ). byteOf s u y 0) (sym next) ∙ sym (run-pixel s flat (x + c) y at refl 1) ∙ ap (λ (u : ℕ). at + u) (one-mul n) in
       let bytes : suc w * n ≡ n + w * n = suc-mul w n ∙ add-comm (w * n) n in
       rw (phase, did, next, more, bytes, blended-append keep flip (k * n) at n (w * n) m, ← table, ← place)
       (pixels (c + 1) w (r + getD adds k 0) (blended keep flip (k * n) at n m) (omega arith) (subst Bytes (sym wrote) (write-bytes s (x + c) y value m b))
@@ -146,12 +146,13 @@ pub row-held : {s : Surface} {keep flip adds : List ℕ} {first len x w y n : �
 row-held {s} {len = len} {x = x} {w = w} {y = y} can i h =
     let colour = can .colour .some in
     let there : (c : ℕ) → c < w → OnColour s len (x + c) y = (λ c l. can .on .on (x + c) (omega arith) (omega arith)) in
-    subst (λ (a : ℕ). a < len) (sym (run-place s colour x y i)) (colour-byte (there (i / s .bytes) (run-column s colour x y w i h)) (i % s .bytes) (mod-lt i colour) .inside)
+    subst (λ (a : ℕ). a < len) (sym (run-place s colour x y (can .flat) i)) (colour-byte (there (i / s .bytes) (run-column s colour x y w i h)) (i % s .bytes) (mod-lt i colour) .inside)
 
 -- a part of one can be tinted too
 pub can-part : {s : Surface} {keep flip adds : List ℕ} {first len x w y n : ℕ} → CanTint s keep flip adds first len x w y n → (i m r : ℕ) → i + m ≤ w → r ≤ n + i
     → CanTint s keep flip adds first len (x + i) m y r
 can-part can i m r h l = record {
+  flat = can .flat;
   colour = can .colour;
   on = record { wide = omega (arith, can .on .wide); room = omega (arith, can .on .room); on = λ j low high. can .on .on j (omega arith) (omega arith) };
   eight = can .eight;

@@ -92,6 +92,7 @@ pub record Sound (n keep flip adds : ℕ) : Type 0 where
 
 -- w pixels of row y from x on can be tinted, after n that were written
 pub record CanTint (s : Surface) (keep flip adds : List ℕ) (first len x w y n : ℕ) : Type 0 where
+  pub flat : s .tiled ≡ false
   pub colour : Colour s
   pub on : RowOn s len x w y n
   pub eight : first ≤ 56

@@ -201,7 +201,7 @@ fn tint_row(
     }
 }
 
-// A fill without a target key, row by row from the upper left corner; the count of pixels written.
+// A fill without a target key, its surface in rows, row by row from the upper left corner; the count of pixels written.
 pub fn tint_rows(
     mem: &mut [u8],
     ink: Ink,
@@ -211,7 +211,7 @@ pub fn tint_rows(
     w: u32,
     h: u32,
 ) -> u32
-    requires { ⌜ RectOn (ink .target) (length (now mem)) x y w h × (ink .dstKey ≡ false) ⌝ }
+    requires { ⌜ RectOn (ink .target) (length (now mem)) x y w h × ((ink .target .tiled ≡ false) × (ink .dstKey ≡ false)) ⌝ }
     ensures { λ r. ⌜ state (now (mem .exit)) r ≡ paint (ink .target) (fillings ink pattern (rect false false x y w h)) (state (now (mem .entry)) 0) ⌝ }
 {
     let m = masks_at(ink, &pattern, x, y, mask_rows(h));

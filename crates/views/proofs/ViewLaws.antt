@@ -13,12 +13,12 @@ use Rattle.surface.specs.declared.Surface.{Surface}
 use Rattle.surface.specs.Place.{byteAt, byteOf, OnColour}
 use Rattle.surface.specs.Pixels.{across, rect}
 use Rattle.spans.specs.Span.{allOn}
-use Rattle.formats.specs.Format.{targetNamed, targetOf}
+use Rattle.formats.specs.Format.{viewNamed, targetOf}
 use Rattle.views.specs.View.{viewAnswer, viewed}
 use Rattle.surface.proofs.Rows.{byteAt-run}
 use Rattle.surface.proofs.OnLaws.{colour-first, colour-count, on-last, lastByte, pos-of-ne}
 use Rattle.spans.proofs.Corner.{across-corner}
-use Rattle.formats.proofs.FormatLaws.{target-colour}
+use Rattle.formats.proofs.FormatLaws.{target-colour, view-target, view-flat}
 
 -- a rectangle of one row is the row
 one-row : (l t : Bool) (x y w : ℕ) → rect l t x y w 1 ≡ across l x w y
@@ -32,17 +32,17 @@ row-on s len x y w = ap (allOn s len) (one-row false false x y w)
 -- what lies between the tests and the answer 0
 pub record Given (len base format x y width : ℕ) : Type 0 where
   pub fits : len ≤ 2 ^ 24
-  pub named : targetNamed base format ≡ true
+  pub named : viewNamed base format ≡ true
   pub some : 0 < width
   pub last : OnColour (targetOf base format) len (x + (width - 1)) y
 
 -- answer 0 says all of it, and all of it gives answer 0
 pub given-zero : (len base format x y width : ℕ) → viewAnswer len base format x y width ≡ 0 → Given len base format x y width
 unfolding viewAnswer
-given-zero len base format x y width = by-limit (ltb (2 ^ 24) len) refl (targetNamed base format) refl (eqb width 0) refl
+given-zero len base format x y width = by-limit (ltb (2 ^ 24) len) refl (viewNamed base format) refl (eqb width 0) refl
     (allOn (targetOf base format) len (across false x width y)) refl
   where
-    by-limit : (t : Bool) → ltb (2 ^ 24) len ≡ t → (n : Bool) → targetNamed base format ≡ n → (z : Bool) → eqb width 0 ≡ z
+    by-limit : (t : Bool) → ltb (2 ^ 24) len ≡ t → (n : Bool) → viewNamed base format ≡ n → (z : Bool) → eqb width 0 ≡ z
         → (o : Bool) → allOn (targetOf base format) len (across false x width y) ≡ o
         → _≡_ {A = ℕ} (cond t 1 (cond (not n) 5 (cond (z || not o) 7 0))) 0 → Given len base format x y width
     by-limit true e n f z g o h k = absurd (omega arith)
@@ -55,7 +55,7 @@ given-zero len base format x y width = by-limit (ltb (2 ^ 24) len) refl (targetN
           fits = ltb-false (2 ^ 24) len e;
           named = f;
           some = some;
-          last = record { colour = target-colour base format f; on = sym (across-corner false (targetOf base format) len x width y some) ∙ h };
+          last = record { colour = target-colour base format (view-target base format f); on = sym (across-corner false (targetOf base format) len x width y some) ∙ h };
         }
 
 -- the given bytes are in memory
@@ -72,7 +72,7 @@ view-fits {len} {base} {format} {x} {y} {width} g =
     let at : lastByte s (x + (width - 1)) ≡ (x * b + 0) + (width * b - 1) =
     omega (arith, colour-first s (x + (width - 1)) some, colour-count s x some, add-mul x (width - 1) b) in
     let last = subst (λ (n : ℕ). byteAt s n y < len) at (on-last s len (x + (width - 1)) y (g .last .on)) in
-    omega (arith, byteAt-run s (x * b + 0) (width * b - 1) y, mul-pos w some)
+    omega (arith, byteAt-run s (view-flat base format (g .named)) (x * b + 0) (width * b - 1) y, mul-pos w some)
 
 -- ---- what is handed back
 pub view-given : (m : List ℕ) (base format x y width : ℕ) → viewAnswer (length m) base format x y width ≡ 0

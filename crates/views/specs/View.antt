@@ -8,13 +8,13 @@ use lib.ListN.{length, take, drop}
 use Rattle.surface.specs.Place.{byteOf}
 use Rattle.surface.specs.Pixels.{across}
 use Rattle.spans.specs.Span.{allOn}
-use Rattle.formats.specs.Format.{targetNamed, targetOf}
+use Rattle.formats.specs.Format.{viewNamed, targetOf}
 
--- memory over the limit is a 1, words that name no target surface are a 5, a width of 0 or a pixel off the surface is a 7
+-- memory over the limit is a 1, words that name no target surface in rows are a 5, a width of 0 or a pixel off the surface is a 7
 unfoldable pub viewAnswer : ℕ → ℕ → ℕ → ℕ → ℕ → ℕ → ℕ
 viewAnswer len base format x y width =
     cond (ltb (2 ^ 24) len) 1
-    (cond (not (targetNamed base format)) 5
+    (cond (not (viewNamed base format)) 5
     (cond (eqb width 0 || not (allOn (targetOf base format) len (across false x width y))) 7
     0))
 

@@ -10,7 +10,7 @@ pub fn view_answer(len: usize, base: u32, format: u32, x: u32, y: u32, width: u3
     if 0x100_0000 < len {
         return 1;
     }
-    if !formats::names_target(base, format) {
+    if !formats::names_view(base, format) {
         return 5;
     }
     if width == 0 {

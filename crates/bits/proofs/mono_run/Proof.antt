@@ -67,7 +67,7 @@ put-run-requires c κs =
     let u = c .before .before .before .before .before .before .before .loop-test .taken in
     rw (k .inv .1) (
       (
-        row .colour,
+        (row .colour, row .flat),
         record {
           wide = omega (arith, m, u, row .target .wide);
           room = omega (arith, m, u, row .target .room);

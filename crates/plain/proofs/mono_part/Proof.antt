@@ -2,10 +2,12 @@
 -- Assumes nothing.
 use borrow.Author.Needs.{needs}
 use native.Mathlib.Omega.{arith}
+use borrow.Author.Tests.{not-true}
 use mathlib.Core.Path.{_≡_, sym, ap, _∙_}
 use mathlib.Core.Bool.{true}
 use mathlib.Core.List.{[]}
 use Prim.Native.Nat.{ℕ, _+_, _-_, _/_, _<_, _≤_}
+use Rattle.surface.proofs.OnLaws.{and-left, and-right}
 use Rattle.paint.specs.Clip.{inClip}
 use Rattle.paint.specs.Paint.{state}
 use Rattle.paint.proofs.ClipLaws.{in-clip}
@@ -35,11 +37,11 @@ covers-requires-2 : tie.Need-covers-requires-2
 covers-requires-2 c κs = search needs
 
 -- the byte of the word that holds the pixels
-held : (c : tie.Then2) → let a = c .before .before .before .before .before .before .before .args in (a .column ≤ a .i / 8) × (a .t + a .i / 8 - a .column < 4)
+held : (c : tie.Then2) → let a = c .before .before .before .before .before .before .before .before .args in (a .column ≤ a .i / 8) × (a .t + a .i / 8 - a .column < 4)
 held c =
-    let a = c .before .before .before .before .before .before .before .args in
-    let w = c .before .before .before .before .before .before .before .pre .1 .0 in
-    let k = mono-column (a .feed) (a .i) (c .before .before .before .before .before .before .before .pre .1 .1 .0) in
+    let a = c .before .before .before .before .before .before .before .before .args in
+    let w = c .before .before .before .before .before .before .before .before .pre .1 .0 in
+    let k = mono-column (a .feed) (a .i) (c .before .before .before .before .before .before .before .before .pre .1 .1 .0) in
     (omega (arith, k, w .low (a .i) (omega arith) (omega arith)), omega (arith, k, w .high (a .i) (omega arith) (omega arith)))
 
 add-b : tie.Need-add-b
@@ -54,11 +56,11 @@ mul-byte c = omega (arith, held c)
 shr-byte : tie.Need-shr-byte
 shr-byte c = omega (arith, held c)
 
-first-in : (c : tie.Then2) → let a = c .before .before .before .before .before .before .before .args in inClip (a .c) (a .feed .x + a .i) (a .feed .y + a .j) ≡ true
-first-in c = sym (c .before .before .before .covers .ensures) ∙ c .before .before .if1 .taken
+first-in : (c : tie.Then2) → let a = c .before .before .before .before .before .before .before .before .args in inClip (a .c) (a .feed .x + a .i) (a .feed .y + a .j) ≡ true
+first-in c = sym (c .before .before .before .before .covers .ensures) ∙ c .before .before .before .if1 .taken
 
-last-in : (c : tie.Then2) → let a = c .before .before .before .before .before .before .before .args in inClip (a .c) (a .feed .x + a .i + (a .m - 1)) (a .feed .y + a .j) ≡ true
-last-in c = sym (c .before .covers2 .ensures) ∙ c .if2 .taken
+last-in : (c : tie.Then2) → let a = c .before .before .before .before .before .before .before .before .args in inClip (a .c) (a .feed .x + a .i + (a .m - 1)) (a .feed .y + a .j) ≡ true
+last-in c = sym (c .before .before .covers2 .ensures) ∙ and-left (c .before .before .covers2 .result) _ (c .if2 .taken)
 
 sub-put-bits : tie.Need-sub-put-bits
 sub-put-bits c = omega (arith, in-clip _ _ _ (first-in (c .before)))
@@ -69,12 +71,12 @@ sub-put-bits-2 c = omega (arith, in-clip _ _ _ (first-in (c .before)))
 put-bits-requires : tie.Need-put-bits-requires
 unfolding plainInk
 put-bits-requires c κs =
-    let a = c .before .before .before .before .before .before .before .before .args in
-    let p = c .before .before .before .before .before .before .before .before .pre in
+    let a = c .before .before .before .before .before .before .before .before .before .args in
+    let p = c .before .before .before .before .before .before .before .before .before .pre in
     let k = in-clip _ _ _ (first-in (c .before)) in
     let w = p .1 .0 in (
       (
-        p .0 .colour,
+        (p .0 .colour, not-true (a .p .target .tiled) (and-right (c .before .before .before .covers2 .result) _ (c .before .if2 .taken))),
         record {
           wide = omega (arith, in-clip _ _ _ (last-in (c .before)), p .0 .bits12);
           room = omega (arith, w .room);
@@ -94,13 +96,13 @@ same-length c = search needs
 returns : tie.Need-returns
 returns c =
     let t = c .before .before .before .before in
-    let a = c .before .before .before .before .before .before .before .before .before .before .before .args in
-    let p = c .before .before .before .before .before .before .before .before .before .before .before .pre in
+    let a = c .before .before .before .before .before .before .before .before .before .before .before .before .args in
+    let p = c .before .before .before .before .before .before .before .before .before .before .before .before .pre in
     let w = p .1 .0 in
     let mono = p .1 .1 .0 in
     let fits = p .1 .1 .1 .1 in (
       c .before .before .put-bits .ensures .0
-          ∙ byte-drawn (a .p) (a .c) (a .feed) (a .last) (a .word) (a .t + a .i / 8 - a .column) (a .j) (a .i) mono (omega arith) (omega (arith, c .before .before .before .before .before .before .before .before .before .before .before .good)) (omega (arith, c .before .before .before .before .before .before .before .before .before .before .before .good)) (held t .1)
+          ∙ byte-drawn (a .p) (a .c) (a .feed) (a .last) (a .word) (a .t + a .i / 8 - a .column) (a .j) (a .i) mono (omega arith) (omega (arith, c .before .before .before .before .before .before .before .before .before .before .before .before .good)) (omega (arith, c .before .before .before .before .before .before .before .before .before .before .before .before .good)) (held t .1)
           (omega (arith, in-clip _ _ _ (first-in t))) (a .m) (state (a .mem .now) (a .n))
           (λ q h. between (a .c) (a .feed .x + a .i) (a .feed .y + a .j) (a .m) q (first-in t) (last-in t) h)
           (λ q h. omega (arith, mono-column (a .feed) (a .i + q) mono, w .byte (a .i + q) (omega arith) (omega arith), fits)) fits,

@@ -26,24 +26,24 @@ unfolding rect paint
 returns c = let z : c .before .before .args .h ≡ 0 = c .if1 .taken in rw z refl
 
 byte-of-requires : tie.Need-byte-of-requires Inv-loop μ-loop
-byte-of-requires c κs = let p = c .before .before .pre .colour in (p, p .some)
+byte-of-requires c κs = let p = c .before .before .pre .1 .colour in (p, p .some)
 
 mul-n : tie.Need-mul-n Inv-loop μ-loop
 mul-n c =
     let a = c .before .before .before .before .args in
-    let p = c .before .before .before .before .pre in
+    let p = c .before .before .before .before .pre .1 in
     omega (arith, product-lt 14 3 {a = a .w} {b = a .s .bytes} (omega (arith, p .wide)) (omega (arith, p .colour .small .bytes)))
 
 cast-n : tie.Need-cast-n Inv-loop μ-loop
 cast-n c =
     let a = c .before .before .before .before .args in
-    let p = c .before .before .before .before .pre in
+    let p = c .before .before .before .before .pre .1 in
     omega (arith, product-lt 14 3 {a = a .w} {b = a .s .bytes} (omega (arith, p .wide)) (omega (arith, p .colour .small .bytes)))
 
 solid-row-requires : tie.Need-solid-row-requires Inv-loop μ-loop
 solid-row-requires c κs =
     let a = c .before .before .before .before .before .args in
-    let p = c .before .before .before .before .before .pre in
+    let p = c .before .before .before .before .before .pre .1 in
     record {
       wide = p .wide;
       room = omega (arith, p .wide);
@@ -53,7 +53,7 @@ solid-row-requires c κs =
 loop-holds : tie.Need-loop-holds Inv-loop μ-loop
 loop-holds c =
     let a = c .before .before .before .before .before .before .before .before .args in
-    let p = c .before .before .before .before .before .before .before .before .pre in
+    let p = c .before .before .before .before .before .before .before .before .pre .1 in
     let some : 0 < a .h = omega (arith, c .before .before .before .before .before .before .if1 .left) in
     let first = c .before .before .solid-row .ensures .0 in (
       row-itself (a .s) (a .v) (a .x0) (a .y0) (a .w) (a .h) (a .mem .now) p some _ _ first,
@@ -63,22 +63,23 @@ loop-holds c =
     )
 
 add-byte-of : tie.Need-add-byte-of Inv-loop μ-loop
-add-byte-of c = omega (arith, c .before .before .before .before .before .before .before .before .before .before .pre .high, c .loop-test .taken)
+add-byte-of c = omega (arith, c .before .before .before .before .before .before .before .before .before .before .pre .1 .high, c .loop-test .taken)
 
 byte-of-requires-2 : tie.Need-byte-of-requires-2 Inv-loop μ-loop
-byte-of-requires-2 c κs = let p = c .before .before .before .before .before .before .before .before .before .before .pre .colour in (p, p .some)
+byte-of-requires-2 c κs = let p = c .before .before .before .before .before .before .before .before .before .before .pre .1 .colour in (p, p .some)
 
 run-up-requires : tie.Need-run-up-requires Inv-loop μ-loop
 run-up-requires c κs =
-    let p = c .before .before .before .before .before .before .before .before .before .before .before .before .pre in
+    let p = c .before .before .before .before .before .before .before .before .before .before .before .before .pre .1 in
+    let flat = c .before .before .before .before .before .before .before .before .before .before .before .before .pre .0 in
     let k = c .before .before .before .loop in
     let taken = c .before .before .loop-test .taken in
-    rw (c .before .byte-of2 .ensures, c .before .before .before .before .before .before .before .before .before .byte-of .ensures, k .inv .0 .long, c .before .before .before .before .before .before .solid-row .kept .0) (row-run p (k .j) taken, row-free p (k .j) (k .inv .1) taken)
+    rw (c .before .byte-of2 .ensures, c .before .before .before .before .before .before .before .before .before .byte-of .ensures, k .inv .0 .long, c .before .before .before .before .before .before .solid-row .kept .0) (row-run flat p (k .j) taken, row-free flat p (k .j) (k .inv .1) taken)
 
 add-count : tie.Need-add-count Inv-loop μ-loop
 add-count c =
     let a = c .before .before .before .before .before .before .before .before .before .before .before .before .before .before .before .args in
-    let p = c .before .before .before .before .before .before .before .before .before .before .before .before .before .before .before .pre in
+    let p = c .before .before .before .before .before .before .before .before .before .before .before .before .before .before .before .pre .1 in
     let k = c .before .before .before .before .before .before .loop in
     omega (arith, p .wide, k .inv .3, product-lt 14 14 {a = k .j} {b = a .w} (omega (arith, p .high, k .inv .2)) (omega (arith, p .wide)))
 
@@ -91,11 +92,12 @@ loop-less c = search needs
 loop-again : tie.Need-loop-again Inv-loop μ-loop
 loop-again c =
     let a = c .before .before .before .before .before .before .before .before .before .before .before .before .before .before .before .args in
-    let p = c .before .before .before .before .before .before .before .before .before .before .before .before .before .before .before .pre in
+    let p = c .before .before .before .before .before .before .before .before .before .before .before .before .before .before .before .pre .1 in
+    let flat = c .before .before .before .before .before .before .before .before .before .before .before .before .before .before .before .pre .0 in
     let k = c .before .before .before .before .before .before .loop in
     let taken = c .before .before .before .before .before .loop-test .taken in
     let run = rw (c .before .before .before .before .byte-of2 .ensures, c .before .before .before .before .before .before .before .before .before .before .before .before .byte-of .ensures) at (c .before .before .run-up .ensures) in (
-      one-row-more p (a .v) (k .j) _ (k .mem) _ (k .inv .1) taken (k .inv .0) run,
+      one-row-more flat p (a .v) (k .j) _ (k .mem) _ (k .inv .1) taken (k .inv .0) run,
       omega arith,
       omega arith,
       omega (arith, k .inv .3, add-mul (k .j) 1 (a .w)),
@@ -107,7 +109,7 @@ same-length c = c .before .loop .inv .0 .long ∙ c .before .before .before .bef
 returns-2 : tie.Need-returns-2 Inv-loop μ-loop
 returns-2 c =
     let a = c .before .before .before .before .before .before .before .before .before .before .args in
-    let p = c .before .before .before .before .before .before .before .before .before .before .pre in
+    let p = c .before .before .before .before .before .before .before .before .before .before .pre .1 in
     let k = c .before .loop in
     let some : 0 < a .h = omega (arith, c .before .before .before .before .before .before .before .before .if1 .left) in
     let end : k .j ≡ a .h = omega (arith, c .loop-test .left) in

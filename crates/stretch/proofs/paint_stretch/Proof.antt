@@ -10,6 +10,7 @@ use Rattle.surface.proofs.OnLaws.{pos-of-ne}
 use Rattle.rect.specs.Fast.{straight}
 use Rattle.rect.proofs.Straight.{coloured}
 use Rattle.stretch.specs.Row.{openTask, Begins}
+use Rattle.stretch.proofs.Straight.{straight-only}
 use Rattle.stretch.proofs.Order.{nothing-left, in-turn, straight-turn}
 use Rattle.stretch.proofs.paint_stretch.Statement.{statement}
 use Rattle.stretch.proofs.paint_stretch.Tie as tie
@@ -44,29 +45,30 @@ is-straight-requires c κs = search needs
 
 straight-rows-requires : tie.Need-straight-rows-requires
 straight-rows-requires c κs =
-    let is : straight (openTask (c .before .before .before .before .before .before .before .before .before .args .t)) ≡ true = sym (ap straight (c .before .before .before .task-of .ensures)) ∙ sym (c .before .before .is-straight .ensures) ∙ (c .before .if3 .taken) in
-    let begins : Begins (c .before .before .before .before .before .before .before .before .before .args .t) _ _ (c .before .before .before .before .before .before .before .before .before .args .x) (c .before .before .before .before .before .before .before .before .before .args .y) (c .before .before .before .before .before .before .before .before .before .args .w) (c .before .before .before .before .before .before .before .before .before .args .h) (length (c .before .before .before .before .before .before .before .before .before .args .mem .now)) = record { can = (c .before .before .before .before .before .before .before .before .before .pre); wide = omega (arith, (c .before .before .before .before .before .before .before .if1 .left)); high = omega (arith, (c .before .before .before .before .before .before .if2 .left)); columnsAt = (c .before .before .before .before .before .start .ensures); rowsAt = (c .before .before .before .before .start2 .ensures) } in
-    (begins, pos-of-ne (coloured (openTask (c .before .before .before .before .before .before .before .before .before .args .t)) is))
+    let both = straight-only (c .before .before .before .before .before .before .before .before .before .before .before .args .t) _ (c .before .if3 .taken) in
+    let is : straight (openTask (c .before .before .before .before .before .before .before .before .before .before .before .args .t)) ≡ true = sym (ap straight (c .before .before .before .task-of .ensures)) ∙ sym (c .before .before .is-straight .ensures) ∙ both .1 in
+    let begins : Begins (c .before .before .before .before .before .before .before .before .before .before .before .args .t) _ _ (c .before .before .before .before .before .before .before .before .before .before .before .args .x) (c .before .before .before .before .before .before .before .before .before .before .before .args .y) (c .before .before .before .before .before .before .before .before .before .before .before .args .w) (c .before .before .before .before .before .before .before .before .before .before .before .args .h) (length (c .before .before .before .before .before .before .before .before .before .before .before .args .mem .now)) = record { can = (c .before .before .before .before .before .before .before .before .before .before .before .pre); wide = omega (arith, (c .before .before .before .before .before .before .before .before .before .if1 .left)); high = omega (arith, (c .before .before .before .before .before .before .before .before .if2 .left)); columnsAt = (c .before .before .before .before .before .before .before .start .ensures); rowsAt = (c .before .before .before .before .before .before .start2 .ensures) } in
+    (begins, (pos-of-ne (coloured (openTask (c .before .before .before .before .before .before .before .before .before .before .before .args .t)) is), both .0))
 
 same-length : tie.Need-same-length
 same-length c = search needs
 
 returns-3 : tie.Need-returns-3
 returns-3 c =
-    let a = (c .before .before .before .before .before .before .before .before .before .before .before .before .args) in
-    let is : straight (openTask (a .t)) ≡ true = sym (ap straight (c .before .before .before .before .before .before .task-of .ensures)) ∙ sym (c .before .before .before .before .before .is-straight .ensures) ∙ (c .before .before .before .before .if3 .taken) in
-    (c .before .before .straight-rows .ensures) ∙ straight-turn (a .t) is (a .pattern) (a .mem .now) (rect false false (a .x) (a .y) (a .w) (a .h)) ∙ in-turn (c .before .before .before .before .before .before .before .before .before .before .before .before .pre) (a .pattern) (a .mem .now)
+    let a = (c .before .before .before .before .before .before .before .before .before .before .before .before .before .before .args) in
+    let is : straight (openTask (a .t)) ≡ true = sym (ap straight (c .before .before .before .before .before .before .task-of .ensures)) ∙ sym (c .before .before .before .before .before .is-straight .ensures) ∙ straight-only (c .before .before .before .before .before .before .before .before .before .before .before .before .before .before .args .t) _ (c .before .before .before .before .if3 .taken) .1 in
+    (c .before .before .straight-rows .ensures) ∙ straight-turn (a .t) is (a .pattern) (a .mem .now) (rect false false (a .x) (a .y) (a .w) (a .h)) ∙ in-turn (c .before .before .before .before .before .before .before .before .before .before .before .before .before .before .pre) (a .pattern) (a .mem .now)
 
 mixed-rows-requires : tie.Need-mixed-rows-requires
-mixed-rows-requires c κs = record { can = (c .before .before .before .before .before .before .before .before .before .pre); wide = omega (arith, (c .before .before .before .before .before .before .before .if1 .left)); high = omega (arith, (c .before .before .before .before .before .before .if2 .left)); columnsAt = (c .before .before .before .before .before .start .ensures); rowsAt = (c .before .before .before .before .start2 .ensures) }
+mixed-rows-requires c κs = record { can = (c .before .before .before .before .before .before .before .before .before .before .before .pre); wide = omega (arith, (c .before .before .before .before .before .before .before .before .before .if1 .left)); high = omega (arith, (c .before .before .before .before .before .before .before .before .if2 .left)); columnsAt = (c .before .before .before .before .before .before .before .start .ensures); rowsAt = (c .before .before .before .before .before .before .start2 .ensures) }
 
 same-length-2 : tie.Need-same-length-2
 same-length-2 c = search needs
 
 returns-4 : tie.Need-returns-4
 returns-4 c =
-    let a = (c .before .before .before .before .before .before .before .before .before .before .before .before .args) in
-    (c .before .before .mixed-rows .ensures) ∙ in-turn (c .before .before .before .before .before .before .before .before .before .before .before .before .pre) (a .pattern) (a .mem .now)
+    let a = (c .before .before .before .before .before .before .before .before .before .before .before .before .before .before .args) in
+    (c .before .before .mixed-rows .ensures) ∙ in-turn (c .before .before .before .before .before .before .before .before .before .before .before .before .before .before .pre) (a .pattern) (a .mem .now)
 
 pub paint-stretch-spec : {M : Type 1} → statement M
 paint-stretch-spec =

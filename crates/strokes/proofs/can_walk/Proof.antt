@@ -1,8 +1,8 @@
 -- `strokes::can_walk` meets its contract.
 -- Assumes nothing.
 use borrow.Author.Needs.{needs}
-use mathlib.Core.Path.{ap₂}
-use mathlib.Core.Bool.{_&&_}
+use mathlib.Core.Path.{ap, ap₂}
+use mathlib.Core.Bool.{not, _&&_}
 use Rattle.strokes.proofs.can_walk.Statement.{statement}
 use Rattle.strokes.proofs.can_walk.Tie as tie
 
@@ -20,8 +20,9 @@ covers-requires-2 c κs = search needs
 
 returns : tie.Need-returns
 returns c =
-    ap₂ (λ s t. s && t) (ap₂ (λ s t. s && t) (ap₂ (λ s t. s && t) (c .before .before .before .is-direct .ensures) (c .before .before .is-whole .ensures)) (c .before .covers .ensures))
-    (c .covers2 .ensures)
+    ap (λ s. s && not (c .before .before .before .before .before .args .ink .target .tiled))
+    (ap₂ (λ s t. s && t) (ap₂ (λ s t. s && t) (ap₂ (λ s t. s && t) (c .before .before .before .before .is-direct .ensures) (c .before .before .before .is-whole .ensures)) (c .before .before .covers .ensures))
+    (c .before .covers2 .ensures))
 
 pub can-walk-spec : {M : Type 1} → statement M
 can-walk-spec =

@@ -10,7 +10,7 @@ use Rattle.paint.specs.declared.Source.{Source}
 use Rattle.paint.specs.Paint.{state, dab, paint}
 use Rattle.paint.specs.Mix.{bitSource, sourced}
 use Rattle.paint.specs.Clip.{origin, pixelAt}
-use Rattle.surface.proofs.Run.{pixel-held}
+use Rattle.surface.proofs.Run.{in-rows, pixel-held}
 use Rattle.line.specs.declared.Point.{Point}
 use Rattle.line.specs.Line.{pointAt, pointCount, pointsFrom, points}
 use Rattle.line.specs.Stipple.{styleAfter}
@@ -84,7 +84,7 @@ put-from-requires c κs =
     let k = c .before .before .before .before .before .loop in
     let h : k .i < pointCount (a .l) = omega (arith, c .before .before .before .before .point-count .ensures) in
     record {
-      held = rw (k .inv .4) (pixel-held (record { colour = p .surface; on = p .on (k .i) h }) _ (k .inv .2 h .at));
+      held = rw (k .inv .4) (pixel-held (in-rows (p .flat)) (record { colour = p .surface; on = p .on (k .i) h }) _ (k .inv .2 h .at));
       room = omega (arith, longer-lt (p .ahead .line), count-le (a .l));
     }
 
@@ -109,11 +109,11 @@ loop-again c =
     let h : k .i < pointCount (a .l) = omega (arith, c .before .before .before .before .before .before .before .before .before .point-count .ensures) in
     let at = k .inv .2 h in
     let q = pointAt (a .l) (k .i) in
-    let put = c .before .before .before .before .put-from .ensures .0 ∙ dab-at s (pixelAt (q .x) (q .y)) _ (sourced _) (state (k .mem) (k .count)) (at .at)
+    let put = c .before .before .before .before .put-from .ensures .0 ∙ dab-at s (in-rows (p .flat)) (pixelAt (q .x) (q .y)) _ (sourced _) (state (k .mem) (k .count)) (at .at)
     ∙ ap (λ (source : Source). dab s (pixelAt (q .x) (q .y)) (sourced source) (state (k .mem) (k .count))) (c .before .before .before .before .before .bit-source .ensures ∙ ap (bitSource (a .ink)) (c .before .before .before .before .before .before .phase-bit .ensures)) in (
       walk-left (a .ink) (a .pen) (a .l) (k .i) (pointCount (a .l)) (wordOf (k .p)) (state (k .mem) (k .count)) h (c .phase-after .ensures .1) put ∙ k .inv .0,
       style-turn (a .pen) (k .i) (pointCount (a .l)) (wordOf (k .p)) _ h (c .phase-after .ensures .1) ∙ k .inv .1,
-      (λ g. rw (c .before .walk-on .ensures, c .before .before .before .before .before .before .before .before .before .before .before .before .before .before .before .before .steps-of .ensures) (walk-next s (p .surface .small) (a .l) (p .ahead) (k .i) (omega (arith, count-le (a .l))) (k .w) at)),
+      (λ g. rw (c .before .walk-on .ensures, c .before .before .before .before .before .before .before .before .before .before .before .before .before .before .before .before .steps-of .ensures) (walk-next s (p .flat) (p .surface .small) (a .l) (p .ahead) (k .i) (omega (arith, count-le (a .l))) (k .w) at)),
       c .phase-after .ensures .0,
       c .before .before .before .before .put-from .kept .0 ∙ k .inv .4,
       omega arith,

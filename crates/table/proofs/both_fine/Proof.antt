@@ -4,31 +4,14 @@ use borrow.Author.Needs.{needs}
 use Rattle.table.proofs.both_fine.Statement.{statement}
 use Rattle.table.proofs.both_fine.Tie as tie
 
-source-surface-requires : tie.Need-source-surface-requires
-source-surface-requires c κs = search needs
-
-target-surface-requires : tie.Need-target-surface-requires
-target-surface-requires c κs = search needs
-
-names-target-requires : tie.Need-names-target-requires
-names-target-requires c κs = search needs
-
 names-source-requires : tie.Need-names-source-requires
 names-source-requires c κs = search needs
 
-may-convert-requires : tie.Need-may-convert-requires
-may-convert-requires c κs = search needs
+fine-with-requires : tie.Need-fine-with-requires
+fine-with-requires c κs = search needs
 
 returns : tie.Need-returns
-returns c = rw (c .before .before .names-target .ensures, c .before .names-source .ensures, c .may-convert .ensures, c .before .before .before .before .source-surface .ensures, c .before .before .before .target-surface .ensures)
+returns c = rw (c .fine-with .ensures, c .before .names-source .ensures)
 
 pub both-fine-spec : {M : Type 1} → statement M
-both-fine-spec =
-    tie.close
-    (tie.spec
-    source-surface-requires
-    target-surface-requires
-    names-target-requires
-    names-source-requires
-    may-convert-requires
-    returns)
+both-fine-spec = tie.close (tie.spec names-source-requires fine-with-requires returns)

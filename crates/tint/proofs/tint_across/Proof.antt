@@ -107,7 +107,7 @@ returns c =
       ap₂ state
           (b .tint-bytes .ensures ∙ ap₂ (λ (at n : ℕ). blended (a .keep .now) (a .flip .now) (a .first * n) at (a .w * n) (a .mem .now)) (b .before .before .byte-of .ensures) (p .1))
           (sym (total-none (a .adds .now) (a .first) (a .w) (l .i) (l .r) (c .loop-test .left)) ∙ l .inv .0)
-          ∙ row-blended (a .s) (a .keep .now) (a .flip .now) (a .adds .now) (a .first) (a .x) (a .y) (p .0 .colour .some) (p .0 .colour .small .bytes)
+          ∙ row-blended (a .s) (a .keep .now) (a .flip .now) (a .adds .now) (a .first) (a .x) (a .y) (p .0 .flat) (p .0 .colour .some) (p .0 .colour .small .bytes)
           (λ i. omega (arith, b .before .before .before .before .shared-slice-known .given i)) (λ i. omega (arith, b .before .before .before .shared-slice-known2 .given i))
           (p .0 .sound) (a .w) (a .n) (a .mem .now) (p .2) (λ i. omega (arith, b .before .before .before .before .before .slice-known .given i)),
       omega (arith, l .inv .1, l .inv .2),

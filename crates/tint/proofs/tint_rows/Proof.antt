@@ -64,6 +64,7 @@ tint-row-requires c κs =
     let p = b .before .before .before .before .pre .0 in
     rw (l .inv .1)
     (record {
+      flat = b .before .before .before .before .pre .1 .0;
       colour = p .colour;
       on = record {
         wide = p .wide;
@@ -110,7 +111,7 @@ returns c =
     let m = b .masks-at .result in
     rows-end (a .ink .target) (λ p. touch p (λ now. downTint (a .ink .target) (m .keep) (m .flip) (m .adds) (a .x) (a .y) now p)) false false (a .x) (a .y) (a .w) (a .h) (l .j) (state (l .mem) (l .n)) (c .loop-test .left)
     ∙ l .inv .0
-    ∙ rect-fills (a .ink) (a .t3) (a .x) (a .y) (b .before .mask-rows .result) m (b .masks-at .ensures) (b .before .before .before .before .pre .1) (a .w) (a .h) (b .before .mask-rows .ensures .1) (state (a .mem .now) 0)
+    ∙ rect-fills (a .ink) (a .t3) (a .x) (a .y) (b .before .mask-rows .result) m (b .masks-at .ensures) (b .before .before .before .before .pre .1 .1) (a .w) (a .h) (b .before .mask-rows .ensures .1) (state (a .mem .now) 0)
 
 pub tint-rows-spec : {M : Type 1} → statement M
 tint-rows-spec =

@@ -19,16 +19,16 @@ returns : tie.Need-returns
 unfolding viewAnswer
 returns c = rw (lt-ltb _ _ (c .if1 .taken))
 
-names-target-requires : tie.Need-names-target-requires
-names-target-requires c κs = search needs
+names-view-requires : tie.Need-names-view-requires
+names-view-requires c κs = search needs
 
 returns-2 : tie.Need-returns-2
 unfolding viewAnswer
-returns-2 c = rw (le-ltb _ _ (c .before .before .if1 .left), ← c .before .names-target .ensures, not-true (c .before .names-target .result) (c .if2 .taken))
+returns-2 c = rw (le-ltb _ _ (c .before .before .if1 .left), ← c .before .names-view .ensures, not-true (c .before .names-view .result) (c .if2 .taken))
 
 returns-3 : tie.Need-returns-3
 unfolding viewAnswer
-returns-3 c = rw (le-ltb _ _ (c .before .before .before .if1 .left), ← c .before .before .names-target .ensures, not-false (c .before .before .names-target .result) (c .before .if2 .left), eq-eqb _ _ (c .if3 .taken))
+returns-3 c = rw (le-ltb _ _ (c .before .before .before .if1 .left), ← c .before .before .names-view .ensures, not-false (c .before .before .names-view .result) (c .before .if2 .left), eq-eqb _ _ (c .if3 .taken))
 
 target-of-requires : tie.Need-target-of-requires
 target-of-requires c κs = search needs
@@ -42,7 +42,7 @@ returns-4 c =
     let a = c .before .before .before .before .before .before .before .args in
     let on = sym (row-on (targetOf (a .base) (a .format)) (a .len) (a .x) (a .y) (a .width))
     ∙ ap (λ (s : Surface). allOn s (a .len) (rect false false (a .x) (a .y) (a .width) 1)) (sym (c .before .before .target-of .ensures)) ∙ sym (c .before .rect-on .ensures) in
-    rw (le-ltb _ _ (c .before .before .before .before .before .before .if1 .left), ← c .before .before .before .before .before .names-target .ensures, not-false (c .before .before .before .before .before .names-target .result) (c .before .before .before .before .if2 .left), ne-eqb _ _ (c .before .before .before .if3 .left), on, c .if4 .taken)
+    rw (le-ltb _ _ (c .before .before .before .before .before .before .if1 .left), ← c .before .before .before .before .before .names-view .ensures, not-false (c .before .before .before .before .before .names-view .result) (c .before .before .before .before .if2 .left), ne-eqb _ _ (c .before .before .before .if3 .left), on, c .if4 .taken)
 
 returns-5 : tie.Need-returns-5
 unfolding viewAnswer
@@ -50,14 +50,14 @@ returns-5 c =
     let a = c .before .before .before .before .before .before .before .args in
     let on = sym (row-on (targetOf (a .base) (a .format)) (a .len) (a .x) (a .y) (a .width))
     ∙ ap (λ (s : Surface). allOn s (a .len) (rect false false (a .x) (a .y) (a .width) 1)) (sym (c .before .before .target-of .ensures)) ∙ sym (c .before .rect-on .ensures) in
-    rw (le-ltb _ _ (c .before .before .before .before .before .before .if1 .left), ← c .before .before .before .before .before .names-target .ensures, not-false (c .before .before .before .before .before .names-target .result) (c .before .before .before .before .if2 .left), ne-eqb _ _ (c .before .before .before .if3 .left), on, c .if4 .left)
+    rw (le-ltb _ _ (c .before .before .before .before .before .before .if1 .left), ← c .before .before .before .before .before .names-view .ensures, not-false (c .before .before .before .before .before .names-view .result) (c .before .before .before .before .if2 .left), ne-eqb _ _ (c .before .before .before .if3 .left), on, c .if4 .left)
 
 pub view-answer-spec : {M : Type 1} → statement M
 view-answer-spec =
     tie.close
     (tie.spec
     returns
-    names-target-requires
+    names-view-requires
     returns-2
     returns-3
     target-of-requires

@@ -1,4 +1,4 @@
--- `rect::fill_rect` meets its contract: a solid fill gives each pixel one value, one without a target key goes by masks, and no fill looks at a source.
+-- `rect::fill_in_rows` meets its contract: a solid fill gives each pixel one value, one without a target key goes by masks, and no fill looks at a source.
 -- Assumes nothing.
 use borrow.Author.Needs.{needs}
 use mathlib.Core.Path.{sym, ap, _∙_}
@@ -14,8 +14,8 @@ use Rattle.paint.proofs.Turns.{paint-same}
 use Rattle.paint.proofs.MixLaws.{not-true}
 use Rattle.rect.proofs.Solid.{solid-gives, fill-alone}
 use Rattle.sweep.proofs.TaskLaws.{can-pixel}
-use Rattle.rect.proofs.fill_rect.Statement.{statement}
-use Rattle.rect.proofs.fill_rect.Tie as tie
+use Rattle.rect.proofs.fill_in_rows.Statement.{statement}
+use Rattle.rect.proofs.fill_in_rows.Tie as tie
 
 is-solid-requires : tie.Need-is-solid-requires
 is-solid-requires c κs = search needs
@@ -25,8 +25,8 @@ raster-requires c κs = search needs
 
 solid-rows-requires : tie.Need-solid-rows-requires
 solid-rows-requires c κs =
-    let p = c .before .before .before .before .before .pre .0 in
-    record { colour = p .colour; wide = p .wide; high = p .high; on = λ i j l r t b. can-pixel p i j (record { left = l; right = r; top = t; bottom = b }) .0 }
+    let p = c .before .before .before .before .before .pre in
+    (p .0, record { colour = p .1 .0 .colour; wide = p .1 .0 .wide; high = p .1 .0 .high; on = λ i j l r t b. can-pixel (p .1 .0) i j (record { left = l; right = r; top = t; bottom = b }) .0 })
 
 same-length : tie.Need-same-length
 same-length c = search needs
@@ -43,9 +43,9 @@ returns c =
 
 tint-rows-requires : tie.Need-tint-rows-requires
 tint-rows-requires c κs =
-    let p = c .before .before .before .before .before .before .pre .0 in (
-      record { colour = p .colour; wide = p .wide; high = p .high; on = λ i j l r t b. can-pixel p i j (record { left = l; right = r; top = t; bottom = b }) .0 },
-      not-true _ (c .before .if2 .taken),
+    let p = c .before .before .before .before .before .before .pre in (
+      record { colour = p .1 .0 .colour; wide = p .1 .0 .wide; high = p .1 .0 .high; on = λ i j l r t b. can-pixel (p .1 .0) i j (record { left = l; right = r; top = t; bottom = b }) .0 },
+      (p .0, not-true _ (c .before .if2 .taken)),
     )
 
 same-length-2 : tie.Need-same-length-2
@@ -56,7 +56,7 @@ returns-2 c =
     let a = c .before .before .before .before .before .before .before .before .before .args in
     c .before .before .tint-rows .ensures
     ∙ sym (paint-same (a .t .ink .target) (λ p now. giving (a .t) (a .pattern) now now p) (λ p now. filling (a .t .ink) (a .pattern) now p)
-    (rect false false (a .t .x) (a .t .y) (a .w) (a .h)) (λ q i now. fill-alone (a .t) (a .pattern) now now q (c .before .before .before .before .before .before .before .before .before .pre .1)) (state (a .mem .now) 0))
+    (rect false false (a .t .x) (a .t .y) (a .w) (a .h)) (λ q i now. fill-alone (a .t) (a .pattern) now now q (c .before .before .before .before .before .before .before .before .before .pre .1 .1)) (state (a .mem .now) 0))
 
 paint-rows-requires : tie.Need-paint-rows-requires
 paint-rows-requires c κs = search needs
@@ -67,8 +67,8 @@ same-length-3 c = search needs
 returns-3 : tie.Need-returns-3
 returns-3 c = search needs
 
-pub fill-rect-spec : {M : Type 1} → statement M
-fill-rect-spec =
+pub fill-in-rows-spec : {M : Type 1} → statement M
+fill-in-rows-spec =
     tie.close
     (tie.spec
     is-solid-requires

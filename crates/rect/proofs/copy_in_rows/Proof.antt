@@ -1,10 +1,9 @@
--- `rect::copy_rect` meets its contract: a mono copy gives each pixel the colour of its bit, a plain one that is not late moves its source's bytes, a straight one gives the source or keeps; and the loops go from the corner that is asked for.
+-- `rect::copy_in_rows` meets its contract: a mono copy gives each pixel the colour of its bit, a plain one that is not late moves its source's bytes, a straight one gives the source or keeps; and the loops go from the corner that is asked for.
 -- Assumes nothing.
 use borrow.Author.Needs.{needs}
-use mathlib.Core.Path.{_≡_, sym, ap, ap₂, subst⁻¹, _∙_}
+use mathlib.Core.Path.{_≡_, sym, ap, subst⁻¹, _∙_}
 use mathlib.Core.Bool.{Bool, true, false, not, _&&_}
 use Prim.Native.Nat.{ℕ}
-use native.Mathlib.Nat.{mul-comm}
 use native.Mathlib.Omega.{arith}
 use borrow.Author.Tests.{not-true}
 use lib.ListN.{length}
@@ -22,12 +21,9 @@ use Rattle.bits.specs.Bits.{monoGiving, monoly, CanMono}
 use Rattle.rect.proofs.Straight.{straight-gives, can-straight}
 use Rattle.rect.proofs.Mono.{is-mono, mono-gives, mono-corner, can-mono}
 use Rattle.paint.proofs.Turns.{paint-same}
-use Rattle.rect.proofs.Order.{early-onward, as-before}
-use Rattle.paint.proofs.Frame.{Bytes}
-use Rattle.rect.proofs.Plain.{plainly-plain, plain-moves, plain-counts}
-use Rattle.runs.proofs.Runs.{given-once}
-use Rattle.rect.proofs.copy_rect.Statement.{statement}
-use Rattle.rect.proofs.copy_rect.Tie as tie
+use Rattle.rect.proofs.Moved.{moved}
+use Rattle.rect.proofs.copy_in_rows.Statement.{statement}
+use Rattle.rect.proofs.copy_in_rows.Tie as tie
 
 is-bitwise-requires : tie.Need-is-bitwise-requires
 is-bitwise-requires c κs = search needs
@@ -38,9 +34,9 @@ mono-of-requires c κs = search needs
 mono-rows-requires : tie.Need-mono-rows-requires
 mono-rows-requires c κs =
     let a = c .before .before .before .before .before .args in
-    let p = c .before .before .before .before .before .pre in
+    let p = c .before .before .before .before .before .pre .1 in
     subst⁻¹ (λ (k : Mono). CanMono k (a .w) (a .h) (length (a .mem .now))) (c .mono-of .ensures .0)
-    (can-mono (a .t) (a .w) (a .h) (length (a .mem .now)) (sym (c .before .before .before .is-bitwise .ensures) ∙ c .before .before .if1 .taken) (p .0) (p .1 .1))
+    (can-mono (a .t) (a .w) (a .h) (length (a .mem .now)) (sym (c .before .before .before .is-bitwise .ensures) ∙ c .before .before .if1 .taken) (c .before .before .before .before .before .pre .0) (p .0) (p .1 .1))
 
 same-length : tie.Need-same-length
 same-length c = search needs
@@ -49,7 +45,7 @@ returns : tie.Need-returns
 unfolding monoOf
 returns c =
     let a = c .before .before .before .before .before .before .before .before .args in
-    let p = c .before .before .before .before .before .before .before .before .pre in
+    let p = c .before .before .before .before .before .before .before .before .pre .1 in
     let bitwise = sym (c .before .before .before .before .before .before .is-bitwise .ensures) ∙ c .before .before .before .before .before .if1 .taken in
     let made = c .before .before .before .mono-of .ensures in
     let m = a .mem .now in
@@ -76,12 +72,12 @@ move-rows-requires c κs =
     let a = c .before .before .before .before .before .before .before .args in
     let p = c .before .before .before .before .before .before .before .pre in
     let tests = by-tests (a .t) (a .w) (a .h) (a .toLeft) (a .toTop) (c .before .before .before .is-plain .ensures) (c .before .before .is-late .ensures) (c .before .if2 .taken) in
-    record { plain = tests .0; can = p .0; orderly = p .1 .1; early = tests .1 }
+    record { flat = p .0; plain = tests .0; can = p .1 .0; orderly = p .1 .1 .1; early = tests .1 }
 
 mul-result : tie.Need-mul-result
 mul-result c =
     let a = c .before .before .before .before .before .before .before .before .before .before .args in
-    let p = c .before .before .before .before .before .before .before .before .before .before .pre .0 in
+    let p = c .before .before .before .before .before .before .before .before .before .before .pre .1 .0 in
     omega (arith, product-lt 14 14 {a = a .w} {b = a .h} (omega (arith, p .wide)) (omega (arith, p .high)))
 
 same-length-2 : tie.Need-same-length-2
@@ -90,14 +86,10 @@ same-length-2 c = search needs
 returns-2 : tie.Need-returns-2
 returns-2 c =
     let a = c .before .before .before .before .before .before .before .before .before .before .args in
-    let p = c .before .before .before .before .before .before .before .before .before .before .pre in
+    let p = c .before .before .before .before .before .before .before .before .before .before .pre .1 in
     let tests = by-tests (a .t) (a .w) (a .h) (a .toLeft) (a .toTop) (c .before .before .before .before .before .before .is-plain .ensures) (c .before .before .before .before .before .is-late .ensures) (c .before .before .before .before .if2 .taken) in
-    let plain = plainly-plain (a .t) (tests .0) in
-    let bytes : Bytes (a .mem .now) = (λ i. omega (arith, c .before .before .before .before .before .before .before .before .before .slice-known .given i)) in
-    ap₂ state (given-once (c .before .before .move-rows .ensures) (plain-moves (a .t) (a .pattern) (a .mem .now) (a .w) (a .h) plain (p .0) bytes))
-    (mul-comm (a .w) (a .h) ∙ sym (plain-counts (a .t) (a .pattern) (a .mem .now) (a .w) (a .h) plain (p .0) bytes))
-    ∙ sym (as-before (a .t) (a .w) (a .h) (length (a .mem .now)) (p .0) (λ _. p .1 .1) (a .toLeft) (a .toTop)
-    (early-onward (a .t) (a .w) (a .h) (length (a .mem .now)) (p .0) (λ _. p .1 .1) (a .toLeft) (a .toTop) (tests .1)) (a .pattern) (a .mem .now) 0)
+    moved (a .t) (a .pattern) (a .mem .now) (a .w) (a .h) (a .toLeft) (a .toTop) (tests .0) (p .0) (p .1 .1) (tests .1)
+    (λ i. omega (arith, c .before .before .before .before .before .before .before .before .before .slice-known .given i)) (c .before .before .move-rows .ensures)
 
 is-straight-requires : tie.Need-is-straight-requires
 is-straight-requires c κs = search needs
@@ -109,7 +101,7 @@ straight-rows-requires : tie.Need-straight-rows-requires
 straight-rows-requires c κs =
     let a = c .before .before .before .before .before .before .before .before .before .before .args in
     subst⁻¹ (λ (k : Straight). CanCopy k (a .w) (a .h) (length (a .mem .now))) (c .straight-of .ensures)
-    (can-straight (a .t) (sym (c .before .before .before .is-straight .ensures) ∙ c .before .before .if3 .taken) (a .w) (a .h) (length (a .mem .now)) (c .before .before .before .before .before .before .before .before .before .before .pre .0))
+    (can-straight (a .t) (sym (c .before .before .before .is-straight .ensures) ∙ c .before .before .if3 .taken) (a .w) (a .h) (length (a .mem .now)) (c .before .before .before .before .before .before .before .before .before .before .pre .0) (c .before .before .before .before .before .before .before .before .before .before .pre .1 .0))
 
 same-length-3 : tie.Need-same-length-3
 same-length-3 c = search needs
@@ -134,8 +126,8 @@ same-length-4 c = search needs
 returns-4 : tie.Need-returns-4
 returns-4 c = search needs
 
-pub copy-rect-spec : {M : Type 1} → statement M
-copy-rect-spec =
+pub copy-in-rows-spec : {M : Type 1} → statement M
+copy-in-rows-spec =
     tie.close
     (tie.spec
     is-bitwise-requires

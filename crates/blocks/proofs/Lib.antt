@@ -1,0 +1,4 @@
+pub mod Laying
+pub mod Blocks
+pub mod Pixels
+pub mod Even
