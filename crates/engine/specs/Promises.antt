@@ -9,7 +9,7 @@ use Prim.Native.Nat.{ℕ, zero, suc, _+_, _-_, _/_, _%_, _^_, _<_, _≤_}
 use lib.Dec.{eqb, ltb}
 use lib.ListN.{length, getD}
 use Rattle.surface.specs.declared.Surface.{Surface}
-use Rattle.surface.specs.Place.{sameSurface, readPx}
+use Rattle.surface.specs.Place.{sameSurface, byteAt, byteOf, readPx, rowPixels, firstByte, byteCount, onSurface}
 use Rattle.surface.specs.Pixels.{Px, NotBefore}
 use Rattle.spans.specs.Span.{allOn, addresses, spanOf, meet}
 use Rattle.views.specs.View.{viewAnswer, viewed}
@@ -133,6 +133,17 @@ pub record ByTheTable : Type 0 where
   pub host : Given 6
   pub off : Given 7
   pub meets : Given 8
+
+-- ---- Bytes. Which bytes are a pixel's is said once for both layouts, rows and tiles (`byteAt`); of every surface, in either:
+
+-- two different pixels share no byte, nor do two bytes of one; pixels of its rows, wherever the memory ends
+abbrev pub OneOwner : Type 0
+OneOwner = (s : Surface) (p q : Px) (j k : ℕ) → p .x < rowPixels s → q .x < rowPixels s → j < s .bytes → k < s .bytes
+    → byteOf s (p .x) (p .y) j ≡ byteOf s (q .x) (q .y) k → (p ≡ q) × (j ≡ k)
+
+-- a pixel on it lies in memory, byte by byte; a mono pixel lies in one byte
+abbrev pub InMemory : Type 0
+InMemory = (s : Surface) (len : ℕ) (p : Px) (k : ℕ) → onSurface s len (p .x) (p .y) ≡ true → k < byteCount s → byteAt s (firstByte s (p .x) + k) (p .y) < len
 
 -- ---- Waiting. A host blit that waits
 
