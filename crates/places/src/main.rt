@@ -1,5 +1,6 @@
-// Addresses and steps that source documents print, held against the surface crate: a byte is marked at the printed address, and the view of
-// the pixel must show it; and the step of a packed source is compared with the printed one.
+// Addresses, tiles and steps that source documents print, held against the surface crate: a byte is marked at the printed address, and the view of
+// the pixel must show it; the tile of a byte and its place there are compared with the printed map; and the step of a packed source with the printed one.
+use surface::Surface;
 use libc::STDOUT_FILENO;
 ghost use Prim.Native.Nat.{_^_, _<_};
 
@@ -66,6 +67,37 @@ fn try_steps(code: u32, width: u32, one: u32, two: u32, three: u32) {
     try_step(code, width, 3, three);
 }
 
+// Whether a byte of a surface of eight tiles across is in the tile of this number, counted from 1, and at its row and column there.
+fn in_tile(column: u32, y: u32, number: u32) -> bool {
+    let s = Surface {
+        base: 0,
+        stride: 8,
+        bytes: 1,
+        tiled: true,
+    };
+    let at = surface::byte_at(s, surface::wide(column), surface::wide(y));
+    (at / 4096 + 1 == surface::wide(number))
+        & (at % 4096 == surface::wide(y % 32) * 128 + surface::wide(column % 128))
+}
+
+// A row of the map: one byte of each of its eight tiles, the first of them with this number.
+fn try_tiles(y: u32, first: u32, last: u32) {
+    say_number(b"rows from ", y / 32 * 32);
+    say_number(b": tiles ", first);
+    say_number(b" to ", last);
+    let from = first % 0x1_0000;
+    verdict(
+        in_tile(37, y, from)
+            & in_tile(128, y, from + 1)
+            & in_tile(383, y, from + 2)
+            & in_tile(400, y, from + 3)
+            & in_tile(600, y, from + 4)
+            & in_tile(640, y, from + 5)
+            & in_tile(895, y, from + 6)
+            & in_tile(1000, y, last),
+    );
+}
+
 fn main() {
     let mut mem = [0u8; 262144];
     say(b"Source document 004, lines 1740 to 1760 and 1917 to 2060\n");
@@ -79,6 +111,13 @@ fn main() {
     try_address(&mut mem, 1024, 128, 133, 0x21480);
     try_address(&mut mem, 1024, 128, 134, 0x21880);
     try_address(&mut mem, 1024, 128, 135, 0x21c80);
+    say(b"Source document 002, section 17.3: tiled memory of 1024 bytes by 192 lines\n");
+    try_tiles(0, 1, 8);
+    try_tiles(63, 9, 16);
+    try_tiles(64, 17, 24);
+    try_tiles(107, 25, 32);
+    try_tiles(143, 33, 40);
+    try_tiles(191, 41, 48);
     say(b"Source document 000, lines 1931 to 1935\n");
     try_steps(0, 11, 2, 2, 4);
     try_steps(0, 9, 2, 2, 4);
