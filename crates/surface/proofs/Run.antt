@@ -12,7 +12,7 @@ use lib.Dec.{eqb}
 use lib.ListN.{getD, set}
 use borrow.Author.Tests.{eqb-true, eqb-false}
 use Rattle.surface.specs.declared.Surface.{Surface}
-use Rattle.surface.specs.Place.{byteAt, byteOf, readBytes, writeBytes, readPx, writePx, Colour, OnColour, Held}
+use Rattle.surface.specs.Place.{byteAt, byteOf, crosses, readBytes, writeBytes, readPx, writePx, Colour, OnColour, Held}
 use Rattle.surface.proofs.Tiles.{tile-run}
 use Rattle.surface.proofs.Rows.{by-layout, byteAt-tiled, byteAt-run}
 use Rattle.surface.proofs.Bytes.{read-there, write-there}
@@ -28,15 +28,15 @@ pub data InPiece : Surface → Type 0 where
   by-two : {s : Surface} → s .bytes ≡ 2 → InPiece s
   by-four : {s : Surface} → s .bytes ≡ 4 → InPiece s
 
--- the test for the other kind: three bytes a pixel, in tiles
-pub three-bytes : (s : Surface) → (s .tiled && eqb (s .bytes) 3) ≡ true → s .bytes ≡ 3
+-- or of the other kind: three bytes a pixel, in tiles
+pub three-bytes : (s : Surface) → crosses s ≡ true → s .bytes ≡ 3
 three-bytes s e = eqb-true (s .bytes) 3 (and-right (s .tiled) (eqb (s .bytes) 3) e)
 
 three-in-rows : (t : Bool) (b : ℕ) → (t && eqb b 3) ≡ false → b ≡ 3 → t ≡ false
 three-in-rows true b e h = absurd (eqb-false b 3 e h)
 three-in-rows false b e h = refl
 
-pub in-piece : (s : Surface) → Colour s → (s .tiled && eqb (s .bytes) 3) ≡ false → InPiece s
+pub in-piece : (s : Surface) → Colour s → crosses s ≡ false → InPiece s
 in-piece s colour e =
     by-cases (ℕ-discrete (s .bytes) 1) by-one
     (λ p. by-cases (ℕ-discrete (s .bytes) 2) by-two

@@ -2,7 +2,7 @@
 ghost use mathlib.Core.Path.{_≡_};
 ghost use Prim.Native.Nat.{_+_, _-_, _/_, _%_, _^_, _<_};
 ghost use lib.ListN.{length, getD, set};
-ghost use Rattle.surface.specs.Place.{sameSurface, rowBytes, byteAt, byteOf, readBytes, writeBytes, readPx, writePx, monoBit};
+ghost use Rattle.surface.specs.Place.{sameSurface, rowBytes, byteAt, byteOf, crosses, readBytes, writeBytes, readPx, writePx, monoBit};
 ghost use Rattle.surface.specs.Place.{Small, Colour, Near, Held, OnColour, OnMono};
 
 pub struct Surface {
@@ -116,6 +116,13 @@ pub fn put_bytes(mem: &mut [u8], at: usize, n: u32, v: u32)
     put_byte(mem, at + 3, v2 / 256);
 }
 
+// Whether a pixel's bytes may lie in two tiles.
+fn may_cross(s: Surface) -> bool
+    ensures { λ r. ⌜ r ≡ crosses s ⌝ }
+{
+    s.tiled & (s.bytes == 3)
+}
+
 // A pixel of three bytes, wherever each of them lies.
 fn get_three(mem: &[u8], s: Surface, x: u32, y: u32) -> u32
     requires { ⌜ OnColour s (length (now mem)) x y × (s .bytes ≡ 3) ⌝ }
@@ -147,25 +154,23 @@ pub fn get_pixel(mem: &[u8], s: Surface, x: u32, y: u32) -> u32
     requires { ⌜ OnColour s (length (now mem)) x y ⌝ }
     ensures { λ r. ⌜ r ≡ readPx (now (mem .entry)) s x y ⌝ }
 {
-    let n = s.bytes;
-    if s.tiled & (n == 3) {
+    if may_cross(s) {
         return get_three(mem, s, x, y);
     }
     let at = byte_of(s, x, y, 0);
-    get_bytes(mem, at, n)
+    get_bytes(mem, at, s.bytes)
 }
 
 pub fn put_pixel(mem: &mut [u8], s: Surface, x: u32, y: u32, v: u32)
     requires { ⌜ OnColour s (length (now mem)) x y ⌝ }
     ensures { λ _. ⌜ now (mem .exit) ≡ writePx (now (mem .entry)) s x y v ⌝ }
 {
-    let n = s.bytes;
-    if s.tiled & (n == 3) {
+    if may_cross(s) {
         put_three(mem, s, x, y, v);
         return;
     }
     let at = byte_of(s, x, y, 0);
-    put_bytes(mem, at, n, v);
+    put_bytes(mem, at, s.bytes, v);
 }
 
 // The byte that a mono pixel lies in.
