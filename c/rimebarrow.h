@@ -13,7 +13,7 @@
      2  the offset names no register; for a read, also the launch area
      3  a host blit waits, and the write is neither launch data nor to command
      4  the command is not built
-     5  a surface is tiled or has a format that is not listed, or the conversion is not allowed
+     5  a surface has a format that is not listed, a source that is mono, packed or a host blit's is tiled, or the conversion is not allowed
      6  a host blit whose registers do not fit, or a stretch copy of a source without pixels
      7  a pixel is off its surface
      8  a screen copy between two surfaces whose spans meet, or a stretch copy whose spans meet
@@ -54,7 +54,7 @@ uint64_t rimebarrow_write(uint8_t *state, size_t state_length, uint8_t *memory, 
 uint64_t rimebarrow_read(const uint8_t *state, size_t state_length, uint32_t offset);
 
 /* Finds the bytes of width pixels from (x, y) on, in a surface of the memory; base and format are as in dstBaseAddr and dstFormat. Gives 0 and puts the
-   place of the first byte into *start and the number of bytes into *count; or gives 1, 5 or 7 and puts 0 into both. */
+   place of the first byte into *start and the number of bytes into *count; or gives 1, 5 or 7 and puts 0 into both. A tiled surface is a 5. */
 uint32_t rimebarrow_view(const uint8_t *memory, size_t memory_length, uint32_t base, uint32_t format, uint32_t x, uint32_t y, uint32_t width,
                          size_t *start, size_t *count);
 
