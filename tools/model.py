@@ -1,8 +1,8 @@
 """A plain model of the 2D engine, written from the scope paper and the change requests alone,
 to be read beside them and compared with other programs; it is not meant to be fast.
 
-Names in quotes in the comments are sections of the paper; "Thumbnails" is request One, and
-"The smear" request Three.
+Names in quotes in the comments are sections of the paper; "Thumbnails" is request One,
+"The smear" request Three and "Tiles" request Six.
 "Point N" is a numbered open point of the source facts, part 3.3. Run as a program it plays
 a stream from its input.
 """
@@ -73,46 +73,64 @@ def row_bytes(width: int, depth: int) -> int:
 
 @dataclass(frozen=True)
 class Surface:
-    """By "What a write answers", row 8: surfaces differ if base, step or format do."""
+    """By "What a write answers", row 8: surfaces differ if base, step or format do; by "Tiles"
+    also if one is tiled and the other is not."""
     base: int
-    step: int
+    step: int  # from row to row in bytes; of a tiled surface the tiles across
     depth: int  # bits of a pixel, 1 for mono
+    tiled: bool = False
 
     def size(self) -> int:
         """Bytes that a pixel lies in."""
         return max(1, self.depth // 8)
 
-    def address(self, x: int, y: int) -> int:
-        """By "Surfaces": base + y x stride + x x b; a mono pixel is in byte floor(x / 8)."""
-        return self.base + y * self.step + (x // 8 if self.depth == 1 else x * self.size())
+    def columns(self) -> int:
+        """By "Surfaces": floor(stride / b) pixels to a row, in a mono source 8 x stride. By
+        "Tiles": floor(128 x stride / b)."""
+        if self.depth == 1:
+            return 8 * self.step
+        return (128 * self.step if self.tiled else self.step) // self.size()
+
+    def address(self, x: int, y: int, k: int) -> int:
+        """The place of byte k of a pixel. By "Surfaces": base + y x stride + x x b + k; a mono
+        pixel is in byte floor(x / 8). By "Tiles": a tile is 128 bytes by 32 rows, laid row by
+        row; tiles follow each other along a row of tiles, then the next row."""
+        column = x // 8 if self.depth == 1 else x * self.size() + k
+        if not self.tiled:
+            return self.base + y * self.step + column
+        tile = y // 32 * self.step + column // 128
+        return self.base + tile * 4096 + y % 32 * 128 + column % 128
+
+    def places(self, x: int, y: int) -> list[int]:
+        """Those of all its bytes in turn; by "Tiles" a pixel of 24 bpp may fall across two tiles."""
+        return [self.address(x, y, k) for k in range(self.size())]
 
     def has(self, x: int, y: int, length: int) -> bool:
         """By "Surfaces": is the pixel on the surface, in a memory of this length?"""
-        columns = 8 * self.step if self.depth == 1 else self.step // self.size()
-        return y >= 0 and 0 <= x < columns and self.address(x, y) + self.size() <= length
+        return y >= 0 and 0 <= x < self.columns() and all(at < length for at in self.places(x, y))
 
     def get(self, mem: bytes | bytearray, x: int, y: int) -> int:
         """By "Surfaces": low byte first; mono pixel x is bit 7 - (x mod 8)."""
-        start = self.address(x, y)
-        value = int.from_bytes(mem[start:start + self.size()], "little")
+        value = int.from_bytes([mem[at] for at in self.places(x, y)], "little")
         return value >> 7 - x % 8 & 1 if self.depth == 1 else value
 
     def put(self, mem: bytearray, x: int, y: int, value: int) -> None:
-        start = self.address(x, y)
-        mem[start:start + self.size()] = value.to_bytes(self.size(), "little")
+        for at, byte in zip(self.places(x, y), value.to_bytes(self.size(), "little")):
+            mem[at] = byte
 
     def span(self, pixels: list[Pixel]) -> tuple[int, int]:
         """By "Surfaces": from the lowest to the highest byte of the pixels (not none)."""
-        starts = [self.address(x, y) for x, y in pixels]
-        return min(starts), max(starts) + self.size() - 1
+        places = [at for x, y in pixels for at in self.places(x, y)]
+        return min(places), max(places)
 
 
 def target_surface(base: int, form: int) -> Surface | None:
-    """By "Registers", formats: the surface of a base and a target format word, or none (answer 5)."""
+    """By "Registers", formats: the surface of a base and a target format word, or none (answer 5).
+    By "Tiles": base bit 31 selects them."""
     depth = TARGET_BITS.get(bits(form, 18, 16))
-    if bits(base, 31, 31) or depth is None:
+    if depth is None:
         return None
-    return Surface(bits(base, 23, 0), bits(form, 13, 0), depth)
+    return Surface(bits(base, 23, 0), bits(form, 13, 0), depth, bits(base, 31, 31) == 1)
 
 
 def channels(value: int, depth: int) -> list[int]:
@@ -293,13 +311,15 @@ class Engine:
 
     def source(self) -> Surface | None:
         """The source surface or none (answer 5); its step by the packing, from the width of the
-        source: srcSize's in a stretch, dstSize's elsewhere."""
-        base, form = self.registers["srcBaseAddr"], self.registers["srcFormat"]
+        source: srcSize's in a stretch, dstSize's elsewhere. By "Tiles": mono, packed and host-blit
+        sources that are tiled are still a 5."""
+        base, form = bits(self.registers["srcBaseAddr"], 23, 0), self.registers["srcFormat"]
         depth, packing = SOURCE_BITS.get(bits(form, 19, 16)), bits(form, 23, 22)
-        if bits(base, 31, 31) or depth is None:
+        tiled = bits(self.registers["srcBaseAddr"], 31, 31) == 1
+        if depth is None or tiled and (depth == 1 or packing != 0 or self.number() == HOST):
             return None
         if packing == 0:
-            return Surface(base, bits(form, 13, 0), depth)
+            return Surface(base, bits(form, 13, 0), depth, tiled)
         unit = {1: 1, 2: 2, 3: 4}[packing]
         width, _ = halves(self.registers["srcSize" if self.number() == STRETCH else "dstSize"])
         return Surface(base, (row_bytes(width, depth) + unit - 1) // unit * unit, depth)
@@ -494,15 +514,16 @@ class Engine:
 
 
 def row_view(mem: bytearray, base: int, form: int, x: int, y: int, width: int) -> tuple[int, int, int]:
-    """By "What a write answers": number, first byte and length of a part of a row (point 52)."""
+    """By "What a write answers": number, first byte and length of a part of a row (point 52).
+    By "Tiles": those of tiled surfaces are not given."""
     if len(mem) > LIMIT:
         return 1, 0, 0
     surface = target_surface(base, form)
-    if surface is None:
+    if surface is None or surface.tiled:
         return 5, 0, 0
     if width == 0 or not all(surface.has(x + i, y, len(mem)) for i in range(width)):
         return 7, 0, 0
-    return 0, surface.address(x, y), width * surface.size()
+    return 0, surface.address(x, y, 0), width * surface.size()
 
 
 def picture(engine: Engine, mem: bytearray) -> str:

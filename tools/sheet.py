@@ -26,7 +26,8 @@ ANSWERS = {
     2: "the offset names no register",
     3: "a host blit waits for its data, and this write is neither launch data nor to command",
     4: "the command is not built",
-    5: "a surface it uses is tiled or has a format that is not listed, or the conversion is not allowed",
+    5: "a surface it uses has a format that is not listed, or the conversion is not allowed, "
+       "or a source that is mono, packed or a host blit's is tiled",
     6: "host blit: swizzle bits, direction bits or srcXY not 0, or a stride below the row's bytes; "
        "stretch copy: a source of no width or no height, and a target that has both",
     7: "a covered pixel, or a source pixel that it needs, is off its surface",
@@ -98,7 +99,7 @@ def meaning(text: str) -> str | None:
     return {
         "short write\n": "The stream ends inside a write: its length is no multiple of 8 bytes.",
         "no picture\n": "All writes were taken, and there is no picture: clip0 is empty or reaches off the target surface, "
-                        "or the target is tiled or has a format that is not listed.",
+                        "or the target has a format that is not listed.",
     }.get(text)
 
 

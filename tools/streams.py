@@ -21,22 +21,30 @@ from collections import Counter
 from pathlib import Path
 
 from model import (BUILT, COMMAND, COPY, FILL, FROM_MEMORY, HOST, KEPT, LIMIT, LINE, NOP, OFFSETS, POLYLINE, SOURCE_BITS,
-                   STRETCH, Engine, allowed, bits, halves, is_launch, row_bytes)
+                   STRETCH, Engine, Pixel, Surface, allowed, bits, halves, is_launch, row_bytes)
 
-MIXED, STRETCHED, SMEARED = 336, 64, 96  # streams of all commands, after them of stretched copies, then of smears
-SMEARS = MIXED + STRETCHED  # the first of the last
-STREAMS, LENGTH = SMEARS + SMEARED, 72  # streams, and the least number of writes of an ordinary one
+MIXED, STRETCHED, SMEARED, TILED = 336, 64, 96, 96  # streams of all commands, then of stretched copies, of smears, of tiles
+SMEARS = MIXED + STRETCHED  # the first of smears
+TILES = SMEARS + SMEARED  # and of tiles
+STREAMS, LENGTH = TILES + TILED, 72  # streams, and the least number of writes of an ordinary one
 SWEEPS = 4  # so many streams of each of the first two begin with one
-BY_DISTANCE = 64  # so many of the last are one: a format, a corner and a kind of copy at every distance
+BY_DISTANCE = 64  # so many of smears are one: a format, a corner and a kind of copy at every distance
+PLANS = {"each": 4, "whole": 8, "corners": 16, "ends": 4, "beyond": 4, "one_place": 4, "refused": 2, "pairs": 2}
+PLANNED = [(name, which) for name, count in PLANS.items() for which in range(count)]  # the first of tiles, each by a plan
 TINY = (0, 1, 3, 64)  # lengths of memory
 ROOM = 65_536  # the longest memory there is
 BIG = {MIXED - 5: ROOM, MIXED - 3: LIMIT, MIXED - 2: LIMIT + 1, MIXED - 1: ROOM, SMEARS - 2: ROOM, SMEARS - 1: ROOM}
 EVERYTHING = ("fill", "copy", "stretch", "host", "line", "wild")
 THEMES = (("fill",), ("copy", "copy", "touch"), ("host",), ("line",), ("copy", "host"), EVERYTHING)
 STRETCHES = ("stretch", "stretch", "stretch", "far", "meet")  # the theme of streams of stretched copies
+ON_TILES = ("fill", "copy", "copy", "stretch", "host", "host", "line", "touch", "block")  # and of tiles, or only blocks
+CUT = (1, 129, 300, 4000)  # lengths of memory in which no tile is whole
+KINDS = ((0xCC, 0), (0x66, 0), (0xCC, 1), (0x5A, 3))  # raster operation and keys of a copy
+TILE_BIT = 1 << 31  # of a base
 NAMES = {NOP: "nop", COPY: "copy", STRETCH: "stretch", HOST: "host", FILL: "fill", LINE: "line", POLYLINE: "polyline"}
 NOT_BUILT = [number for number in range(16) if number not in BUILT]
 FORMAT = {depth: number for number, depth in SOURCE_BITS.items()}
+DEPTHS = (8, 16, 24, 32)  # those of targets
 
 
 def filled(size: int, seed_byte: int) -> bytearray:
@@ -68,6 +76,8 @@ def packed(width: int, depth: int, packing: int) -> int:
 
 class Maker:
     """One stream. Each write is played on the model at once, so that the next may fit it."""
+
+    reach = 8192  # surfaces lie in so many bytes at the end of memory; in the longest one they lie anywhere
 
     def __init__(self, seed: int, size: int, tally: Counter) -> None:
         self.rng, self.size, self.tally = random.Random(seed), size, tally
@@ -117,13 +127,18 @@ class Maker:
         base = part[0] + self.pick((0, self.near(0, room % max(1, stride)), room - rows * stride))
         return base, stride, columns, rows
 
+    def divide(self) -> list[tuple[int, int]]:
+        """The part of the memory for the target, and that for a source."""
+        floor = max(0, self.size - (ROOM if self.size == ROOM else self.reach))
+        middle = (floor + self.size) // 2
+        parts = [(floor, middle), (middle, self.size)] if self.size >= 64 else [(0, self.size)] * 2
+        self.rng.shuffle(parts)
+        return parts
+
     def scene(self) -> None:
         """A target with its clips, colours, a part of the pattern and keys."""
-        floor = max(0, self.size - (ROOM if self.size == ROOM else 8192))
-        middle = (floor + self.size) // 2
-        self.parts = [(floor, middle), (middle, self.size)] if self.size >= 64 else [(0, self.size)] * 2
-        self.rng.shuffle(self.parts)
-        self.depth = self.pick((8, 16, 24, 32))
+        self.parts = self.divide()
+        self.depth = self.pick(DEPTHS)
         self.base, self.stride, self.columns, self.rows = self.surface(self.depth, self.parts[0])
         self.set(dstBaseAddr=self.base, dstFormat=FORMAT[self.depth] << 16 | self.stride)
         for name, slack in (("clip0", 2), ("clip1", 6)):
@@ -198,6 +213,7 @@ class Maker:
         if self.chance(0.5):
             depth, packing, reach = self.source_depth(), self.pick((0, 0, 0, 1, 2, 3)), 40
             base, stride, columns, rows = self.surface(depth, self.parts[self.chance(0.75)])
+            packing = self.fitting(base, packing)
         elif self.chance(0.2) and self.stride == row_bytes(self.columns, self.depth):
             packing, width, x = 1, self.columns, 0  # the same surface, packed
         self.set(srcBaseAddr=base, srcFormat=packing << 22 | FORMAT[depth] << 16 | stride, dstSize=xy(width, height))
@@ -212,6 +228,10 @@ class Maker:
             from_y = min(max(y + self.near(-reach, reach), 0), max(rows - height, 0))
             places.append(xy(from_x + right - self.chance(0.03), from_y + below - self.chance(0.03)))
         self.carry(word, "srcXY", places)
+
+    def fitting(self, base: int, packing: int) -> int:
+        """The packing; of tiles mostly none, as any other is a 5."""
+        return 0 if base & TILE_BIT and self.chance(0.95) else packing
 
     def touch(self) -> None:
         """A copy whose source ends or begins at the target or one byte off it, or whose source
@@ -251,9 +271,9 @@ class Maker:
     def every_distance(self, which: int) -> None:
         """Copies within one surface by up to three pixels to each side, each in a place of its own: of one format, from one
         corner, plain, with a raster operation or with keys."""
-        depth, turn, kind = (8, 16, 24, 32)[which % 4], which // 4 % 4, which // 16
+        depth, turn, kind = DEPTHS[which % 4], which // 4 % 4, which // 16
         stride, (width, height) = 100 * depth // 8, (4, 3)
-        operation, extra = ((0xCC, 0), (0x66, 0), (0xCC, 1), (0x5A, 3))[kind]
+        operation, extra = KINDS[kind]
         self.set(dstBaseAddr=0, dstFormat=FORMAT[depth] << 16 | stride, clip0Max=xy(100, 64), srcBaseAddr=0,
                  srcFormat=FORMAT[depth] << 16 | stride, dstSize=xy(width, height), commandExtra=extra, rop=0x5AAA66,
                  srcColorkeyMax=0x9FBFBF, dstColorkeyMin=0x202020, dstColorkeyMax=0xFFFFFF)
@@ -316,6 +336,7 @@ class Maker:
         across, down = self.covered(clip, x, y, width, height)
         depth, packing, low = self.source_depth(), self.pick((0, 0, 0, 1, 2, 3)), 0
         base, stride, columns, rows = self.surface(depth, self.parts[self.chance(0.95)])
+        packing = self.fitting(base, packing)
         if self.chance(0.25):  # within one surface, from the rows above or below, or now and then from any
             depth, packing, base, stride, columns, rows = self.depth, 0, self.base, self.stride, self.columns, self.rows
             if down and self.chance(0.9):
@@ -462,7 +483,8 @@ class Maker:
             self.launch(xy(x, y))
 
     def stretch_sweep(self) -> None:
-        """All small widths and heights against each other, sizes of 0, and which of two refusals comes first."""
+        """All small widths and heights against each other, sizes of 0, and then those with tiles, with nothing covered, and
+        off the target."""
         while self.columns < 8 or self.rows < 8 or self.parts[1][1] - self.parts[1][0] < 80 * self.depth // 8:
             self.scene()
         self.set(clip0Min=0, clip0Max=xy(self.columns, self.rows), commandExtra=0, dstXY=0,
@@ -478,14 +500,332 @@ class Maker:
         usual = dict(dstXY=0, clip0Max=xy(self.columns, self.rows), srcBaseAddr=self.parts[1][0], dstBaseAddr=self.base)
         for side, size in itertools.product(((0, 2), (2, 2)), ((2, 2), (0, 2))):
             self.set(srcSize=xy(*side), dstSize=xy(*size))
-            for fault in (dict(srcBaseAddr=1 << 31), dict(dstBaseAddr=1 << 31), dict(clip0Max=0),
-                          dict(clip0Max=0x0FFF0FFF, dstXY=xy(self.columns - 1, 0))):
-                self.set(**fault)
+            for change in (dict(srcBaseAddr=TILE_BIT), dict(dstBaseAddr=TILE_BIT), dict(clip0Max=0),
+                           dict(clip0Max=0x0FFF0FFF, dstXY=xy(self.columns - 1, 0))):
+                self.set(**change)
                 self.launch(0)
-                self.set(**{name: usual[name] for name in fault})
+                self.set(**{name: usual[name] for name in change})
         self.set(srcBaseAddr=self.base, srcFormat=FORMAT[self.depth] << 16 | self.stride, dstSize=xy(2, 2))
         for x in (self.columns - 1, self.columns - 2):
             self.launch(xy(x, 0))
+
+
+class TileMaker(Maker):
+    """A stream on tiled surfaces."""
+
+    reach = ROOM
+    astray = 0.4  # how often a rectangle is not put across an edge between tiles
+
+    def divide(self) -> list[tuple[int, int]]:
+        """Now and then all of it for each."""
+        return [(0, self.size)] * 2 if self.chance(0.3) else super().divide()
+
+    def surface(self, depth: int, part: tuple[int, int]) -> tuple[int, int, int, int]:
+        """Mostly a tiled one, at any base, and now and then with more tiles across than there are. It gives the columns and
+        rows that are there whole."""
+        if self.chance(0.97 if depth == 1 else 0.3):
+            return self.linear(depth, part)
+        room = part[1] - part[0]
+        base = self.pick((0, self.near(1, min(300, room // 3)), self.near(0, min(4095, room // 3))))
+        stride, room = self.pick((1, 2, 2, 3, 3, 4, self.near(5, 8), self.near(9, 0x3FFF))), max(0, room - base)
+        across = min(stride, max(1, room // 4096))
+        whole, rest = divmod(room, 4096 * stride)
+        rows = 32 * whole + min(32, max(0, rest - 4096 * (across - 1)) // 128)
+        return TILE_BIT | part[0] + base, stride, 1024 * across // depth, rows
+
+    def linear(self, depth: int, part: tuple[int, int]) -> tuple[int, int, int, int]:
+        """A linear one, small or about as wide as some tiles."""
+        room, stride = part[1] - part[0], row_bytes(self.near(40, 400), depth)
+        if room < 8 * stride or self.chance(0.4):
+            return super().surface(depth, part)
+        rows = min(room // stride, 120)
+        return part[0] + self.near(0, room - rows * stride), stride, stride * 8 // depth, rows
+
+    def edge(self, number: int) -> int:
+        """The target's column in which the tile of this number begins; at 24 bpp it may begin inside that pixel."""
+        return 1024 * number // self.depth
+
+    def across_edge(self, width: int, height: int) -> tuple[int, int]:
+        """A place on the target for a rectangle where tiles meet."""
+        x = self.edge(self.near(1, self.columns * self.depth // 1024 - 1)) - self.near(0, width)
+        y = 32 * self.near(1, self.rows // 32 - 1) - self.near(0, height)
+        return max(0, min(x, self.columns - width)), max(0, min(y, self.rows - height))
+
+    def spot(self, width: int, height: int) -> tuple[int, int]:
+        return super().spot(width, height) if self.chance(self.astray) else self.across_edge(width, height)
+
+    def side(self, edges: list[int], most: int) -> tuple[int, int]:
+        """From one edge below most to a later one or to most, each at times a little off."""
+        edges = [*(at for at in edges if at < most), most]
+        ends = sorted(self.rng.sample(edges, 2)) if self.chance(0.6) else (edges[0], edges[-1])
+        low, past = (at + self.pick((0, 0, self.near(-9, 9))) for at in ends)
+        low = min(max(low, 0), most - 1)
+        return low, min(max(past, low + 1), most)
+
+    def origin(self, low: int, past: int, most: int, tile: int) -> int:
+        """Where the source begins of what is covered from low to past: as far into a tile as that or not, and below most."""
+        start = low + self.pick((0, tile, -tile, 2 * tile, self.near(-9, 9), self.near(-2 * tile, 2 * tile)))
+        return min(max(start, 0), max(most - (past - low), 0))
+
+    def block(self) -> None:
+        """A fill or a copy of a rectangle that may take in whole tiles. At times it is the clip that cuts it out."""
+        if self.columns < 2 or self.rows < 2:
+            return self.fill()
+        left, right = self.side([self.edge(number) for number in range(17)], self.columns)
+        top, bottom = self.side([*range(0, 513, 32)], self.rows)
+        number = self.pick((FILL, FILL, COPY, COPY, COPY, STRETCH))
+        depth, base, stride, columns, rows = self.depth, self.base, self.stride, self.columns, self.rows
+        if number == STRETCH or number == COPY and self.chance(0.5):
+            depth = self.source_depth()
+            base, stride, columns, rows = self.surface(depth, self.parts[1])
+            right, bottom = min(right, left + max(1, columns)), min(bottom, top + max(1, rows))
+        x, y, width, height = left, top, right - left, bottom - top
+        self.set(clip0Min=0, clip0Max=xy(self.columns, self.rows))
+        if number != STRETCH and self.chance(0.3):
+            self.set(clip0Min=xy(left, top), clip0Max=xy(right, bottom))
+            x, y = left - self.near(0, 9), top - self.near(0, 9)
+            width, height = right - x + self.near(0, 9), bottom - y + self.near(0, 9)
+        word = self.word(number) & ~(1 << 23)
+        if number == COPY:
+            x, y = x + (width - 1) * bits(word, 14, 14), y + (height - 1) * bits(word, 15, 15)
+        self.set(dstSize=xy(width, height), dstXY=xy(x, y))
+        if number != FILL:
+            from_x, from_y = self.origin(left, right, columns, 1024 // depth), self.origin(top, bottom, rows, 32)
+            self.set(srcBaseAddr=base, srcFormat=FORMAT[depth] << 16 | stride, srcXY=xy(from_x + x - left, from_y + y - top))
+        if number == STRETCH:
+            self.set(srcSize=xy(self.near(1, columns - from_x), self.near(1, rows - from_y)))
+        self.put(COMMAND, word | 0x100)
+
+    def touch(self) -> None:
+        """Followed by a new scene, as it has a target of its own."""
+        if self.size < 9000:
+            return self.fill()
+        self.beside(self.pick(FROM_MEMORY), self.near(0, 4), self.chance(0.5))
+        self.scene()
+
+    def beside(self, number: int, which: int, from_tiles: bool) -> None:
+        """A copy between a rectangle of tiles and a run of bytes: right past its span or before it, one byte inside it at
+        either end, or between its first two rows."""
+        size, (width, height) = self.depth // 8, (self.near(1, 4), self.near(2, 5))
+        stride = self.near(1, min(3, (self.size - 200) // 8192))
+        base = self.near(100, self.size - 8192 * stride - 100)
+        self.columns, self.rows = self.edge(stride), 64
+        x, y = self.across_edge(width, height)
+        low, high = Surface(base, stride, self.depth, True).span([(x, y), (x + width - 1, y + height - 1)])
+        run, form = width * height * size, FORMAT[self.depth] << 16
+        start = (high + 1, low - run, high, low - run + 1, low + width * size)[which]
+        tiles, bare = (TILE_BIT | base, form | stride, xy(x, y)), (start, form | width * size, 0)
+        (source, of, corner), (target, to, place) = (tiles, bare) if from_tiles else (bare, tiles)
+        self.set(clip0Min=0, clip0Max=0x0FFF0FFF, dstSize=xy(width, height), srcSize=xy(width, height), srcBaseAddr=source,
+                 srcFormat=of, srcXY=corner, dstBaseAddr=target, dstFormat=to, dstXY=place)
+        self.put(COMMAND, self.word(number, 0) & ~(1 << 23) | 0x100)
+
+    def each(self, which: int) -> None:
+        """All commands across edges between tiles, of one format, with one to four tiles across."""
+        self.depth, self.parts, self.astray = DEPTHS[which], [(0, 37_000), (37_000, self.size)], 0
+        for stride in range(1, 5):
+            self.base, self.stride = TILE_BIT | self.near(1, 4095), stride
+            self.columns, self.rows = self.edge(stride), 64
+            self.set(dstBaseAddr=self.base, dstFormat=FORMAT[self.depth] << 16 | stride, colorFore=self.draw(32),
+                     colorBack=self.draw(32), clip0Max=xy(self.columns, self.rows), clip1Max=xy(self.columns, self.rows))
+            for command in ("fill", "host", "copy", "line", "keys", "fill", "host", "stretch", "line"):
+                getattr(self, command)()
+
+    def whole(self, which: int) -> None:
+        """Fills of two whole tiles or copies of one, with more of the surface past any of the four sides; and of several.
+        First they are plain, and then they have other raster operations, patterns, keys and formats."""
+        self.depth, copies = DEPTHS[which % 4], which // 4
+        self.base, across = TILE_BIT | self.near(0, 900), 4 - copies
+        self.set(dstBaseAddr=self.base, dstFormat=FORMAT[self.depth] << 16 | across, clip0Max=xy(self.edge(across), 96),
+                 colorFore=self.draw(32), colorBack=self.draw(32))
+        for offset in () if copies else range(0x100, 0x100 + 8 * self.depth, 4):
+            self.put(offset, self.draw(32))
+        for plain, sides in itertools.product((True, False), range(17)):
+            off = [self.near(1, 9) * bits(sides, bit, bit) for bit in range(4)]
+            left, right = self.edge(1) - off[0], -(-1024 * (across - 1) // self.depth) + off[1]
+            top, bottom = 32 - off[2], 64 + off[3]
+            if sides == 16:
+                left, right, top, bottom = 0, self.edge(3), 0, 96 - 32 * copies
+            if not plain and sides % 4 == 0:
+                self.keys()
+            self.set(dstSize=xy(right - left, bottom - top), dstXY=xy(left, top))
+            if copies:
+                depth, base, stride, columns, rows = self.whole_source(plain, sides == 16)
+                self.set(srcBaseAddr=base, srcFormat=FORMAT[depth] << 16 | stride,
+                         srcXY=xy(self.origin(left, right, columns, 1024 // depth), self.origin(top, bottom, rows, 32)))
+            number = COPY if copies else FILL
+            word = 0xCC000000 | number if plain else self.word(number, 0) & ~(1 << 23 | 3 << 10)
+            self.put(COMMAND, word | 0x100)
+
+    def whole_source(self, plain: bool, several: bool) -> tuple[int, int, int, int, int]:
+        """Depth, base, stride, columns and rows: the target's surface, and but for several tiles also a linear or tiled one
+        past it, which for copies that are not plain may have another format."""
+        depth = self.depth if plain else self.pick([depth for depth in DEPTHS if allowed(depth, self.depth)])
+        sources = [(self.depth, self.base, 3, self.edge(3), 96), (depth, self.near(37_800, 38_000), 500, 4000 // depth, 55),
+                   (depth, TILE_BIT | self.near(37_800, 40_000), 3, 3072 // depth, 64)]
+        return sources[0] if several else self.pick(sources)
+
+    def corners(self, which: int) -> None:
+        """Copies within one surface where four tiles meet, of one format and from one corner: by up to three columns and two
+        rows to each side, and by about a tile; plain, with a raster operation or with keys."""
+        self.depth, turn = DEPTHS[which % 4], which // 4
+        base, form, tile = TILE_BIT | self.near(1, 3000), FORMAT[self.depth] << 16 | 3, self.edge(1)
+        columns, rows = self.edge(3), 96
+        self.set(dstBaseAddr=base, dstFormat=form, srcBaseAddr=base, srcFormat=form, clip0Max=xy(columns, rows),
+                 rop=0x5AAA66, srcColorkeyMax=0x9FBFBF, dstColorkeyMin=0x202020, dstColorkeyMax=0xFFFFFF)
+        moves = [(6, 4, *move) for move in itertools.product(range(-3, 4), range(-2, 3))]
+        for sign, off in itertools.product((-1, 1), (-1, 0, 1)):
+            moves += [(tile + 5, 3, sign * tile + off, self.near(-1, 1)), (3, 37, self.near(-1, 1), sign * 32 + off)]
+        for kind, (operation, extra) in enumerate(KINDS):
+            self.set(commandExtra=extra)
+            self.put(COMMAND, operation << 24 | turn << 14 | COPY)
+            for width, height, across, down in moves[(kind + turn) % 4::4]:
+                x, y = self.edge(self.near(1, 2)) - width // 2, 32 * self.near(1, 2) - height // 2
+                x = min(max(x, across, 0), columns - width + min(across, 0))
+                y = min(max(y, down, 0), rows - height + min(down, 0))
+                right, below = (width - 1) * (turn & 1), (height - 1) * (turn >> 1)
+                if self.engine.registers["dstSize"] != xy(width, height):
+                    self.set(dstSize=xy(width, height))
+                self.set(dstXY=xy(x + right, y + below))
+                self.launch(xy(x - across + right, y - down + below))
+
+    def ends(self, which: int) -> None:
+        """The memory ends inside a tile: rectangles whose last pixel is the last one before that, the next one in its row
+        or the last one of the tile to the left; as targets and as sources. Then surfaces of no tiles."""
+        self.depth, form = DEPTHS[which], FORMAT[DEPTHS[which]] << 16
+        self.set(clip0Max=0x0FFF0FFF, colorFore=self.draw(32))
+        cuts = ((0, 0), (0, 127), (31, self.near(1, 126)), (self.near(1, 30), self.near(1, 126)))
+        for stride, (row, column) in itertools.product(range(1, 5), cuts):
+            across, down = self.pick((stride - 1, stride // 2)), self.near(0, 1)
+            base = TILE_BIT | self.size - 4096 * (stride * down + across) - 128 * row - column
+            x, y = (128 * across + column) * 8 // self.depth, 32 * down + row  # the first pixel that is not there whole
+            width, height = self.near(1, min(5, x)), self.near(1, min(5, y + 1))
+            lasts = [(x - 1, y), (x, y), (self.edge(across) - 1, 32 * down + 31)]
+            places = [xy(x - width + 1, y - height + 1) for x, y in lasts if x >= width - 1]
+            self.set(dstBaseAddr=base, dstFormat=form | stride, dstSize=xy(width, height))
+            self.put(COMMAND, 0xCC000000 | FILL)
+            for place in places:
+                self.launch(place)
+            self.set(dstBaseAddr=self.near(0, 99), dstFormat=form | 32, dstXY=0, srcBaseAddr=base, srcFormat=form | stride)
+            self.put(COMMAND, 0x66000000 | COPY)
+            for place in places:
+                self.launch(place)
+        self.set(dstBaseAddr=TILE_BIT | 9000, srcBaseAddr=TILE_BIT | 20_000, srcXY=0)
+        for target, source in ((0, 1), (1, 0)):
+            self.set(dstFormat=form | target, srcFormat=form | source, dstXY=0)
+            for size, number in itertools.product((xy(1, 1), xy(0, 1)), (FILL, COPY)):
+                self.set(dstSize=size)
+                self.put(COMMAND, 0xCC000100 | number)
+
+    def way(self, tile: int, right: int, below: int) -> tuple[int, int, int]:
+        """How many tiles across, and which column and row of tiles up to these, make the tile of this number."""
+        ways = [(tile // row, tile % row, row) for row in range(1, below + 1)]
+        return self.pick([way for way in ways if way[1] < way[0] <= 0x3FFF and way[1] <= right])
+
+    def far_tiles(self, numbers: tuple[int, ...], right: int, below: int) -> list[tuple[int, int, int, int]]:
+        """Base, tiles across, column and row of tiles: of tile 5 and of those with these numbers, of one that only its base
+        carries past 2^32, and of two that would be in memory but for a high bit of the stride."""
+        ways = [(self.near(0, 3000), *self.way(tile, right, below)) for tile in (5, *numbers)]
+        return [*ways, (0xFFFFFF, *self.way((1 << 20) - 4095, right, below)), (self.near(0, 3000), 0x0081, 0, 1),
+                (self.near(0, 3000), 0x2001, 0, 1)]
+
+    def beyond(self, which: int) -> None:
+        """Pixels of large surfaces whose bytes are 2^24, 2^31, 2^32 or 2^33 past some that are in memory, each a 7; and one
+        that is in memory. As targets and as sources."""
+        self.depth, form, numbers = DEPTHS[which], FORMAT[DEPTHS[which]] << 16, (1 << 12, 1 << 19, 1 << 20, (1 << 20) + 5)
+        self.set(srcBaseAddr=30_000, dstSize=xy(1, 1), srcSize=xy(1, 1), srcFormat=1 << 22)
+        for base, stride, column, row in self.far_tiles(numbers, 4094 * self.depth // 1024, 127):
+            x, y = -(-1024 * column // self.depth), 32 * row + self.near(0, 30)
+            self.set(dstBaseAddr=TILE_BIT | base, dstFormat=form | stride, dstXY=xy(x, y), srcXY=0, clip0Max=0)
+            self.put(COMMAND, 0xCC000100 | FILL)
+            self.set(clip0Max=0x0FFF0FFF)
+            for number in (FILL, COPY, STRETCH, HOST):
+                self.put(COMMAND, 0xCC000100 | number)
+            self.put(COMMAND, 0xCC000000 | LINE)
+            for place in (xy(x, y), 0):
+                self.set(srcXY=place)
+                self.launch(place)
+        self.set(dstBaseAddr=30_000, dstFormat=form | 64)
+        for base, stride, column, row in self.far_tiles((*numbers, 1 << 21), 8190 * self.depth // 1024, 255):
+            x, y = -(-1024 * column // self.depth), 32 * row + self.near(0, 30)
+            right, below = (self.near(max(0, at - 4095), min(at, 4095)) for at in (x, y))  # so far from srcXY
+            self.set(srcBaseAddr=TILE_BIT | base, srcFormat=form | stride, srcXY=xy(x - right, y - below),
+                     clip0Min=0, clip0Max=xy(1, 1), dstXY=xy(-right, -below), dstSize=xy(right + 1, below + 1))
+            self.put(COMMAND, 0xCC000100 | COPY)
+            self.set(clip0Min=xy(1, 1), clip0Max=xy(2, 2), dstXY=0, dstSize=xy(2, 2),
+                     srcSize=xy(2 * right + 1, 2 * below + 1))
+            self.put(COMMAND, 0xCC000100 | STRETCH)
+
+    def one_place(self, which: int) -> None:
+        """Surfaces on the same bytes: tiled and linear by the same words or with the same rows, one tiled surface, or two
+        that differ in stride, format or base; spans meet or not, or nothing is covered. Then runs of bytes beside tiles."""
+        self.depth, stride = DEPTHS[which], self.near(24, 60)
+        bare, form = self.near(0, 4095), FORMAT[self.depth] << 16
+        tiles, same = TILE_BIT + bare, form + stride
+        other = (FORMAT[{8: 8, 16: 24, 24: 32, 32: 16}[self.depth]] << 16) + stride
+        mixed = [(tiles, same, bare, same), (bare, same, tiles, same), (tiles, form + 1, bare, form + 128),
+                 (bare, form + 128, tiles, form + 1)]
+        both = [(tiles, same, tiles, same), (tiles, same, tiles, same + 1), (tiles, same, tiles, other),
+                (tiles, same, tiles + 1, same)]
+        for target, to, source, of in mixed + both:
+            rows = (to if target == bare else of) & 0x3FFF  # bytes of a linear one
+            last = (128 + 3 * self.depth // 8 - 1) // rows  # the last linear row that meets three pixels by two of a tile
+            self.set(dstBaseAddr=target, dstFormat=to, srcBaseAddr=source, srcFormat=of, srcSize=xy(3, 2))
+            for number in FROM_MEMORY:
+                self.set(clip0Max=0x0FFF0FFF, dstSize=xy(3, 2), dstXY=0)
+                self.put(COMMAND, 0x66000000 | number)
+                for y in (0, last, last + 1):
+                    if target == bare:
+                        self.set(dstXY=xy(0, y))
+                    self.launch(xy(0, 0 if target == bare else y))
+                if bare in (target, source):
+                    self.set(clip0Max=0)
+                    self.launch(0)
+                    self.set(clip0Max=0x0FFF0FFF, dstSize=xy(0, 2))
+                    self.launch(0)
+        for number, place, from_tiles in itertools.product(FROM_MEMORY, range(5), (False, True)):
+            self.beside(number, place, from_tiles)
+
+    def refused(self, which: int) -> None:
+        """Each source that may not be tiled, in copies, stretched copies and host blits, onto a linear target or tiles; with
+        pixels and with none, and before other refusals. And fills and lines, which use no source."""
+        one, stride = xy(1, 1), 1 if which else 64
+        self.set(dstBaseAddr=which << 31 | 9000, srcBaseAddr=TILE_BIT | 20_000, srcSize=one, dstSize=one)
+        for covered in (dict(clip0Max=0x0FFF0FFF), dict(clip0Max=0), dict(clip0Max=0x0FFF0FFF, dstSize=xy(1, 0))):
+            self.set(**covered)
+            for depth in FORMAT:
+                self.set(dstFormat=FORMAT[max(8, depth)] << 16 | stride)
+                for packing in range(4):
+                    self.set(srcFormat=packing << 22 | FORMAT[depth] << 16 | 2)
+                    for number in (COPY, STRETCH, HOST):
+                        self.put(COMMAND, 0xCC000100 | number)
+                for number in (FILL, LINE):
+                    self.put(COMMAND, 0xCC000100 | number)
+                self.put(COMMAND, 0xCC000000 | HOST)
+                self.launch(self.draw(32))
+        self.set(dstSize=one)
+        for fault in (dict(srcSize=0), dict(srcSize=one, dstXY=xy(2000, 0)), dict(dstXY=0, srcXY=xy(2000, 0)),
+                      dict(srcXY=0, dstBaseAddr=which << 31 | 20_000)):
+            self.set(**fault)
+            for form in (FORMAT[1] << 16, FORMAT[32] << 16 | 1 << 22, FORMAT[32] << 16 | 3 << 20):
+                self.set(srcFormat=form)
+                for number in (COPY, STRETCH, HOST):
+                    self.put(COMMAND, 0xCC000100 | number)
+
+    def pairs(self, which: int) -> None:
+        """From each format to each, from and to tiles, where tiles meet; by plain copies or by stretched ones."""
+        number, (width, height) = FROM_MEMORY[which], (12, 5)
+        self.set(clip0Max=0x0FFF0FFF, colorFore=self.draw(32), colorBack=self.draw(32), dstSize=xy(width, height))
+        for depth, tiled in itertools.product(DEPTHS, (0, 1)):
+            self.set(dstBaseAddr=tiled << 31 | self.near(0, 900), dstFormat=FORMAT[depth] << 16 | (3 if tiled else 384),
+                     dstXY=xy(1024 // depth - self.near(1, width - 1), 32 - self.near(1, height - 1)),
+                     srcSize=xy(self.near(1, 20), self.near(1, 8)))
+            self.keys()
+            self.put(COMMAND, self.word(number, 0) & ~(1 << 23 | 3 << 10))
+            for source, from_tiles in itertools.product(FORMAT, (0, 1)):
+                self.set(srcBaseAddr=from_tiles << 31 | self.near(22_600, 23_100),
+                         srcFormat=FORMAT[source] << 16 | (3 if from_tiles else 384))
+                self.launch(xy(1024 // max(8, source) - self.near(0, 11), 32 - self.near(0, 4)))
 
 
 def note(tally: Counter, before: dict[str, int], waited: bool, offset: int, word: int, answer: tuple[int, int],
@@ -508,8 +848,11 @@ def note(tally: Counter, before: dict[str, int], waited: bool, offset: int, word
         tally["host blits", "words"] += 1
         tally["host blits", "words that painted"] += count > 0
         tally["host blits", "finished"] += after.waiting is None and width * height > 0
+        tally["tiles painted", f"host {'mono' if source.depth == 1 else 'colour'} words"] += target.tiled and count > 0
     if not (is_launch(offset) and not waited or offset == COMMAND and asked.flag(8)):
         return
+    if kind in NAMES and kind != NOP and target and number not in (1, 2):
+        note_tiles(tally, asked, name, answer, after.length)
     if number != 0:
         tally["refusals", f"{number} {name} {way}"] += number >= 4
         if number == 5 and kind in (*FROM_MEMORY, HOST) and source and target:
@@ -566,6 +909,115 @@ def note(tally: Counter, before: dict[str, int], waited: bool, offset: int, word
             tally["stretches", f"clipped {edge}"] += cut
 
 
+def in_clip(asked: Engine) -> tuple[range, range]:
+    """The columns and rows of a command's rectangle that the clip leaves, or those of a line's points in it."""
+    left, top, right, bottom = asked.clip()
+    first_x, first_y, past_x, past_y = asked.rectangle()
+    if asked.number() in (LINE, POLYLINE):
+        xs, ys = zip(*[point for point in asked.points() if asked.in_clip(*point)] or [(0, 0)])
+        first_x, first_y, past_x, past_y = min(xs), min(ys), max(xs) + 1, max(ys) + 1
+    return range(max(left, first_x), min(right, past_x)), range(max(top, first_y), min(bottom, past_y))
+
+
+def crosses(surface: Surface, columns: range) -> bool:
+    """There is an edge between tiles inside these columns."""
+    return columns.start * surface.size() // 128 < (columns.stop * surface.size() - 1) // 128
+
+
+def note_tiles(tally: Counter, asked: Engine, name: str, answer: tuple[int, int], length: int) -> None:
+    """Counts what a command that was carried out, or refused, had to do with tiles."""
+    number, count = answer
+    kind, source, target, (columns, rows) = asked.number(), asked.source(), asked.target(), in_clip(asked)
+    nothing = "" if columns and rows else " with nothing covered"
+    if number == 5:
+        if kind in (*FROM_MEMORY, HOST) and source is None and asked.registers["srcBaseAddr"] & TILE_BIT:
+            mono = bits(asked.registers["srcFormat"], 19, 16) == 0
+            tally["tiles refused", f"{name} {'' if kind == HOST else 'mono ' if mono else 'packed '}source{nothing}"] += 1
+        return
+    ends = [("target", target, (columns[0], rows[0]), (columns[-1], rows[-1]))] if not nothing else []
+    if kind in FROM_MEMORY:
+        ends += [("source", source, asked.source_of(*first), asked.source_of(*last)) for _, _, first, last in ends]
+        note_spans(tally, asked, f"{number} {name}", nothing, [surface.span([*both]) for _, surface, *both in ends])
+        tally["tiles at the end", f"{number} {name} from stride 0{nothing}"] += source.tiled and source.step == 0
+    tally["tiles at the end", f"{number} {name} to stride 0{nothing}"] += target.tiled and target.step == 0
+    for side, surface, first, last in ends:
+        if surface.tiled and (kind not in (LINE, POLYLINE) or first == last):
+            note_end(tally, side, surface, last, number, length)
+        if surface.tiled and (count or kind == HOST and number == 0):
+            note_edges(tally, f"{name} {side}", surface, first, last)
+    if not count:
+        return
+    keys, operation = asked.registers["commandExtra"] & 3, bits(asked.registers["command"], 31, 24)
+    if target.tiled:
+        how = {FILL: " patterned" if operation >> 4 != operation & 15 else " solid", LINE: " stippled" * asked.flag(12),
+               POLYLINE: " stippled" * asked.flag(12)}
+        tally["tiles painted", name + how.get(kind, "")] += 1
+        tally["tiles painted", f"{name} keys {keys}"] += 1
+        if kind in (FILL, COPY):
+            note_whole(tally, f"{name} at {target.depth}" + ", plain" * (operation == 0xCC and not keys), asked)
+    if kind in FROM_MEMORY and (source.tiled or target.tiled):
+        way = " to ".join("tiles" if surface.tiled else "linear" for surface in (source, target))
+        tally["tiles copied", f"{name} {way}"] += 1
+        tally["tiles copied", f"{way} {source.depth}-{target.depth}"] += 1
+
+
+def note_end(tally: Counter, side: str, surface: Surface, last: Pixel, number: int, length: int) -> None:
+    """Counts how the last pixel lies to the end of memory."""
+    (x, y), high = last, surface.address(*last, surface.size() - 1)
+    if number == 0 and x + 1 < surface.columns():
+        tally["tiles at the end", f"0 {side} up to it"] += not surface.has(x + 1, y, length)
+    if number == 7 and 0 <= x < surface.columns() and y >= 0 and high >= length:
+        power = max((power for power in (24, 31, 32, 33) if high >> power), default=0)
+        tally["tiles at the end", f"7 {side} past {f'2^{power}' if power else 'it'}"] += 1
+        tally["tiles at the end", f"7 {side} one pixel past it"] += x > 0 and surface.has(x - 1, y, length)
+
+
+def note_edges(tally: Counter, name: str, surface: Surface, first: Pixel, last: Pixel) -> None:
+    """Counts strides and bases, and the edges between tiles inside what is covered or taken."""
+    columns = range(first[0], last[0] + 1)
+    tally["tiles across", f"{name} {surface.step if surface.step <= 4 else 'more'}"] += 1
+    tally["tiles from a base", f"{name} {'no ' * (surface.base % 4096 > 0)}multiple of a tile"] += 1
+    tally["tile edges", f"{name} columns"] += crosses(surface, columns)
+    tally["tile edges", f"{name} rows"] += first[1] // 32 < last[1] // 32
+    tally["tile edges", f"{name} inside a pixel"] += any(crosses(surface, range(x, x + 1)) for x in columns)
+
+
+def note_whole(tally: Counter, name: str, asked: Engine) -> None:
+    """Counts fills and copies with whole tiles in them."""
+    source, target, (columns, rows) = asked.source(), asked.target(), in_clip(asked)
+    left, right = columns.start * target.size(), columns.stop * target.size()
+    across, down = right // 128 - -(-left // 128), rows.stop // 32 - -(-rows.start // 32)
+    if across <= 0 or down <= 0:
+        return
+    exact = left % 128 == right % 128 == rows.start % 32 == rows.stop % 32 == 0
+    tally["whole tiles", name + ", nothing else" * exact] += 1
+    tally["whole tiles", f"{across * down} of them" if across * down < 5 else "more of them"] += 1
+    if asked.number() == COPY:
+        x, y = asked.source_of(columns[0], rows[0])
+        place = "the same" if x * source.size() % 128 == left % 128 and y % 32 == rows.start % 32 else "another"
+        tally["whole tiles", f"from {place} place in {'a tile' if source.tiled else 'linear rows'}"] += 1
+
+
+def note_spans(tally: Counter, asked: Engine, name: str, nothing: str, spans: list[tuple[int, int]]) -> None:
+    """Counts copies from or to tiles that are taken or an 8, by what the surfaces differ in and how their spans lie."""
+    source, target = asked.source(), asked.target()
+    if name[0] not in "08" or not (source.tiled or target.tiled):
+        return
+    parts = ("base", "step", "depth", "tiled")
+    other = [part for part in parts if getattr(source, part) != getattr(target, part)]
+    which = "one surface" if not other else f"only {other[0]} differs" if len(other) == 1 else "several differ"
+    tally["tiles in one place", f"{name} {which}{nothing}"] += 1
+    rows = [surface.step * (128 if surface.tiled else 1) for surface in (source, target)]
+    alike = source.base == target.base and rows == [128, 128] and source.tiled != target.tiled
+    tally["tiles in one place", f"{name} one tile across and the same linear rows{nothing}"] += alike
+    if spans and (other or asked.number() == STRETCH):
+        (low, high), (source_low, source_high) = spans
+        tally["tiles in one place", f"{name} spans touch"] += high + 1 == source_low or source_high + 1 == low
+        tally["tiles in one place", f"{name} one byte in common"] += high == source_low or source_high == low
+        tally["tiles in one place", f"{name} source's span inside"] += low < source_low and source_high < high
+        tally["tiles in one place", f"{name} target's span inside"] += source_low < low and high < source_high
+
+
 def note_smear(tally: Counter, asked: Engine, corner: int, distance: int) -> None:
     """Counts a copy in which some pixel is read after it was written."""
     left, top, right, bottom = asked.clip()
@@ -577,6 +1029,10 @@ def note_smear(tally: Counter, asked: Engine, corner: int, distance: int) -> Non
     tally["smears", "packed"] += bits(asked.registers["srcFormat"], 23, 22) > 0
     tally["smears", "first column clipped"] += past_x > right if corner & 1 else first_x < left
     tally["smears", "first row clipped"] += past_y > bottom if corner & 2 else first_y < top
+    if asked.target().tiled:
+        (columns, rows), far = in_clip(asked), " by about a tile" * (distance > 9)
+        tally["tiles smeared", f"across columns from corner {corner}{far}"] += crosses(asked.target(), columns)
+        tally["tiles smeared", f"across rows from corner {corner}{far}"] += rows[0] // 32 < rows[-1] // 32
 
 
 def build(k: int, tally: Counter) -> Maker:
@@ -585,11 +1041,22 @@ def build(k: int, tally: Counter) -> Maker:
         maker = Maker(k, 18_000, tally)
         maker.every_distance(k - SMEARS)
         return maker
+    if TILES <= k < TILES + len(PLANNED):
+        plan, which = PLANNED[k - TILES]
+        maker = TileMaker(k, ROOM if plan == "whole" else 45_000, tally)
+        getattr(maker, plan)(which)
+        return maker
     rng = random.Random(1000 + k)
-    size = TINY[k // 19 % 4] if k % 19 == 7 else rng.randint(1024, rng.choice((2048, 4096, 16384)))
-    theme = THEMES[k % len(THEMES)] if k < MIXED else STRETCHES if k < SMEARS else ("smear",)
-    maker = Maker(k, BIG.get(k, size), tally)
-    for offset in range(0x100, 0x200, 4) if theme == ("fill",) or k >= MIXED and k % 4 == 0 else ():
+    if k < TILES:
+        size = TINY[k // 19 % 4] if k % 19 == 7 else rng.randint(1024, rng.choice((2048, 4096, 16384)))
+        theme = THEMES[k % len(THEMES)] if k < MIXED else STRETCHES if k < SMEARS else ("smear",)
+        maker = Maker(k, BIG.get(k, size), tally)
+    else:
+        size = ROOM if k % 2 else CUT[k // 12 % 4] if k % 12 == 0 else rng.randint(9_000, 45_000)
+        theme = ("block",) if k % 2 else ON_TILES
+        maker = TileMaker(k, size, tally)
+    patterned = theme == ("fill",) or MIXED <= k < TILES and k % 4 == 0 or k >= TILES and k % 8 < 2
+    for offset in range(0x100, 0x200, 4) if patterned else ():
         maker.put(offset, maker.draw(32))
     maker.scene()
     if k < SWEEPS:

@@ -1,13 +1,13 @@
 """Samples and vectors for the model: the scope paper's sheets, part 3.5's vectors V1 to V9,
 part 3.3's open points (their numbers in the comments), and of the change requests the
-stretched copy and the smear, worked out by hand. Run: python3 test_model.py"""
+stretched copy, the smear and tiles, worked out by hand. Run: python3 test_model.py"""
 
 import itertools
 import struct
 import unittest
 
 import model
-from model import OFFSETS, Engine, line_points, play, row_view
+from model import OFFSETS, Engine, Surface, line_points, play, row_view
 
 TO8 = "0C=FFF0FFF 14=10020 60=1 64=2 "  # 8 bpp, stride 32, back 1, fore 2
 DOT = TO8 + "68=10001 "  # a rectangle of one pixel
@@ -388,7 +388,9 @@ class Thumbnails(unittest.TestCase):
     def test_answer_5(self):
         one, none, empty = (sizes(*pair) + "70=CC000102" for pair in (((1, 1),) * 2, ((0, 0), (1, 1)), ((1, 1), (0, 0))))
         for text in (one, none, empty):  # before a 6, and with nothing covered
-            for fault in ("54=20020", "54=90020", "54=30020", "34=80000800", "10=80000000", "14=20020", "14=30020"):
+            for fault in ("54=20020", "54=90020", "54=30020", "14=20020", "14=30020"):
+                stretched(f"{fault} {text}!5")
+            for fault in ("34=80000800 54=20", "34=80000800 54=410020"):  # tiled, and mono or packed
                 stretched(f"{fault} {text}!5")
         stretched(one + "+1")
 
@@ -426,6 +428,173 @@ class Thumbnails(unittest.TestCase):
         stretched(one + sizes((2, 2), (2, 2)) + rows)
         stretched(one + sizes((4, 4), (0, 4)) + "70=CC000102 0C=0 " + sizes((4, 4), (4, 4)) + "70=CC000102")
         stretched("34=0 54=1 " + sizes((8, 1), (8, 1)) + "6C=1 70=CC000102+8 6C=0 70=CC000102!8")  # mono
+
+
+ONTO = "0C=FFF0FFF 10=80000000 60=1 64=2 68=10001 "  # a tiled target at 0, back 1, fore 2, a rectangle of one pixel
+EDGE = "0C=FFF0FFF 10=80000000 14=10002 60=1 64=2 "  # of 8 bpp, two tiles across: byte column 128 is at 4096
+PRINTED = """
+     1  2  3  4  5  6  7  8
+     9 10 11 12 13 14 15 16
+    17 18 19 20 21 22 23 24
+    25 26 27 28 29 30 31 32
+    33 34 35 36 37 38 39 40
+    41 42 43 44 45 46 47 48
+"""  # source document 002, tiled frame buffer access: 1024 bytes by 192 lines
+
+
+def painted(card):
+    """Where bytes are not 0."""
+    return [at for at, byte in enumerate(card.mem) if byte]
+
+
+def across(card, y=0):
+    """Byte columns 126 to 129 of a row in the first two tiles."""
+    return bytes(card.mem[128 * y + 126:128 * y + 128] + card.mem[4096 + 128 * y:4098 + 128 * y])
+
+
+class Tiles(unittest.TestCase):
+    def test_map(self):
+        self.assertEqual(Surface(0, 8, 8, True).address(128, 32, 0), 9 * 4096)
+        self.assertEqual(Surface(0, 3, 8, True).address(5, 33, 0), 3 * 4096 + 133)
+        self.assertEqual(Surface(0, 2, 24, True).places(42, 0), [126, 127, 4096])
+        self.assertEqual(Surface(7, 3, 24, True).places(85, 33), [4 * 4096 + 262, 5 * 4096 + 135, 5 * 4096 + 136])
+        self.assertEqual(Surface(0, 2, 32, True).places(32, 31), [4096 + 31 * 128 + k for k in range(4)])
+
+    def test_printed_tiles(self):  # each has its 4,096 bytes, row by row
+        surface = Surface(0, 8, 8, True)
+        for down, line in enumerate(PRINTED.split("\n")[1:-1]):
+            for along, number in enumerate(line.split()):
+                found = [surface.address(128 * along + x, 32 * down + y, 0) for y in range(32) for x in range(128)]
+                self.assertTrue(found == list(range(4096 * int(number) - 4096, 4096 * int(number))), f"tile {number}")
+        self.assertEqual(surface.columns(), 1024)
+
+    def test_one_owner(self):  # different pixels of a surface have no byte in common
+        for depth, stride in ((8, 3), (16, 2), (24, 1), (24, 3), (32, 2)):
+            surface = Surface(11, stride, depth, True)
+            found = [at for y in range(70) for x in range(surface.columns()) for at in surface.places(x, y)]
+            self.assertEqual(len(set(found)), len(found))
+
+    def test_painted(self):
+        for form, x, places in (("1", 128, [4096]), ("3", 64, [4096, 4097]), ("4", 42, [126, 127, 4096]),
+                                ("5", 31, [124, 125, 126, 127])):
+            card = Card(ONTO + f"14={form}0002 64=44332211 70=CC000005 80={x:X}+1", 8192)
+            self.assertEqual(painted(card), places)
+            self.assertEqual([card.mem[at] for at in places], [0x11, 0x22, 0x33, 0x44][:len(places)])
+        card = Card(EDGE + "68=40001 6C=1E0001 70=CC000105+4", 5 * 4096)  # rows 30 to 33
+        self.assertEqual(painted(card), [30 * 128 + 1, 31 * 128 + 1, 8193, 8321])
+
+    def test_pixels_of_a_row(self):
+        for form, stride, pixels in ((1, 1, 128), (3, 1, 64), (4, 1, 42), (5, 1, 32), (4, 2, 85), (4, 3, 128), (1, 2, 256)):
+            Card(ONTO + f"14={form}000{stride} 70=CC000005 80={pixels - 1:X}+1 80={pixels:X}!7", 16384)
+        Card(ONTO + "14=10000 70=CC000005 80=0!7 68=0 80=0")  # stride 0 has none
+
+    def test_all_bits_of_the_stride(self):
+        self.assertEqual(painted(Card(ONTO + "14=10081 70=CC000005 80=200000+1", 130 * 4096)), [129 * 4096])
+        Card(ONTO + "14=13FFF 70=CC000005 80=1F007F+1 80=200000!7")
+
+    def test_base(self):  # any number
+        card = Card(ONTO + "10=80000005 14=10001 70=CC000005 80=0+1 80=200000+1 80=3E0000+1", 3 * 4096)
+        self.assertEqual(painted(card), [5, 4101, 4101 + 30 * 128])
+        self.assertEqual(card.get("dstBaseAddr"), 0x80000005)
+        Card(ONTO + "10=80001000 14=10001 70=CC000005 80=0!7")
+
+    def test_the_end_of_memory(self):
+        Card(ONTO + "14=10001 70=CC000005 80=210001+1 80=210002!7 80=21007F!7 80=220000!7", 4096 + 130)
+        Card(ONTO + "14=10002 70=CC000005 80=20081+1 80=20082!7 80=1F007F+1 80=30080!7", 4096 + 258)  # in the second tile
+        three = ONTO + "14=40002 70=CC000005 80=10029+1 "  # pixel 42 of row 1: bytes 254, 255 and 4224
+        Card(three + "80=1002A!7", 4224)
+        Card(three + "80=1002A+1", 4225)
+        Card(ONTO + "14=10004 68=40200 70=CC000005 80=0+2048 80=1C0000+2048 68=50001 80=1C0000!7 80=1C01FF!7", 4 * 4096)
+
+    def test_each_command(self):
+        host = "54={} 68=10004 6C=5007E 70=CC000003 80={}+4"
+        for text, row, found in (
+                ("68=10004 6C=7E 70=CC000105+4", 0, b"\2\2\2\2"), ("68=10004 6C=7E 100=82 70=F0012105+2", 0, b"\2\0\2\0"),
+                (host.format("400000", "90"), 5, b"\2\1\1\2"), (host.format("410000", "64636261"), 5, b"abcd"),
+                ("5C=7E 70=CC000006 80=81+4", 0, b"\2\2\2\2"), ("5C=7E 70=CC000007 80=81+3", 0, b"\2\2\2\0"),
+                ("3C=9 40=300 5C=7E 70=CC001006 80=81+4", 0, b"\2\1\1\2")):
+            self.assertEqual(across(Card(EDGE + text, 8192), row), found)
+        card = Card(ONTO + "14=40002 108=33221100 6C=2B 70=F0000105+1", 8192)  # column 43 is 3 in the pattern, in any tile
+        self.assertEqual(card.mem[4096:4101].hex(), "0011223300")
+        for source, command, found in ((4, 1, b"abcd"), (4, 2, b"abcd"), (2, 2, b"aabb")):
+            text = sizes((source, 1), (4, 1)) + f"34=2000 54=10020 6C=7E 70=CC00010{command}+4"
+            self.assertEqual(across(Card(EDGE + text, 9000, bytes(8192) + b"abcd")), found)
+
+    def test_from_tiles(self):
+        start = bytes(126) + b"ab" + bytes(3968) + b"cd"
+        for command in (1, 2):
+            text = sizes((4, 1), (4, 1)) + f"14=10020 54=10002 5C=7E 70=CC00010{command}+4"
+            card = Card("0C=FFF0FFF 10=2000 34=80000000 " + text, 9000, start)
+            self.assertEqual(card.mem[8192:8197], b"abcd\0")
+        card = Card("0C=FFF0FFF 10=2000 14=30020 34=80000000 54=40002 5C=2A 68=10001 70=CC000101+1", 9000, start)
+        self.assertEqual(card.mem[8192:8194].hex(), "0c63")  # 24 bpp 636261, its top byte in the next tile
+
+    def test_smear(self):  # in the order of pixels, whatever their addresses
+        for (far, source, target, after), (axis, size, first, places) in itertools.product(
+                ((0, 0, 1, b"AAAA"), (1, 2, 3, b"AABC"), (0, 1, 0, b"BCDD"), (1, 3, 2, b"DDDD")),
+                ((0, "10003", 126, (126, 127, 4096, 4097)), (1, "30001", 30, (3840, 3968, 8192, 8320)))):
+            card = Card(EDGE + f"34=80000000 54=10002 68={size}", 12288)
+            for at, letter in zip(places, b"ABCD"):
+                card.mem[at] = letter
+            place = [first + at << 16 * axis for at in (source, target)]
+            card.do(f"5C={place[0]:X} 6C={place[1]:X} 70={0xCC000101 | far << 14 + axis:X}+3")
+            self.assertEqual(bytes(card.mem[at] for at in places), after)
+        card = Card(EDGE + "34=80000000 54=10002 68=20002 5C=80 6C=1007F 70=CC000101+4", 8192, bytes(4097) + b"A")
+        self.assertEqual(painted(card), [383, 4097, 4224])  # from (129, 0) to (128, 1) and on to (127, 2)
+
+    def test_refused_sources(self):  # also with nothing covered; a fill uses none
+        for target, nothing in itertools.product(("14=10020", "10=80000000 14=10001"), ("", "0C=0 ", "68=0 ")):
+            start, one = f"0C=FFF0FFF {target} 58=10001 68=10001 34=80000800 {nothing}", "" if nothing else "+1"
+            for form in ("1", "400001", "410001", "810001", "C10001"):
+                Card(start + f"54={form} 70=CC000101!5 70=CC000102!5 70=CC000103!5")
+            Card(start + f"54=10001 70=CC000103!5 70=CC000003 80=0!5 70=CC000105{one} 70=CC000101{one} 70=CC000102{one}")
+
+    def test_before_other_refusals(self):
+        packed, both = "0C=FFF0FFF 14=10020 54=410001 58=10001 68=10001 34=80000000 ", "70=CC000101!{0} 70=CC000102!{0} "
+        for fault, answer in (("6C=20 ", 7), ("", 8)):
+            Card(packed + fault + both.format(5) + "34=0 " + both.format(answer))
+        Card(packed + "58=0 70=CC000102!5 34=0 70=CC000102!6")
+        Card(packed + "54=710001 5C=1 70=CC000103!5 34=0 70=CC000103!6")
+
+    def test_views(self):
+        for width in (0, 1):
+            self.assertEqual(row_view(bytearray(8192), 1 << 31, 0x00010002, 0, 0, width), (5, 0, 0))
+
+    def test_surfaces_differ(self):  # tiled and linear by the same words: an 8 where spans meet
+        for target, source, moved in (("80000000", "0", "5C"), ("0", "80000000", "6C")):
+            same = f"0C=FFF0FFF 10={target} 14=10020 34={source} 54=10020 58=20004 68=20004 "
+            for command in ("CC000101", "CC000102"):
+                Card(same + f"70={command}!8 0C=0 70={command} 0C=FFF0FFF 68=4 70={command}")
+                Card(same + f"{moved}=40000 70={command}!8 {moved}=50000 70={command}+8")  # the tile's bytes are 0 to 131
+        one = EDGE + "34=80000000 54=10002 68=20004 58=20004 5C=1 "
+        Card(one + "70=CC000101+8 70=CC000102!8 5C=40000 70=CC000101+8 70=CC000102+8", 8192)
+        for other in ("54=10003", "54=30002 14=40002", "34=80000001"):
+            Card(one + f"{other} 70=CC000101!8", 8192)
+        Card(one + "14=10001 34=0 54=10080 70=CC000101!8", 8192)  # also where each pixel has the same bytes in both
+
+    def test_spans(self):  # across two tiles they take in what lies between
+        wide = EDGE + "54=10002 68=20002 58=20002 6C=7F "  # bytes 127, 255, 4096 and 4224
+        for base, answer in (("1081", "+4"), ("1080", "!8"), ("200", "!8"), ("7C", "!8"), ("7B", "+4")):
+            Card(wide + f"34={base} 70=CC000101{answer} 70=CC000102{answer}", 8192)
+        one = ONTO + "14=40002 54=40003 58=10001 6C=2A "  # bytes 126, 127 and 4096
+        for base, answer in (("1001", "+1"), ("1000", "!8"), ("FFE", "!8"), ("7C", "!8"), ("7B", "+1")):
+            Card(one + f"34={base} 70=CC000101{answer} 70=CC000102{answer}", 8192)
+
+    def test_no_address_wraps(self):
+        self.assertEqual(Surface(0, 8192, 8, True).address(0, 4096, 0), 2 ** 32)
+        self.assertEqual(Surface(0, 8256, 32, True).address(2048, 4064, 0), 2 ** 32)
+        source = "0C=FFF0FFF 08=10000 10=1000 14=10020 34=80000000 54=12000 58=20001 68=20001 "  # the second row of two
+        for command in ("CC000101", "CC000102"):
+            Card(source + f"5C=FFF0000 70={command}!7 5C=1FFF0000 70={command}+1", 8192)
+        Card(ONTO + "14=52040 70=CC000005 80=FE00800!7 80=0+1", 8192)
+        Card(ONTO + "10=80FFF000 14=10001 70=CC000005 80=0!7 80=200000!7", 8192)  # the latter at 2^24
+
+    def test_program(self):
+        text = stream("10=80000000 14=40002 08=29 0C=2002B 68=10001 64=112233 70=CC000005 80=2A 64=445566 80=10029")
+        self.assertEqual(play(text), "P3\n2 2\n255\n0 0 0\n17 34 51\n68 85 102\n0 0 0\n")
+        self.assertEqual(play(stream("10=80000000 14=10004 08=7F01FF 0C=800200")), "P3\n1 1\n255\n0 0 0\n")
+        for text in ("14=10004 0C=810001", "14=10004 0C=10201", "14=10004 0C=0", "14=10000 0C=10001", "14=20004 0C=10001"):
+            self.assertEqual(play(stream("10=80000000 " + text)), "no picture\n")
 
 
 if __name__ == "__main__":

@@ -27,6 +27,7 @@ DOT = "68=00010001 64=FFFFFFFF 70=CC000005 "
 TO8, TO16, TO24, TO32 = "14=00010010 ", "14=00030020 ", "14=00040031 ", "14=00050040 "
 CLIP = "0C=00080008 "
 THUMB = "68=00040004 70=CC000002 "  # a stretched copy to 4 by 4 pixels
+TILES8, TILES16, TILES24, TILES32 = (f"10=80000123 14=000{number}0003 " for number in (1, 3, 4, 5))  # three tiles across
 EXAMPLE = "14=00050008 0C=00020002 68=00010001 64=00FF8000 70=CC000005 80=00010000 "
 
 NAMED = {
@@ -66,6 +67,54 @@ NAMED = {
     "a base past memory": pairs("10=00FFFFFF 14=00010010 0C=00010001"),
     "a base of many bits": pairs("10=7F000000 14=00010010 0C=00010001"),
     "tiled": pairs("10=80000000 14=00010010 0C=00010001"),
+    "tiled, 8 bpp where four tiles meet": pairs(TILES8 + "08=001C007A 0C=00240086 68=00050008 64=C3 70=CC000005 80=001D007C"),
+    "tiled, 16 bpp where four tiles meet": pairs(TILES16 + "08=001C003A 0C=00240046 68=00050008 64=A5F1 70=CC000005 80=001D003C"),
+    "tiled, 24 bpp where four tiles meet": pairs(TILES24 + "08=001C0024 0C=00240030 68=00050008 64=C3A5F1 70=CC000005 80=001D0026"),
+    "tiled, 32 bpp where four tiles meet": pairs(TILES32 + "08=001C001A 0C=00240026 68=00050008 64=FFC3A5F1 70=CC000005 80=001D001C"),
+    "tiled, 24 bpp, a pixel across two tiles": pairs(TILES24 + "08=00050029 0C=0006002C 68=00010001 64=123456 70=CC000005 80=0005002A"),
+    "tiled, 24 bpp, across the next two": pairs(TILES24 + "08=00250054 0C=00260057 68=00010001 64=123456 70=CC000005 80=00250055"),
+    "tiled, 24 bpp, the last pixel of a row": pairs(TILES24 + "08=0000007F 0C=00010080 68=00010001 64=123456 70=CC000005 80=7F"),
+    "tiled, 24 bpp, a column past it": pairs(TILES24 + "08=0000007F 0C=00010081"),
+    "tiled, one tile across at 24 bpp": pairs("10=80000000 14=00040001 0C=0001002A 68=0001002A 64=123456 70=CC000005 80=0"),
+    "tiled, the pixel that its edge cuts": pairs("10=80000000 14=00040001 0C=0001002B"),
+    "tiled, all of memory": pairs("10=80000000 14=00010004 0C=00800200 68=00500100 64=5A 70=CC000005 80=00180080"),
+    "tiled, a row past memory": pairs("10=80000000 14=00010004 0C=00810200"),
+    "tiled, one byte past memory": pairs("10=80000001 14=00010004 0C=00800200"),
+    "tiled, all but that byte": pairs("10=80000001 14=00010004 08=007F0000 0C=008001FF"),
+    "tiled, the columns of a last row of tiles that memory has": pairs("10=80002000 14=00010003 08=00800000 0C=00A00100"),
+    "tiled, a column more": pairs("10=80002000 14=00010003 08=00800000 0C=00810101"),
+    "tiled, the last rows of a tile that memory ends in": pairs("10=80000100 14=00050001 08=01F00000 0C=01FE0020"),
+    "tiled, a row more": pairs("10=80000100 14=00050001 08=01F00000 0C=01FF0020"),
+    "tiled, 24 bpp, memory ends inside a pixel": pairs("10=8000F000 14=00040002 0C=0001002B"),
+    "tiled, 24 bpp, the pixels before it": pairs("10=8000F000 14=00040002 0C=0001002A"),
+    "tiled, 24 bpp, memory ends after it": pairs("10=8000EFFF 14=00040002 0C=0001002B " + DOT + "80=2A"),
+    "tiled, a base past memory": pairs("10=80FFFFFF 14=00010002 0C=00010001"),
+    "tiled, stride 0": pairs("10=80000000 14=00010000 0C=00010001"),
+    "tiled, more across than there is memory for": pairs("10=80000040 14=00013FFF 08=00180760 0C=00200780 " + DOT + "80=001F077F"),
+    "tiled, its second row of tiles": pairs("10=80000040 14=00013FFF 0C=00210001"),
+    "tiled, format 2": pairs("10=80000000 14=00020002 0C=00010001"),
+    "tiled, then linear on the same words": pairs("10=80000000 14=00010100 08=00000078 0C=00200080 68=00100010 64=5A 70=CC000005 80=00080070 10=0"),
+    "linear, then tiled": pairs("14=00010100 0C=00200080 68=00100030 64=5A 70=CC000005 80=00080040 10=80000000"),
+    "a line across tiles": pairs(TILES8 + "08=001C0070 0C=00240090 64=9C 5C=001D0072 70=CC000006 80=0023008E"),
+    "a stippled polyline across tiles": pairs(TILES24 + "08=001C0020 0C=00240038 60=1234 64=FEDCBA 3C=5A5A 40=01000100 5C=001D0021 70=CC001007 "
+                                              "80=00220035 80=001E0029"),
+    "a mono host blit across tiles": pairs(TILES32 + "08=001C001A 0C=00240026 54=00400000 68=00040008 6C=001E001C 64=FFFFFF 60=102030 "
+                                           "70=CC000003 80=A55A3CC3"),
+    "a host blit of 24 bpp across tiles": pairs(TILES24 + "08=001C0026 0C=0024002E 54=00440000 68=00020002 6C=001F0029 70=CC000003 80=11223344 "
+                                                "80=55667788 80=99AABBCC"),
+    "a copy from tiles to tiles": pairs(TILES16 + "34=80000123 54=00030003 08=001A0038 0C=00280050 68=00050008 64=A5F1 70=CC000005 80=001D003C "
+                                        "6C=00200044 70=CC000001 80=001E003B"),
+    "a column of tiles spread to the right": pairs(TILES24 + "34=80000123 54=00040003 08=00000020 0C=00030040 68=00030001 64=C3A5F1 70=CC000005 "
+                                                   "80=00000024 68=00030010 6C=00000025 70=CC000001 80=00000024"),
+    "a copy from tiles to a linear target": pairs(TILES24 + "0C=0FFF0FFF 68=00040010 64=C3A5F1 70=CC000005 80=001E0024 10=B000 14=00050040 "
+                                                  "0C=00080010 34=80000123 54=00040003 68=00080010 6C=0 70=CC000001 80=001C0022"),
+    "an enlarged copy onto tiles": pairs("10=C000 14=00010010 0C=00100010 68=00020003 64=77 70=CC000005 80=00010001 " + TILES8 + "08=001C0078 "
+                                         "0C=00280088 34=C000 54=00010010 58=00030004 6C=001E007C 68=0008000A 70=CC000002 80=0"),
+    "answer 5, a tiled mono source": pairs(TO32 + CLIP + "34=80001000 54=00000001 68=00010001 70=CC000101"),
+    "answer 5, a tiled packed source": pairs(TO32 + CLIP + "34=80001000 54=00450001 68=00010001 70=CC000101"),
+    "answer 5, a tiled host blit's source": pairs(TO32 + CLIP + "34=80001000 54=00050040 68=00010001 70=CC000103"),
+    "answer 7, past the last tile": pairs("10=80000000 14=00010004 0C=0FFF0FFF " + DOT + "80=00800000"),
+    "answer 8, tiled and linear on the same words": pairs("10=80000000 14=00010040 0C=00080008 54=00010040 68=00020002 70=CC000101"),
     "stride 0": pairs("14=00010000 0C=00010001"),
     "stride 1": pairs("14=00010001 0C=00FF0001"),
     "a column past the stride": pairs(TO16 + "0C=00010011"),
@@ -117,6 +166,22 @@ def seeded(seed: int) -> bytes:
     return stream[:-dice.randrange(1, 8)] if dice.randrange(6) == 0 else stream
 
 
+def seeded_tiles(seed: int) -> bytes:
+    """Fills and copies on a tiled surface around a place where tiles meet, or now and then at its right edge."""
+    dice = random.Random(seed)
+    number, size = dice.choice([(1, 1), (3, 2), (4, 3), (5, 4)])
+    stride, base = dice.randrange(2, 5), 1 << 31 | dice.randrange(9000)
+    x, y = 128 * (stride if dice.randrange(8) == 0 else dice.randrange(1, stride)) // size, 32 * dice.randrange(1, 3)
+    words = [(0x10, base), (0x14, number << 16 | stride), (0x34, base), (0x54, number << 16 | stride),
+             (0x08, y - dice.randrange(2, 9) << 16 | x - dice.randrange(2, 9)), (0x0C, y + dice.randrange(1, 9) << 16 | x + dice.randrange(9))]
+    for _ in range(dice.randrange(2, 12)):
+        left, top = x - dice.randrange(9), y - dice.randrange(9)
+        words += [(0x64, dice.getrandbits(32)), (0x68, dice.randrange(1, 12) << 16 | dice.randrange(1, 12)), (0x6C, top << 16 | left),
+                  (0x100 + 4 * dice.randrange(64), dice.getrandbits(32)), (0x70, dice.choice([0xCC, 0x5A, 0x66]) << 24 | dice.choice([5, 1])),
+                  (0x80, top + dice.randrange(-3, 4) << 16 | left + dice.randrange(-3, 4))]
+    return b"".join(struct.pack("<II", *word) for word in words)
+
+
 class Program(unittest.TestCase):
     @classmethod
     def setUpClass(cls):
@@ -132,6 +197,7 @@ class Program(unittest.TestCase):
         for seed in range(40):
             with self.subTest(seed=seed):
                 self.assertEqual(sheet.play(seeded(seed)), model.play(seeded(seed)))
+                self.assertEqual(sheet.play(seeded_tiles(seed)), model.play(seeded_tiles(seed)))
 
     def test_the_longest_text(self):
         self.assertEqual(sheet.play(NAMED["the longest text"]), "P3\n256 256\n255\n" + "255 255 255\n" * 65536)
@@ -148,7 +214,7 @@ class Program(unittest.TestCase):
         return run.communicate()[0].decode()
 
     def test_a_pipe_that_gives_one_byte_at_a_time(self):
-        for name in ("the paper's example", "all but the last byte", "24 bpp", "a mono host blit"):
+        for name in ("the paper's example", "all but the last byte", "24 bpp", "a mono host blit", "a mono host blit across tiles"):
             with self.subTest(name):
                 self.assertEqual(self.one_at_a_time(NAMED[name]), model.play(NAMED[name]))
 
