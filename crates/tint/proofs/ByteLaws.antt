@@ -17,11 +17,11 @@ use Rattle.paint.proofs.Frame.{Bytes}
 use Rattle.tint.specs.Masking.{masked, maskIn, blended}
 
 -- ---- a mask at its lowest byte, and above it
-masked-low : (d keep flip : ℕ) → masked d keep flip % 256 ≡ masked (d % 256) (keep % 256) (flip % 256)
+pub masked-low : (d keep flip : ℕ) → masked d keep flip % 256 ≡ masked (d % 256) (keep % 256) (flip % 256)
 unfolding masked
 masked-low d keep flip = xor-mod (bitAnd d keep) flip 8 ∙ ap (λ (a : ℕ). bitXor a (flip % 256)) (and-mod d keep 8)
 
-masked-high : (d keep flip : ℕ) → masked d keep flip / 256 ≡ masked (d / 256) (keep / 256) (flip / 256)
+pub masked-high : (d keep flip : ℕ) → masked d keep flip / 256 ≡ masked (d / 256) (keep / 256) (flip / 256)
 unfolding masked
 masked-high d keep flip = xor-shr (bitAnd d keep) flip 8 ∙ ap (λ (a : ℕ). bitXor a (flip / 256)) (and-shr d keep 8)
 

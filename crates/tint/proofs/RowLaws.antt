@@ -45,7 +45,7 @@ stays s x y m few b =
     ∙ put-back m (byteOf s x y) 0 (s .bytes) b
 
 -- a pixel goes through its mask and is counted, or it stays
-step : (s : Surface) (x y keep flip adds r : ℕ) (m : List ℕ) → s .bytes < 5 → Bytes m → Sound (s .bytes) keep flip adds
+pub step : (s : Surface) (x y keep flip adds r : ℕ) (m : List ℕ) → s .bytes < 5 → Bytes m → Sound (s .bytes) keep flip adds
     → dab s (px x y) (byMask keep flip adds (readPx m s x y)) (state m r) ≡ state (writePx m s x y (masked (readPx m s x y) keep flip)) (r + adds)
 unfolding dab byMask
 step s x y keep flip zero r m few b sound = let e = sound .left refl in rw (e .0, e .1, stays s x y m few b, add-zero r)

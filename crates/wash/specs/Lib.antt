@@ -1,0 +1,2 @@
+pub mod Wash
+pub mod Count
