@@ -113,6 +113,7 @@ module _ (t : Mono) (w j len n : ℕ) (row : RowMono t w j len n) where
 pub mono-line : {t : Mono} {w h len : ℕ} → CanMono t w h len → (j n : ℕ) → j < h → n + w < 2 ^ 32 → RowMono t w j len n
 mono-line {t} {w} {h} {len} can j n l room = record {
   flat = can .flat;
+  fromFlat = can .fromFlat;
   colour = can .colour;
   target = record {
     wide = can .wide;

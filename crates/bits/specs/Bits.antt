@@ -36,6 +36,7 @@ monoly t ps = map (λ q. touch q (λ now. monoGiving t now q)) ps
 -- row j of a rectangle of w columns, in a memory of len bytes, after n pixels that were written: on both surfaces, and no byte of its source is one of its target
 pub record RowMono (t : Mono) (w j len n : ℕ) : Type 0 where
   pub flat : t .plain .target .tiled ≡ false
+  pub fromFlat : t .from .tiled ≡ false
   pub colour : Colour (t .plain .target)
   pub target : RowOn (t .plain .target) len (t .x) w (t .y + j) n
   pub small : Small (t .from)
@@ -49,6 +50,7 @@ pub record RowMono (t : Mono) (w j len n : ℕ) : Type 0 where
 -- all its rows
 pub record CanMono (t : Mono) (w h len : ℕ) : Type 0 where
   pub flat : t .plain .target .tiled ≡ false
+  pub fromFlat : t .from .tiled ≡ false
   pub colour : Colour (t .plain .target)
   pub wide : t .x + w ≤ 2 ^ 13
   pub high : t .y + h ≤ 2 ^ 13

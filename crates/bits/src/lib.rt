@@ -59,7 +59,7 @@ fn put_run(
     requires { ⌜ ((Colour (p .target) × (p .target .tiled ≡ false)) × RowOn (p .target) (length (now mem)) x m y count) × ((k + m ≤ 8) × (n ≡ p .target .bytes)) ⌝ }
     ensures { λ r. ⌜ (state (now (mem .exit)) r ≡ paint (p .target) (byteTouches p byte k x (across false x m y)) (state (now (mem .entry)) count)) × (r ≤ count + m) ⌝ }
 {
-    let at = surface::byte_of(p.target, x, y, 0);
+    let at = surface::place_in_rows(p.target, x, y);
     let mut r = count;
     let mut i = 0;
     while i < m {
@@ -117,7 +117,7 @@ fn mono_run(mem: &mut [u8], t: Mono, n: u32, w: u32, j: u32, count: u32) -> u32
         let column = t.sx + i;
         let k = column % 8;
         let m = least(8 - k, w - i);
-        let byte = surface::mono_byte(mem, t.from, column, t.sy + j);
+        let byte = surface::mono_in_rows(mem, t.from, column, t.sy + j);
         r = put_run(mem, p, n, byte, k, t.x + i, y, m, r);
         i += m;
     }

@@ -4,7 +4,7 @@ use keys::Range;
 use paint::Source;
 use surface::Surface;
 ghost use mathlib.Core.Path.{_≡_};
-ghost use mathlib.Core.Bool.{cond, _&&_};
+ghost use mathlib.Core.Bool.{false, cond, _&&_};
 ghost use mathlib.Core.Option.{none, some};
 ghost use Prim.Native.Nat.{_+_, _≤_, _<_, _^_};
 ghost use lib.ListN.{length};
@@ -100,7 +100,27 @@ pub fn quad_at(ink: Ink, range: Range, key: bool, old: u32, column: u32) -> u32
     code_at(key, is_hit(ink.dstKey, ink.target.bytes, range, old)) + column * 4
 }
 
-// The pixel at (x, y) becomes v and is counted, or it is left.
+// The pixel at (x, y) of a surface in rows becomes v and is counted, or it is left.
+pub fn put_in_rows(
+    mem: &mut [u8],
+    s: Surface,
+    x: u32,
+    y: u32,
+    left: bool,
+    v: u32,
+    n: u32,
+) -> u32
+    requires { ⌜ (OnColour s (length (now mem)) x y × (s .tiled ≡ false)) × (n + 1 < 2 ^ 32) ⌝ }
+    ensures { λ r. ⌜ (state (now (mem .exit)) r ≡ dab s (px x y) (cond left none (some v)) (state (now (mem .entry)) n)) × (r ≤ n + 1) ⌝ }
+{
+    if left {
+        return n;
+    }
+    surface::put_in_rows(mem, s, x, y, v);
+    n + 1
+}
+
+// The pixel at (x, y) of any surface does.
 pub fn put_pixel(mem: &mut [u8], s: Surface, x: u32, y: u32, left: bool, v: u32, n: u32) -> u32
     requires { ⌜ OnColour s (length (now mem)) x y × (n + 1 < 2 ^ 32) ⌝ }
     ensures { λ r. ⌜ (state (now (mem .exit)) r ≡ dab s (px x y) (cond left none (some v)) (state (now (mem .entry)) n)) × (r ≤ n + 1) ⌝ }

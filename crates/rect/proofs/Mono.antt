@@ -82,6 +82,7 @@ pub can-mono : (t : Task) (w h len : ℕ) → bitwise t ≡ true → Flat t → 
 unfolding monoOf sourcePlace
 can-mono t w h len e flat can orderly = record {
   flat = flat .target;
+  fromFlat = flat .from;
   colour = can .colour;
   wide = can .wide;
   high = can .high;

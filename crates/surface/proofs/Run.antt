@@ -2,22 +2,20 @@
 -- read and written at one to four bytes.
 -- Assumes nothing.
 use mathlib.Core.Path.{_≡_, refl, sym, ap, _∙_}
-use mathlib.Core.Bool.{Bool, true, false, _&&_}
+use mathlib.Core.Bool.{false}
 use mathlib.Core.List.{List}
 use Prim.Native.Nat.{ℕ, _+_, _-_, _*_, _/_, _%_, _<_}
 use native.Mathlib.Nat.{add-zero, add-mul}
 use native.Mathlib.Omega.{arith}
 use native.Mathlib.Decide.{ℕ-discrete}
-use lib.Dec.{eqb}
 use lib.ListN.{getD, set}
-use borrow.Author.Tests.{eqb-true, eqb-false}
 use Rattle.surface.specs.declared.Surface.{Surface}
-use Rattle.surface.specs.Place.{byteAt, byteOf, crosses, readBytes, writeBytes, readPx, writePx, Colour, OnColour, Held}
+use Rattle.surface.specs.Place.{byteAt, byteOf, readBytes, writeBytes, readPx, writePx, Colour, OnColour, Held}
 use Rattle.surface.proofs.Tiles.{tile-run}
 use Rattle.surface.proofs.Rows.{by-layout, byteAt-tiled, byteAt-run}
 use Rattle.surface.proofs.Bytes.{read-there, write-there}
 use Rattle.surface.proofs.Lists.{by-cases}
-use Rattle.surface.proofs.OnLaws.{and-right, colour-byte}
+use Rattle.surface.proofs.OnLaws.{colour-byte}
 
 -- ---- within a pixel
 
@@ -28,20 +26,12 @@ pub data InPiece : Surface → Type 0 where
   by-two : {s : Surface} → s .bytes ≡ 2 → InPiece s
   by-four : {s : Surface} → s .bytes ≡ 4 → InPiece s
 
--- or of the other kind: three bytes a pixel, in tiles
-pub three-bytes : (s : Surface) → crosses s ≡ true → s .bytes ≡ 3
-three-bytes s e = eqb-true (s .bytes) 3 (and-right (s .tiled) (eqb (s .bytes) 3) e)
-
-three-in-rows : (t : Bool) (b : ℕ) → (t && eqb b 3) ≡ false → b ≡ 3 → t ≡ false
-three-in-rows true b e h = absurd (eqb-false b 3 e h)
-three-in-rows false b e h = refl
-
-pub in-piece : (s : Surface) → Colour s → crosses s ≡ false → InPiece s
-in-piece s colour e =
+-- as many as there can be but three
+pub in-piece : (s : Surface) → Colour s → (s .bytes ≡ 3 → ⊥) → InPiece s
+in-piece s colour n =
     by-cases (ℕ-discrete (s .bytes) 1) by-one
     (λ p. by-cases (ℕ-discrete (s .bytes) 2) by-two
-    (λ q. by-cases (ℕ-discrete (s .bytes) 4) by-four
-    (λ r. in-rows (three-in-rows (s .tiled) (s .bytes) e (omega (arith, colour .small .bytes))))))
+    (λ q. by-cases (ℕ-discrete (s .bytes) 4) by-four (λ r. absurd (n (omega (arith, colour .some, colour .small .bytes))))))
 
 -- what ends inside its tile's row follows on in either layout
 byteAt-follows : (s : Surface) (c k y : ℕ) → c % 128 + k < 128 → byteAt s (c + k) y ≡ byteAt s c y + k

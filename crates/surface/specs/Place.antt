@@ -39,10 +39,6 @@ byteAt s column y = cond (s .tiled)
 unfoldable pub byteOf : Surface → ℕ → ℕ → ℕ → ℕ
 byteOf s x y k = byteAt s (x * s .bytes + k) y
 
--- they may lie in two tiles
-abbrev pub crosses : Surface → Bool
-crosses s = s .tiled && eqb (s .bytes) 3
-
 -- the number in the n bytes at the addresses `at k`, `at (k + 1)`, .., low byte first
 unfoldable pub readBytes : List ℕ → (ℕ → ℕ) → ℕ → ℕ → ℕ
 readBytes m at k zero = 0

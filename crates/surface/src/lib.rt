@@ -1,8 +1,9 @@
 // A surface, and the bytes and bits of its pixels in memory.
 ghost use mathlib.Core.Path.{_≡_};
+ghost use mathlib.Core.Bool.{false};
 ghost use Prim.Native.Nat.{_+_, _-_, _/_, _%_, _^_, _<_};
 ghost use lib.ListN.{length, getD, set};
-ghost use Rattle.surface.specs.Place.{sameSurface, rowBytes, byteAt, byteOf, crosses, readBytes, writeBytes, readPx, writePx, monoBit};
+ghost use Rattle.surface.specs.Place.{sameSurface, rowBytes, byteAt, byteOf, readBytes, writeBytes, readPx, writePx, monoBit};
 ghost use Rattle.surface.specs.Place.{Small, Colour, Near, Held, OnColour, OnMono};
 
 pub struct Surface {
@@ -57,6 +58,14 @@ pub fn byte_of(s: Surface, x: u32, y: u32, k: u32) -> usize
     ensures { λ r. ⌜ r ≡ byteOf s x y k ⌝ }
 {
     byte_at(s, wide(x) * wide(s.bytes) + wide(k), wide(y))
+}
+
+// The address of the first byte of pixel (x, y) of a surface in rows.
+pub fn place_in_rows(s: Surface, x: u32, y: u32) -> usize
+    requires { ⌜ Colour s × (s .tiled ≡ false) ⌝ }
+    ensures { λ r. ⌜ r ≡ byteOf s x y 0 ⌝ }
+{
+    wide(s.base) + wide(y) * wide(s.stride) + wide(x) * wide(s.bytes)
 }
 
 fn get_byte(mem: &[u8], at: usize) -> u32
@@ -116,13 +125,6 @@ pub fn put_bytes(mem: &mut [u8], at: usize, n: u32, v: u32)
     put_byte(mem, at + 3, v2 / 256);
 }
 
-// Whether a pixel's bytes may lie in two tiles.
-fn may_cross(s: Surface) -> bool
-    ensures { λ r. ⌜ r ≡ crosses s ⌝ }
-{
-    s.tiled & (s.bytes == 3)
-}
-
 // A pixel of three bytes, wherever each of them lies.
 fn get_three(mem: &[u8], s: Surface, x: u32, y: u32) -> u32
     requires { ⌜ OnColour s (length (now mem)) x y × (s .bytes ≡ 3) ⌝ }
@@ -150,11 +152,32 @@ fn put_three(mem: &mut [u8], s: Surface, x: u32, y: u32, v: u32)
     put_byte(mem, at2, v1 / 256);
 }
 
+// A pixel of a surface in rows.
+pub fn get_in_rows(mem: &[u8], s: Surface, x: u32, y: u32) -> u32
+    requires { ⌜ OnColour s (length (now mem)) x y × (s .tiled ≡ false) ⌝ }
+    ensures { λ r. ⌜ r ≡ readPx (now (mem .entry)) s x y ⌝ }
+{
+    let at = place_in_rows(s, x, y);
+    get_bytes(mem, at, s.bytes)
+}
+
+pub fn put_in_rows(mem: &mut [u8], s: Surface, x: u32, y: u32, v: u32)
+    requires { ⌜ OnColour s (length (now mem)) x y × (s .tiled ≡ false) ⌝ }
+    ensures { λ _. ⌜ now (mem .exit) ≡ writePx (now (mem .entry)) s x y v ⌝ }
+{
+    let at = place_in_rows(s, x, y);
+    put_bytes(mem, at, s.bytes, v);
+}
+
+// A pixel of either: in rows, of three bytes that may lie in two tiles, or in one piece.
 pub fn get_pixel(mem: &[u8], s: Surface, x: u32, y: u32) -> u32
     requires { ⌜ OnColour s (length (now mem)) x y ⌝ }
     ensures { λ r. ⌜ r ≡ readPx (now (mem .entry)) s x y ⌝ }
 {
-    if may_cross(s) {
+    if !s.tiled {
+        return get_in_rows(mem, s, x, y);
+    }
+    if s.bytes == 3 {
         return get_three(mem, s, x, y);
     }
     let at = byte_of(s, x, y, 0);
@@ -165,12 +188,25 @@ pub fn put_pixel(mem: &mut [u8], s: Surface, x: u32, y: u32, v: u32)
     requires { ⌜ OnColour s (length (now mem)) x y ⌝ }
     ensures { λ _. ⌜ now (mem .exit) ≡ writePx (now (mem .entry)) s x y v ⌝ }
 {
-    if may_cross(s) {
+    if !s.tiled {
+        put_in_rows(mem, s, x, y, v);
+        return;
+    }
+    if s.bytes == 3 {
         put_three(mem, s, x, y, v);
         return;
     }
     let at = byte_of(s, x, y, 0);
     put_bytes(mem, at, s.bytes, v);
+}
+
+// The byte that a mono pixel lies in, of a surface in rows.
+pub fn mono_in_rows(mem: &[u8], s: Surface, x: u32, y: u32) -> u32
+    requires { ⌜ OnMono s (length (now mem)) x y × (s .tiled ≡ false) ⌝ }
+    ensures { λ r. ⌜ (r ≡ getD (now (mem .entry)) (byteAt s (x / 8) y) 0) × (r < 256) ⌝ }
+{
+    let at = wide(s.base) + wide(y) * wide(s.stride) + wide(x / 8);
+    mem[at] as u32
 }
 
 // The byte that a mono pixel lies in.

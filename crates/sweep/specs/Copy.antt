@@ -74,6 +74,11 @@ pub record CanPaint (t : Task) (w h len : ℕ) : Type 0 where
   pub target : allOn (t .ink .target) len (rect false false (t .x) (t .y) w h) ≡ true
   pub origin : t .copies ≡ true → allOn (t .from) len (rect false false (t .sx) (t .sy) w h) ≡ true
 
+-- its surfaces are in rows: the target, and the source of a copy
+pub record Rowwise (t : Task) : Type 0 where
+  pub target : t .ink .target .tiled ≡ false
+  pub from : t .copies ≡ true → t .from .tiled ≡ false
+
 -- within one surface, or between two whose spans do not meet
 abbrev pub Orderly : Task → ℕ → ℕ → Type 0
 Orderly t w h =

@@ -1,4 +1,4 @@
-// Rectangles filled or copied pixel by pixel, row by row from one corner.
+// Rectangles on surfaces in rows filled or copied pixel by pixel, row by row from one corner.
 use ink::Ink;
 use keys::Range;
 use paint::Source;
@@ -10,7 +10,7 @@ ghost use lib.ListN.{length};
 ghost use Rattle.surface.specs.Pixels.{px, across, rect};
 ghost use Rattle.paint.specs.Paint.{state, paint};
 ghost use Rattle.paint.specs.Mix.{source, fillSource};
-ghost use Rattle.sweep.specs.Copy.{sourceBy, inTurn, HasSource, RowReady, CanPaint};
+ghost use Rattle.sweep.specs.Copy.{sourceBy, inTurn, HasSource, RowReady, CanPaint, Rowwise};
 ghost use Rattle.sweep.specs.Row.{inRow, SourceKey, TargetKey, Laid};
 
 // A rectangle's work: the ink; where it is copied from, if it is; and the first pixel of the source and of the target.
@@ -24,7 +24,7 @@ pub struct Task {
     pub y: u32,
 }
 
-fn fill_source(ink: Ink, bit: u32) -> Source
+pub fn fill_source(ink: Ink, bit: u32) -> Source
     ensures { λ r. ⌜ r ≡ fillSource ink bit ⌝ }
 {
     Source {
@@ -36,7 +36,7 @@ fn fill_source(ink: Ink, bit: u32) -> Source
 
 // The source of pixel (x, y); `bit` is the bit of a mono pattern there, and `range` that of the source key.
 fn source_at(mem: &[u8], t: Task, range: Range, bit: u32, x: u32, y: u32) -> Source
-    requires { ⌜ HasSource t (length (now mem)) x y × SourceKey t range ⌝ }
+    requires { ⌜ HasSource t (length (now mem)) x y × (SourceKey t range × Rowwise t) ⌝ }
     ensures { λ r. ⌜ r ≡ sourceBy t bit (now (mem .entry)) (px x y) ⌝ }
 {
     let ink = t.ink;
@@ -50,7 +50,7 @@ fn source_at(mem: &[u8], t: Task, range: Range, bit: u32, x: u32, y: u32) -> Sou
     if bytes == 0 {
         return paint::bit_source(ink, surface::get_bit(mem, from, sx, sy));
     }
-    plan::source_of(ink, range, bytes, surface::get_pixel(mem, from, sx, sy))
+    plan::source_of(ink, range, bytes, surface::get_in_rows(mem, from, sx, sy))
 }
 
 // The w pixels of row y, from the left or from the right, after n that were written; `quads` and `bits` are of the pattern's row there.
@@ -66,7 +66,7 @@ fn paint_across(
     back: bool,
     n: u32,
 ) -> u32
-    requires { ⌜ RowReady t w y (length (now mem)) n × (SourceKey t source × TargetKey t target) ⌝ }
+    requires { ⌜ RowReady t w y (length (now mem)) n × ((SourceKey t source × TargetKey t target) × Rowwise t) ⌝ }
     ensures { λ r. ⌜ (state (now (mem .exit)) r ≡ paint (t .ink .target) (inRow t quads bits (across back (t .x) w y)) (state (now (mem .entry)) n)) × (r ≤ n + w) ⌝ }
 {
     let ink = t.ink;
@@ -78,7 +78,7 @@ fn paint_across(
         let column = ink::pattern_column(ink, x);
         let bit = ink::bit_of(bits, column);
         let s = source_at(mem, t, source, bit, x, y);
-        let old = surface::get_pixel(mem, to, x, y);
+        let old = surface::get_in_rows(mem, to, x, y);
         let k = plan::quad_at(ink, target, s.key, old, column) as usize;
         let v = raster::merge(
             quads[k],
@@ -88,7 +88,7 @@ fn paint_across(
             s.value,
             old,
         );
-        r = plan::put_pixel(mem, to, x, y, s.left, v, r);
+        r = plan::put_in_rows(mem, to, x, y, s.left, v, r);
         i += 1;
     }
     r
@@ -108,7 +108,7 @@ fn paint_row(
     back: bool,
     n: u32,
 ) -> u32
-    requires { ⌜ RowReady t w y (length (now mem)) n × ((SourceKey t source × TargetKey t target) × Laid t masks blank) ⌝ }
+    requires { ⌜ RowReady t w y (length (now mem)) n × (((SourceKey t source × TargetKey t target) × Rowwise t) × Laid t masks blank) ⌝ }
     ensures { λ r. ⌜ (state (now (mem .exit)) r ≡ paint (t .ink .target) (inTurn t pattern (across back (t .x) w y)) (state (now (mem .entry)) n)) × (r ≤ n + w) ⌝ }
 {
     let ink = t.ink;
@@ -131,7 +131,7 @@ pub fn paint_rows(
     toLeft: bool,
     toTop: bool,
 ) -> u32
-    requires { ⌜ CanPaint t w h (length (now mem)) ⌝ }
+    requires { ⌜ CanPaint t w h (length (now mem)) × Rowwise t ⌝ }
     ensures { λ r. ⌜ state (now (mem .exit)) r ≡ paint (t .ink .target) (inTurn t pattern (rect toLeft toTop (t .x) (t .y) w h)) (state (now (mem .entry)) 0) ⌝ }
 {
     let ink = t.ink;

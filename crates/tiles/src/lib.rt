@@ -40,7 +40,10 @@ fn fill_tiles(mem: &mut [u8], t: Task, pattern: [u8; 256], w: u32, h: u32) -> u3
         let v = raster::raster(0xcc, 0, t.ink.fore, 0);
         return blocks::solid_blocks(mem, t.ink.target, v, t.x, t.y, w, h);
     }
-    sweep::paint_rows(mem, t, pattern, w, h, false, false)
+    if !t.ink.dstKey & ((0 < w) & (0 < h)) {
+        return wash::wash_rows(mem, t.ink, pattern, t.x, t.y, w, h);
+    }
+    patch::paint_rows(mem, t, pattern, w, h, false, false)
 }
 
 // A rectangle copied to tiles, from tiles or both.
@@ -60,7 +63,7 @@ fn copy_tiles(
         move_apart(mem, t, w, h);
         return w * h;
     }
-    sweep::paint_rows(mem, t, pattern, w, h, toLeft, toTop)
+    patch::paint_rows(mem, t, pattern, w, h, toLeft, toTop)
 }
 
 // A rectangle filled; the count of pixels written.

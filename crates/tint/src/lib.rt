@@ -72,7 +72,7 @@ fn mask_at(ink: Ink, pattern: &[u8; 256], column: u32, row: u32) -> Mask
 }
 
 // The masks of the first rows, at most eight, from pixel (x, y) on.
-fn masks_at(ink: Ink, pattern: &[u8; 256], x: u32, y: u32, rows: u32) -> Masks
+pub fn masks_at(ink: Ink, pattern: &[u8; 256], x: u32, y: u32, rows: u32) -> Masks
     requires { ⌜ Colour (ink .target) × (x ≤ 2 ^ 13) × (y ≤ 2 ^ 13) × (rows ≤ 8) ⌝ }
     ensures { λ r. ⌜ MasksOf ink (now (pattern .entry)) x y rows r ⌝ }
 {
@@ -99,7 +99,7 @@ fn masks_at(ink: Ink, pattern: &[u8; 256], x: u32, y: u32, rows: u32) -> Masks
 }
 
 // How many rows of masks h rows of pixels want.
-fn mask_rows(h: u32) -> u32
+pub fn mask_rows(h: u32) -> u32
     ensures { λ r. ⌜ (r ≤ 8) × ((j : ℕ) → j < h → j % 8 < r) ⌝ }
 {
     if h < 8 {
@@ -109,7 +109,7 @@ fn mask_rows(h: u32) -> u32
 }
 
 // The n bytes from an address on, by the masks' bytes from number `from` on.
-fn tint_bytes(mem: &mut [u8], at: usize, n: usize, keep: &[u8], flip: &[u8], from: usize)
+pub fn tint_bytes(mem: &mut [u8], at: usize, n: usize, keep: &[u8], flip: &[u8], from: usize)
     requires { ⌜ ((i : ℕ) → i < n → at + i < length (now mem)) × (from + n ≤ length (now keep)) × (from + n ≤ length (now flip)) ⌝ }
     ensures { λ _. ⌜ now (mem .exit) ≡ blended (now (keep .entry)) (now (flip .entry)) from at n (now (mem .entry)) ⌝ }
 {
@@ -137,7 +137,7 @@ fn tint_across(
     requires { ⌜ CanTint s (now keep) (now flip) (now adds) first (length (now mem)) x w y n × (bytes ≡ s .bytes) × (w ≤ 8) ⌝ }
     ensures { λ r. ⌜ (state (now (mem .exit)) r ≡ paint s (tintings s (now (keep .entry)) (now (flip .entry)) (now (adds .entry)) first x (across false x w y)) (state (now (mem .entry)) n)) × (r ≤ n + w) ⌝ }
 {
-    let at = surface::byte_of(s, x, y, 0);
+    let at = surface::place_in_rows(s, x, y);
     let many = (w * bytes) as usize;
     let from = (first * bytes) as usize;
     tint_bytes(mem, at, many, keep, flip, from);

@@ -47,14 +47,14 @@ sub-least-2 c = omega (arith, c .before .loop-test .taken)
 least-requires : tie.Need-least-requires Inv-loop μ-loop
 least-requires c κs = search needs
 
-add-mono-byte : tie.Need-add-mono-byte Inv-loop μ-loop
-add-mono-byte c = omega (arith, c .before .before .before .before .before .before .before .before .before .pre .0 .high)
+add-mono-in-rows : tie.Need-add-mono-in-rows Inv-loop μ-loop
+add-mono-in-rows c = omega (arith, c .before .before .before .before .before .before .before .before .before .pre .0 .high)
 
-mono-byte-requires : tie.Need-mono-byte-requires Inv-loop μ-loop
-mono-byte-requires c κs =
+mono-in-rows-requires : tie.Need-mono-in-rows-requires Inv-loop μ-loop
+mono-in-rows-requires c κs =
     let row = c .before .before .before .before .before .before .before .before .before .pre .0 in
     let k = c .before .before .before .before .before .loop in
-    rw (k .inv .1) (record { small = row .small; mono = row .mono; on = row .source (k .i) (c .before .before .before .before .loop-test .taken) })
+    rw (k .inv .1) (record { small = row .small; mono = row .mono; on = row .source (k .i) (c .before .before .before .before .loop-test .taken) }, row .fromFlat)
 
 add-put-run : tie.Need-add-put-run Inv-loop μ-loop
 add-put-run c = omega (arith, c .before .before .before .before .before .before .before .loop-test .taken, c .before .before .before .before .before .before .before .before .before .before .before .before .pre .0 .target .wide)
@@ -93,7 +93,7 @@ loop-again c =
       part-again (a .t .plain .target) (λ q. touch q (λ now. monoGiving (a .t) now q)) (a .t .x) (a .w) (k .i) (m .result) (a .t .y + a .j) (state (k .mem) (k .r)) _
           (omega (arith, m .ensures, u))
           (c .before .before .put-run .ensures .0
-          ∙ byte-once (a .t) (a .w) (a .j) (length (a .mem .now)) (a .count) row (k .i) (m .result) _ (state (k .mem) (k .r)) u (omega (arith, m .ensures, u)) (omega (arith, m .ensures)) (sym (c .before .before .before .before .before .mono-byte .ensures .0))) ∙ k .inv .0,
+          ∙ byte-once (a .t) (a .w) (a .j) (length (a .mem .now)) (a .count) row (k .i) (m .result) _ (state (k .mem) (k .r)) u (omega (arith, m .ensures, u)) (omega (arith, m .ensures)) (sym (c .before .before .before .before .before .mono-in-rows .ensures .0))) ∙ k .inv .0,
       c .before .before .put-run .kept .0 ∙ k .inv .1,
       omega (arith, m .ensures, u),
       omega (arith, c .before .before .put-run .ensures .1),
@@ -122,8 +122,8 @@ mono-run-spec =
     sub-least
     sub-least-2
     least-requires
-    add-mono-byte
-    mono-byte-requires
+    add-mono-in-rows
+    mono-in-rows-requires
     add-put-run
     put-run-requires
     add-i

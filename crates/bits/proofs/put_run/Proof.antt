@@ -24,8 +24,8 @@ Inv-loop mem₀ p n byte k x y m count at r₀ i₀ mem r i =
 abbrev μ-loop : tie.MeasureT-loop
 μ-loop mem₀ p n byte k x y m count at r₀ i₀ mem r i = m - i
 
-byte-of-requires : tie.Need-byte-of-requires Inv-loop μ-loop
-byte-of-requires c κs = search needs
+place-in-rows-requires : tie.Need-place-in-rows-requires Inv-loop μ-loop
+place-in-rows-requires c κs = search needs
 
 loop-holds : tie.Need-loop-holds Inv-loop μ-loop
 loop-holds c =
@@ -61,7 +61,7 @@ add-put-bit c =
     omega (
       arith,
       c .wide .ensures,
-      run-held (a .p .target) (p .0 .0 .1) (length (a .mem .now)) (a .x) (a .y) (a .m) (a .count) (c .before .before .before .loop .i) (a .n) _ (p .0 .1) (c .before .before .loop-test .taken) (p .1 .1) (c .before .before .before .before .byte-of .ensures) .inside,
+      run-held (a .p .target) (p .0 .0 .1) (length (a .mem .now)) (a .x) (a .y) (a .m) (a .count) (c .before .before .before .loop .i) (a .n) _ (p .0 .1) (c .before .before .loop-test .taken) (p .1 .1) (c .before .before .before .before .place-in-rows .ensures) .inside,
     )
 
 put-bit-requires : tie.Need-put-bit-requires Inv-loop μ-loop
@@ -69,7 +69,7 @@ put-bit-requires c κs =
     let a = c .before .before .before .before .before .before .args in
     let p = c .before .before .before .before .before .before .pre in
     let k = c .before .before .before .loop in (
-      rw (k .inv .1, c .wide .ensures) (run-held (a .p .target) (p .0 .0 .1) (length (a .mem .now)) (a .x) (a .y) (a .m) (a .count) (k .i) (a .n) _ (p .0 .1) (c .before .before .loop-test .taken) (p .1 .1) (c .before .before .before .before .byte-of .ensures)),
+      rw (k .inv .1, c .wide .ensures) (run-held (a .p .target) (p .0 .0 .1) (length (a .mem .now)) (a .x) (a .y) (a .m) (a .count) (k .i) (a .n) _ (p .0 .1) (c .before .before .loop-test .taken) (p .1 .1) (c .before .before .before .before .place-in-rows .ensures)),
       omega (arith, c .before .before .loop-test .taken, p .0 .1 .room),
     )
 
@@ -86,7 +86,7 @@ loop-again c =
     let k = c .before .before .before .before .before .before .loop in (
       row-again (a .p .target) (λ q. touch q (λ now. coloured (a .p) (bitOf (a .byte) (a .k + (q .x - a .x))))) false (a .x) (a .m) (k .i) (a .y) (a .x + k .i) (state (k .mem) (k .r)) _
           (c .before .before .before .before .before .loop-test .taken) refl
-          (bit-turn (a .p) (p .0 .0 .1) (a .byte) (a .k) (a .x) (a .y) (k .i) (a .n) _ (state (k .mem) (k .r)) _ (p .1 .1) (c .before .before .before .before .before .before .before .byte-of .ensures) (rw (c .before .before .before .wide .ensures) at (c .before .before .put-bit .ensures .0))) ∙ k .inv .0,
+          (bit-turn (a .p) (p .0 .0 .1) (a .byte) (a .k) (a .x) (a .y) (k .i) (a .n) _ (state (k .mem) (k .r)) _ (p .1 .1) (c .before .before .before .before .before .before .before .place-in-rows .ensures) (rw (c .before .before .before .wide .ensures) at (c .before .before .put-bit .ensures .0))) ∙ k .inv .0,
       c .before .before .put-bit .kept .0 ∙ k .inv .1,
       omega (arith, c .before .before .before .before .before .loop-test .taken),
       omega (arith, c .before .before .put-bit .ensures .1),
@@ -109,7 +109,7 @@ put-run-spec =
     (tie.spec
     Inv-loop
     μ-loop
-    byte-of-requires
+    place-in-rows-requires
     loop-holds
     add-bit
     sub-bit

@@ -118,7 +118,9 @@ returns-3 c =
     (rect (a .toLeft) (a .toTop) (a .t .x) (a .t .y) (a .w) (a .h)) (λ q i now. straight-gives (a .t) straight (a .pattern) now q) (state m 0))
 
 paint-rows-requires : tie.Need-paint-rows-requires
-paint-rows-requires c κs = search needs
+paint-rows-requires c κs =
+    let p = c .before .before .before .before .before .before .before .before .before .pre in
+    (p .1 .0, record { target = p .0 .target; from = λ _. p .0 .from })
 
 same-length-4 : tie.Need-same-length-4
 same-length-4 c = search needs

@@ -2,7 +2,7 @@
 -- Assumes nothing.
 use borrow.Author.Needs.{needs}
 use mathlib.Core.Path.{sym, ap, _∙_}
-use mathlib.Core.Bool.{false}
+use mathlib.Core.Bool.{false, true≢false}
 use mathlib.Core.Option.{some}
 use Prim.Native.Nat.{ℕ}
 use Rattle.surface.specs.Pixels.{rect}
@@ -59,7 +59,9 @@ returns-2 c =
     (rect false false (a .t .x) (a .t .y) (a .w) (a .h)) (λ q i now. fill-alone (a .t) (a .pattern) now now q (c .before .before .before .before .before .before .before .before .before .pre .1 .1)) (state (a .mem .now) 0))
 
 paint-rows-requires : tie.Need-paint-rows-requires
-paint-rows-requires c κs = search needs
+paint-rows-requires c κs =
+    let p = c .before .before .before .before .before .before .pre in
+    (p .1 .0, record { target = p .0; from = λ e. absurd (true≢false (sym e ∙ p .1 .1)) })
 
 same-length-3 : tie.Need-same-length-3
 same-length-3 c = search needs

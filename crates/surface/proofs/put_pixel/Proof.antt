@@ -1,17 +1,14 @@
--- `surface::put_pixel` meets its contract: three bytes on tiles one by one; else the pixel's bytes lie from its first on.
+-- `surface::put_pixel` meets its contract: in rows, three bytes one by one, or one piece.
 -- Assumes nothing.
 use borrow.Author.Needs.{needs}
-use mathlib.Core.Path.{sym, _∙_}
-use Rattle.surface.proofs.Run.{three-bytes, in-piece, pixel-held, write-run}
+use borrow.Author.Tests.{not-true}
+use mathlib.Core.Path.{_∙_}
+use Rattle.surface.proofs.Run.{in-piece, pixel-held, write-run}
 use Rattle.surface.proofs.put_pixel.Statement.{statement}
 use Rattle.surface.proofs.put_pixel.Tie as tie
 
-may-cross-requires : tie.Need-may-cross-requires
-may-cross-requires c κs = search needs
-
-put-three-requires : tie.Need-put-three-requires
-put-three-requires c κs =
-    (c .before .before .before .before .pre, three-bytes (c .before .before .before .before .args .s) (sym (c .before .before .may-cross .ensures) ∙ c .before .if1 .taken))
+put-in-rows-requires : tie.Need-put-in-rows-requires
+put-in-rows-requires c κs = (c .before .before .before .before .pre, not-true _ (c .before .if1 .taken))
 
 same-length : tie.Need-same-length
 same-length c = search needs
@@ -19,33 +16,44 @@ same-length c = search needs
 returns : tie.Need-returns
 returns c = search needs
 
-byte-of-requires : tie.Need-byte-of-requires
-byte-of-requires c κs = search needs
-
-put-bytes-requires : tie.Need-put-bytes-requires
-put-bytes-requires c κs =
-    let on = c .before .before .before .before .before .pre in
-    pixel-held (in-piece _ (on .colour) (sym (c .before .before .before .may-cross .ensures) ∙ c .before .before .if1 .left)) on _ (c .before .byte-of .ensures)
+put-three-requires : tie.Need-put-three-requires
+put-three-requires c κs = (c .before .before .before .before .before .before .pre, c .before .if2 .taken)
 
 same-length-2 : tie.Need-same-length-2
 same-length-2 c = search needs
 
 returns-2 : tie.Need-returns-2
-returns-2 c =
-    let b = c .before .before .before .before .before in
-    let a = b .before .before .before .args in
-    let piece = in-piece (a .s) (b .before .before .before .pre .colour) (sym (b .before .may-cross .ensures) ∙ b .if1 .left) in
-    c .before .before .put-bytes .ensures ∙ write-run (a .s) piece (a .x) (a .y) _ (c .before .before .before .before .byte-of .ensures) (a .v) (a .mem .now)
+returns-2 c = search needs
+
+byte-of-requires : tie.Need-byte-of-requires
+byte-of-requires c κs = search needs
+
+put-bytes-requires : tie.Need-put-bytes-requires
+put-bytes-requires c κs =
+    let on = c .before .before .before .before .before .before .before .pre in
+    pixel-held (in-piece _ (on .colour) (c .before .before .if2 .left)) on _ (c .before .byte-of .ensures)
+
+same-length-3 : tie.Need-same-length-3
+same-length-3 c = search needs
+
+returns-3 : tie.Need-returns-3
+returns-3 c =
+    let f = c .before .before .before .before .before in
+    let b = f .before .before .before .before .before in
+    let a = b .args in
+    c .before .before .put-bytes .ensures ∙ write-run (a .s) (in-piece (a .s) (b .pre .colour) (f .if2 .left)) (a .x) (a .y) _ (c .before .before .before .before .byte-of .ensures) (a .v) (a .mem .now)
 
 pub put-pixel-spec : {M : Type 1} → statement M
 put-pixel-spec =
     tie.close
     (tie.spec
-    may-cross-requires
-    put-three-requires
+    put-in-rows-requires
     same-length
     returns
+    put-three-requires
+    same-length-2
+    returns-2
     byte-of-requires
     put-bytes-requires
-    same-length-2
-    returns-2)
+    same-length-3
+    returns-3)

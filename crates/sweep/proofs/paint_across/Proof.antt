@@ -49,20 +49,20 @@ source-at-requires c κs =
     let in-row = nth-in (a .back) (a .t .x) (a .w) (k .i) (c .before .before .before .before .loop-test .taken) in
     let e = (c .before .before .before .place .ensures) in
     let both = p .each (c .before .before .before .place .result) (omega arith) (omega arith) in
-    rw (k .inv .1) (both .1, (c .before .before .before .before .before .before .before .before .before .pre .1 .0))
+    rw (k .inv .1) (both .1, (c .before .before .before .before .before .before .before .before .before .pre .1 .0 .0, c .before .before .before .before .before .before .before .before .before .pre .1 .1))
 
-get-pixel-requires : tie.Need-get-pixel-requires Inv-loop μ-loop
-get-pixel-requires c κs =
+get-in-rows-requires : tie.Need-get-in-rows-requires Inv-loop μ-loop
+get-in-rows-requires c κs =
     let a = (c .before .before .before .before .before .before .before .before .before .before .before .args) in
     let p = (c .before .before .before .before .before .before .before .before .before .before .before .pre .0) in
     let k = (c .before .before .before .before .before .before .before .loop) in
     let in-row = nth-in (a .back) (a .t .x) (a .w) (k .i) (c .before .before .before .before .before .before .loop-test .taken) in
     let e = (c .before .before .before .before .before .place .ensures) in
     let both = p .each (c .before .before .before .before .before .place .result) (omega arith) (omega arith) in
-    rw (k .inv .1) (both .0)
+    rw (k .inv .1) (both .0, c .before .before .before .before .before .before .before .before .before .before .before .pre .1 .1 .target)
 
 quad-at-requires : tie.Need-quad-at-requires Inv-loop μ-loop
-quad-at-requires c κs = ((c .before .before .before .before .before .before .before .before .before .before .before .before .pre .1 .1), (c .before .before .before .before .before .pattern-column .ensures .1))
+quad-at-requires c κs = ((c .before .before .before .before .before .before .before .before .before .before .before .before .pre .1 .0 .1), (c .before .before .before .before .before .pattern-column .ensures .1))
 
 cast-k : tie.Need-cast-k Inv-loop μ-loop
 cast-k c = search needs
@@ -103,15 +103,15 @@ array-read-merge-4 c = search needs
 merge-requires : tie.Need-merge-requires Inv-loop μ-loop
 merge-requires c κs = search needs
 
-put-pixel-requires : tie.Need-put-pixel-requires Inv-loop μ-loop
-put-pixel-requires c κs =
+put-in-rows-requires : tie.Need-put-in-rows-requires Inv-loop μ-loop
+put-in-rows-requires c κs =
     let a = (c .before .before .before .before .before .before .before .before .before .before .before .before .before .before .before .args) in
     let p = (c .before .before .before .before .before .before .before .before .before .before .before .before .before .before .before .pre .0) in
     let k = (c .before .before .before .before .before .before .before .before .before .before .before .loop) in
     let in-row = nth-in (a .back) (a .t .x) (a .w) (k .i) (c .before .before .before .before .before .before .before .before .before .before .loop-test .taken) in
     let e = (c .before .before .before .before .before .before .before .before .before .place .ensures) in
     let both = p .each (c .before .before .before .before .before .before .before .before .before .place .result) (omega arith) (omega arith) in
-    rw (k .inv .1) (both .0, omega (arith, p))
+    rw (k .inv .1) ((both .0, c .before .before .before .before .before .before .before .before .before .before .before .before .before .before .before .pre .1 .1 .target), omega (arith, p))
 
 add-i : tie.Need-add-i Inv-loop μ-loop
 add-i c = omega (arith, c .before .before .before .before .before .before .before .before .before .before .before .before .before .loop-test .taken, c .before .before .before .before .before .before .before .before .before .before .before .before .before .before .before .before .before .before .pre .0 .room)
@@ -125,14 +125,14 @@ loop-again c =
     let k = (c .before .before .before .before .before .before .before .before .before .before .before .before .before .before .loop) in
     let x = (c .before .before .before .before .before .before .before .before .before .before .before .before .place .result) in
     let given =
-    pixel-given (a .t) (a .t5) (k .mem) (a .bits) x (a .y) (c .before .before .before .before .before .before .before .before .before .before .before .pattern-column .ensures .0) (c .before .before .before .before .before .before .before .before .before .before .bit-of .ensures) (c .before .before .before .before .before .before .before .before .source-at .ensures) (c .before .before .before .before .before .before .get-pixel .ensures) (c .before .before .before .before .before .quad-at .ensures .0)
+    pixel-given (a .t) (a .t5) (k .mem) (a .bits) x (a .y) (c .before .before .before .before .before .before .before .before .before .before .before .pattern-column .ensures .0) (c .before .before .before .before .before .before .before .before .before .before .bit-of .ensures) (c .before .before .before .before .before .before .before .before .source-at .ensures) (c .before .before .before .before .before .before .get-in-rows .ensures) (c .before .before .before .before .before .quad-at .ensures .0)
     (c .before .before .before .before .merge .ensures) in
     let given-touch : Px → Touch = (λ p. touch p (λ now. rowGiving (a .t) (a .t5) (a .bits) now p)) in (
       row-again (a .t .ink .target) given-touch (a .back) (a .t .x) (a .w) (k .i) (a .y) x (state (k .mem) (k .r)) _ (c .before .before .before .before .before .before .before .before .before .before .before .before .before .loop-test .taken) (c .before .before .before .before .before .before .before .before .before .before .before .before .place .ensures)
-          ((c .before .before .put-pixel .ensures .0) ∙ ap (λ (o : Option ℕ). dab (a .t .ink .target) (px x (a .y)) o (state (k .mem) (k .r))) given) ∙ k .inv .0,
-      (c .before .before .put-pixel .kept .0) ∙ k .inv .1,
+          ((c .before .before .put-in-rows .ensures .0) ∙ ap (λ (o : Option ℕ). dab (a .t .ink .target) (px x (a .y)) o (state (k .mem) (k .r))) given) ∙ k .inv .0,
+      (c .before .before .put-in-rows .kept .0) ∙ k .inv .1,
       omega arith,
-      omega (arith, (c .before .before .put-pixel .ensures .1)),
+      omega (arith, (c .before .before .put-in-rows .ensures .1)),
     )
 
 same-length : tie.Need-same-length Inv-loop μ-loop
@@ -157,7 +157,7 @@ paint-across-spec =
     pattern-column-requires
     bit-of-requires
     source-at-requires
-    get-pixel-requires
+    get-in-rows-requires
     quad-at-requires
     cast-k
     mul-merge
@@ -172,7 +172,7 @@ paint-across-spec =
     mul-merge-4
     array-read-merge-4
     merge-requires
-    put-pixel-requires
+    put-in-rows-requires
     add-i
     loop-less
     loop-again

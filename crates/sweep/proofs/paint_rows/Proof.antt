@@ -45,18 +45,18 @@ loop-holds c =
     )
 
 place-requires : tie.Need-place-requires Inv-loop μ-loop
-place-requires c κs = (c .loop-test .taken, c .before .before .before .before .before .before .before .before .pre .high)
+place-requires c κs = (c .loop-test .taken, c .before .before .before .before .before .before .before .before .pre .0 .high)
 
 paint-row-requires : tie.Need-paint-row-requires Inv-loop μ-loop
 paint-row-requires c κs =
     let a = c .before .before .before .before .before .before .before .before .before .before .args in
     let k = c .before .before .before .loop in
-    let p = c .before .before .before .before .before .before .before .before .before .before .pre in
+    let p = c .before .before .before .before .before .before .before .before .before .before .pre .0 in
     let in-rows = nth-in (a .toTop) (a .t .y) (a .h) (k .j) (c .before .before .loop-test .taken) in
     let e = c .before .place .ensures in
     rw (k .inv .1) (
       can-row p (c .before .place .result) (k .n) (omega arith) (omega arith) (omega (arith, p .wide, p .high)),
-      ((c .before .before .before .before .before .before .before .range-of .ensures, c .before .before .before .before .before .before .range-of2 .ensures), record { bits = c .before .before .before .before .before .masks-of .ensures; unread = c .before .before .before .before .quads-of .ensures }),
+      (((c .before .before .before .before .before .before .before .range-of .ensures, c .before .before .before .before .before .before .range-of2 .ensures), c .before .before .before .before .before .before .before .before .before .before .pre .1), record { bits = c .before .before .before .before .before .masks-of .ensures; unread = c .before .before .before .before .quads-of .ensures }),
     )
 
 add-j : tie.Need-add-j Inv-loop μ-loop
@@ -69,7 +69,7 @@ loop-again : tie.Need-loop-again Inv-loop μ-loop
 loop-again c =
     let a = c .before .before .before .before .before .before .before .before .before .before .before .before .before .args in
     let k = c .before .before .before .before .before .before .loop in
-    let p = c .before .before .before .before .before .before .before .before .before .before .before .before .before .pre in (
+    let p = c .before .before .before .before .before .before .before .before .before .before .before .before .before .pre .0 in (
       rows-again (a .t .ink .target) (λ p. touch p (λ now. giving (a .t) (a .pattern) now now p)) (a .toLeft) (a .toTop) (a .t .x) (a .t .y) (a .w) (a .h) (k .j)
           (c .before .before .before .before .place .result) (state (k .mem) (k .n)) _ (c .before .before .before .before .before .loop-test .taken) (c .before .before .before .before .place .ensures) (c .before .before .paint-row .ensures .0) ∙ k .inv .0,
       c .before .before .paint-row .kept .0 ∙ k .inv .1,

@@ -37,15 +37,15 @@ returns-2 : tie.Need-returns-2
 unfolding sourceBy sourcePlace
 returns-2 c = rw (not-false (c .before .before .before .before .before .before .before .before .before .before .before .before .args .t .copies) (c .before .before .before .before .before .before .before .before .if1 .left), eq-eqb _ _ (c .before .before .if2 .taken), ← (c .before .get-bit .ensures)) (c .bit-source .ensures)
 
-get-pixel-requires : tie.Need-get-pixel-requires
-get-pixel-requires c κs = record { colour = record { small = (c .before .before .before .before .before .before .before .before .before .before .pre .0 .small); some = pos-of-ne (c .if2 .left) }; on = (c .before .before .before .before .before .before .before .before .before .before .pre .0 .on) (not-false (c .before .before .before .before .before .before .before .before .before .before .args .t .copies) (c .before .before .before .before .before .before .if1 .left)) }
+get-in-rows-requires : tie.Need-get-in-rows-requires
+get-in-rows-requires c κs = (record { colour = record { small = (c .before .before .before .before .before .before .before .before .before .before .pre .0 .small); some = pos-of-ne (c .if2 .left) }; on = (c .before .before .before .before .before .before .before .before .before .before .pre .0 .on) (not-false (c .before .before .before .before .before .before .before .before .before .before .args .t .copies) (c .before .before .before .before .before .before .if1 .left)) }, c .before .before .before .before .before .before .before .before .before .before .pre .1 .1 .from (not-false (c .before .before .before .before .before .before .before .before .before .before .args .t .copies) (c .before .before .before .before .before .before .if1 .left)))
 
 source-of-requires : tie.Need-source-of-requires
-source-of-requires c κs = (c .before .before .before .before .before .before .before .before .before .before .before .pre .1)
+source-of-requires c κs = (c .before .before .before .before .before .before .before .before .before .before .before .pre .1 .0)
 
 returns-3 : tie.Need-returns-3
 unfolding sourceBy sourcePlace
-returns-3 c = rw (not-false (c .before .before .before .before .before .before .before .before .before .before .before .before .args .t .copies) (c .before .before .before .before .before .before .before .before .if1 .left), ne-eqb _ _ (c .before .before .if2 .left), ← (c .before .get-pixel .ensures)) (c .source-of .ensures)
+returns-3 c = rw (not-false (c .before .before .before .before .before .before .before .before .before .before .before .before .args .t .copies) (c .before .before .before .before .before .before .before .before .if1 .left), ne-eqb _ _ (c .before .before .if2 .left), ← (c .before .get-in-rows .ensures)) (c .source-of .ensures)
 
 pub source-at-spec : {M : Type 1} → statement M
 source-at-spec =
@@ -60,6 +60,6 @@ source-at-spec =
     get-bit-requires
     bit-source-requires
     returns-2
-    get-pixel-requires
+    get-in-rows-requires
     source-of-requires
     returns-3)

@@ -28,8 +28,8 @@ room c =
     let p = c .pre in
     in-table (c .args .first) (c .args .w) (c .args .bytes) (omega (arith, p .0 .eight, p .2)) (omega (arith, p .0 .colour .small .bytes, p .1))
 
-byte-of-requires : tie.Need-byte-of-requires Inv-loop μ-loop
-byte-of-requires c κs = let p = c .before .before .before .pre .0 .colour in (p, p .some)
+place-in-rows-requires : tie.Need-place-in-rows-requires Inv-loop μ-loop
+place-in-rows-requires c κs = let p = c .before .before .before .pre .0 in (p .colour, p .flat)
 
 mul-many : tie.Need-mul-many Inv-loop μ-loop
 mul-many c = omega (arith, room (c .before .before .before .before))
@@ -47,7 +47,7 @@ tint-bytes-requires : tie.Need-tint-bytes-requires Inv-loop μ-loop
 tint-bytes-requires c κs =
     let b = c .before .before .before .before .before in
     let p = b .pre in (
-      rw (c .before .byte-of .ensures, p .1) (λ i h. row-held (p .0) i h),
+      rw (c .before .place-in-rows .ensures, p .1) (λ i h. row-held (p .0) i h),
       omega (arith, room b, p .0 .keeps),
       omega (arith, room b, p .0 .flips),
     )
@@ -105,7 +105,7 @@ returns c =
     let a = s .args in
     let p = s .pre in (
       ap₂ state
-          (b .tint-bytes .ensures ∙ ap₂ (λ (at n : ℕ). blended (a .keep .now) (a .flip .now) (a .first * n) at (a .w * n) (a .mem .now)) (b .before .before .byte-of .ensures) (p .1))
+          (b .tint-bytes .ensures ∙ ap₂ (λ (at n : ℕ). blended (a .keep .now) (a .flip .now) (a .first * n) at (a .w * n) (a .mem .now)) (b .before .before .place-in-rows .ensures) (p .1))
           (sym (total-none (a .adds .now) (a .first) (a .w) (l .i) (l .r) (c .loop-test .left)) ∙ l .inv .0)
           ∙ row-blended (a .s) (a .keep .now) (a .flip .now) (a .adds .now) (a .first) (a .x) (a .y) (p .0 .flat) (p .0 .colour .some) (p .0 .colour .small .bytes)
           (λ i. omega (arith, b .before .before .before .before .shared-slice-known .given i)) (λ i. omega (arith, b .before .before .before .shared-slice-known2 .given i))
@@ -119,7 +119,7 @@ tint-across-spec =
     (tie.spec
     Inv-loop
     μ-loop
-    byte-of-requires
+    place-in-rows-requires
     mul-many
     cast-many
     mul-from
