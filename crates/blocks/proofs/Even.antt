@@ -1,11 +1,11 @@
 -- Rows of one value: those that are there go on below.
 -- Assumes nothing.
-use mathlib.Core.Path.{_≡_, refl, sym, ap, ap₂, _∙_}
+use mathlib.Core.Path.{_≡_, refl, ap, ap₂, _∙_}
 use mathlib.Core.List.{List}
 use Prim.Native.Nat.{ℕ, _+_, _-_, _*_, _/_, _%_, _^_, _<_, _≤_}
 use native.Mathlib.Omega.{arith}
 use lib.Arith.{digits-mod}
-use lib.ListN.{length, getD}
+use lib.ListN.{getD}
 use Rattle.surface.specs.declared.Surface.{Surface}
 use Rattle.surface.specs.Place.{rowBytes, byteAt}
 use Rattle.surface.specs.Pixels.{Px, px, Inside}
@@ -15,7 +15,7 @@ use Rattle.runs.proofs.Even.{byteNumber}
 use Rattle.blocks.specs.declared.Way.{Way}
 use Rattle.blocks.specs.Blocks.{Put, origin, originByte, Goes}
 use Rattle.blocks.proofs.Blocks.{way, put-below}
-use Rattle.blocks.proofs.Pixels.{put-given, given-put, byte-held, byte-column, bytes-wide}
+use Rattle.blocks.proofs.Pixels.{put-given, given-put, byte-held, bytes-wide}
 
 -- the byte of the value at a column
 abbrev pub columnByte : Surface → ℕ → Px → ℕ

@@ -7,8 +7,8 @@ use mathlib.Core.List.{List}
 use Prim.Native.Nat.{ℕ, _+_, _-_, _*_, _%_, _^_, _<_, _≤_}
 use lib.ListN.{length, getD}
 use Rattle.surface.specs.declared.Surface.{Surface}
-use Rattle.surface.specs.Place.{rowBytes, byteAt, Small, OnColour, Colour}
-use Rattle.surface.specs.Pixels.{Px, px, Inside}
+use Rattle.surface.specs.Place.{rowBytes, byteAt, Small}
+use Rattle.surface.specs.Pixels.{Px, Inside}
 use Rattle.blocks.specs.declared.Way.{Way}
 
 -- the bytes of a rectangle have these values; every other byte is left

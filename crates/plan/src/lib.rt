@@ -101,15 +101,7 @@ pub fn quad_at(ink: Ink, range: Range, key: bool, old: u32, column: u32) -> u32
 }
 
 // The pixel at (x, y) of a surface in rows becomes v and is counted, or it is left.
-pub fn put_in_rows(
-    mem: &mut [u8],
-    s: Surface,
-    x: u32,
-    y: u32,
-    left: bool,
-    v: u32,
-    n: u32,
-) -> u32
+pub fn put_in_rows(mem: &mut [u8], s: Surface, x: u32, y: u32, left: bool, v: u32, n: u32) -> u32
     requires { ⌜ (OnColour s (length (now mem)) x y × (s .tiled ≡ false)) × (n + 1 < 2 ^ 32) ⌝ }
     ensures { λ r. ⌜ (state (now (mem .exit)) r ≡ dab s (px x y) (cond left none (some v)) (state (now (mem .entry)) n)) × (r ≤ n + 1) ⌝ }
 {

@@ -1,7 +1,6 @@
 -- Runs of bytes: a rectangle of one value, and bytes that have come from elsewhere.
 -- Assumes nothing.
 use mathlib.Core.Path.{_≡_}
-use mathlib.Core.Bool.{false}
 use mathlib.Core.List.{List, map}
 use mathlib.Core.Option.{some}
 use Prim.Native.Nat.{ℕ, _+_, _^_, _<_, _≤_}

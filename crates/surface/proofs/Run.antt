@@ -1,7 +1,7 @@
 -- A pixel's bytes lie one after the other from an address on where it falls across no two tiles, and in rows so do the pixels of a row:
 -- read and written at one to four bytes.
 -- Assumes nothing.
-use mathlib.Core.Path.{_≡_, refl, sym, ap, _∙_}
+use mathlib.Core.Path.{_≡_, sym, ap, _∙_}
 use mathlib.Core.Bool.{false}
 use mathlib.Core.List.{List}
 use Prim.Native.Nat.{ℕ, _+_, _-_, _*_, _/_, _%_, _<_}

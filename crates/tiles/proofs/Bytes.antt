@@ -1,6 +1,6 @@
 -- A plain copy that shares no pixel with its source, as bytes that go their way.
 -- Assumes nothing.
-use mathlib.Core.Path.{_≡_, refl, sym, ap, ap₂, subst, _∙_}
+use mathlib.Core.Path.{_≡_, sym, ap, subst, _∙_}
 use mathlib.Core.Bool.{true, false, false≢true}
 use mathlib.Core.List.{List}
 use Prim.Native.Nat.{ℕ, _+_, _-_, _*_, _/_, _%_, _<_, _≤_}
@@ -8,7 +8,7 @@ use native.Mathlib.Nat.{mod-lt, add-mul, div-add-mod'}
 use native.Mathlib.Omega.{arith}
 use lib.ListN.{getD}
 use Rattle.surface.specs.declared.Surface.{Surface}
-use Rattle.surface.specs.Place.{rowBytes, byteAt, byteOf, Colour, OnColour}
+use Rattle.surface.specs.Place.{rowBytes, byteAt, byteOf, OnColour}
 use Rattle.surface.specs.Pixels.{Px, px, Inside}
 use Rattle.spans.proofs.Spans.{IsByte}
 use Rattle.paint.proofs.Owners.{byte-of}

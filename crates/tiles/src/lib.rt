@@ -3,7 +3,6 @@ use blocks::Way;
 use sweep::Task;
 ghost use mathlib.Core.Path.{_≡_};
 ghost use mathlib.Core.Bool.{true, false};
-ghost use Prim.Native.Nat.{_+_};
 ghost use lib.ListN.{length};
 ghost use Rattle.surface.specs.Pixels.{rect};
 ghost use Rattle.paint.specs.Paint.{state, paint};

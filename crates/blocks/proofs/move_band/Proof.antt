@@ -1,11 +1,10 @@
 -- `blocks::move_band` meets its contract: the columns so far have come.
 -- Assumes nothing.
-use mathlib.Core.Path.{_≡_, refl, subst, _∙_}
-use Prim.Native.Nat.{ℕ, _+_, _-_, _<_, _≤_}
+use mathlib.Core.Path.{_≡_, refl, subst}
+use Prim.Native.Nat.{ℕ, _+_, _-_, _≤_}
 use native.Mathlib.Omega.{arith}
 use borrow.Author.Needs.{needs}
-use Rattle.blocks.specs.declared.Way.{Way}
-use Rattle.blocks.specs.Blocks.{Put, originByte, Goes}
+use Rattle.blocks.specs.Blocks.{Put, originByte}
 use Rattle.blocks.proofs.Blocks.{row-small, put-none, put-beside, Part, part-goes, part-put}
 use Rattle.blocks.proofs.move_band.Statement.{statement}
 use Rattle.blocks.proofs.move_band.Tie as tie
@@ -70,7 +69,7 @@ loop-again c =
     let part : Part (a .b) (a .n) (a .h) (a .b .x + i) (a .b .y) (a .b .sx + i) (a .b .sy) i 0 r (a .h) =
     record { left = refl; top = omega arith; left′ = refl; top′ = omega arith; wide = fits; high = omega arith } in (
       put-beside (a .b .to) (originByte (a .b) (a .mem .now)) (a .b .x) (a .b .y) (i + r) (a .h) (omega (arith, p .0 .wide)) i r (omega arith) (omega arith) (inv .0)
-      (part-put (a .b) (p .0) part (a .b .x) (a .b .y) i (a .h) (λ q j. omega arith) (inv .0) (c .before .before .move-block .ensures)),
+          (part-put (a .b) (p .0) part (a .b .x) (a .b .y) i (a .h) (λ q j. omega arith) (inv .0) (c .before .before .move-block .ensures)),
       fits,
     )
 

@@ -1,6 +1,5 @@
 -- `blocks::move_block` meets its contract: a block lies in lines.
 -- Assumes nothing.
-use mathlib.Core.Path.{_≡_}
 use borrow.Author.Needs.{needs}
 use Rattle.blocks.proofs.Blocks.{near-to, near-from, block-lines, block-put}
 use Rattle.blocks.proofs.move_block.Statement.{statement}

@@ -1,11 +1,10 @@
 -- `blocks::move_blocks` meets its contract: the rows so far have come.
 -- Assumes nothing.
-use mathlib.Core.Path.{_≡_, refl, subst, _∙_}
-use Prim.Native.Nat.{ℕ, _+_, _-_, _<_, _≤_}
+use mathlib.Core.Path.{_≡_, refl, subst}
+use Prim.Native.Nat.{ℕ, _+_, _-_, _≤_}
 use native.Mathlib.Omega.{arith}
 use borrow.Author.Needs.{needs}
-use Rattle.blocks.specs.declared.Way.{Way}
-use Rattle.blocks.specs.Blocks.{Put, originByte, Goes}
+use Rattle.blocks.specs.Blocks.{Put, originByte}
 use Rattle.blocks.proofs.Blocks.{put-none, put-below, Part, part-goes, part-put}
 use Rattle.blocks.proofs.move_blocks.Statement.{statement}
 use Rattle.blocks.proofs.move_blocks.Tie as tie
@@ -70,7 +69,7 @@ loop-again c =
     let part : Part (a .b) (a .n) (a .h) (a .b .x) (a .b .y + j) (a .b .sx) (a .b .sy + j) 0 j (a .n) r =
     record { left = omega arith; top = refl; left′ = omega arith; top′ = refl; wide = omega arith; high = fits } in (
       put-below (a .b .to) (originByte (a .b) (a .mem .now)) (a .b .x) (a .b .y) (a .n) (j + r) (p .wide) j r (omega arith) (omega arith) (inv .0)
-      (part-put (a .b) p part (a .b .x) (a .b .y) (a .n) j (λ q i. omega arith) (inv .0) (c .before .before .move-band .ensures)),
+          (part-put (a .b) p part (a .b .x) (a .b .y) (a .n) j (λ q i. omega arith) (inv .0) (c .before .before .move-band .ensures)),
       fits,
     )
 

@@ -1,6 +1,6 @@
 -- `blocks::solid_blocks` meets its contract: the rows so far have the value's bytes.
 -- Assumes nothing.
-use mathlib.Core.Path.{_≡_, refl, ap, subst, _∙_}
+use mathlib.Core.Path.{_≡_, subst, _∙_}
 use Prim.Native.Nat.{ℕ, _+_, _-_, _*_, _<_, _≤_}
 use native.Mathlib.Nat.{mul-comm}
 use native.Mathlib.Omega.{arith}
@@ -53,7 +53,7 @@ loop-holds c =
     let a = c .before .before .before .before .before .before .before .before .before .before .args in
     let p = c .before .before .before .before .before .before .before .before .before .before .pre in (
       even-put (a .s) (a .v) (a .x0) (a .y0) (a .w) (a .h) (p .0) (p .1 .0) (p .1 .1) 1
-      (row-itself (a .s) (a .v) (a .x0) (a .y0) (a .w) (a .h) (a .mem .now) (p .0) (p .1 .1) _ _ (c .before .before .solid-row .ensures .0)),
+          (row-itself (a .s) (a .v) (a .x0) (a .y0) (a .w) (a .h) (a .mem .now) (p .0) (p .1 .1) _ _ (c .before .before .solid-row .ensures .0)),
       omega arith,
       omega (arith, p .1 .1),
     )

@@ -1,6 +1,6 @@
 -- `blocks::to_edge` meets its contract: what is left of the tile, if there is more.
 -- Assumes nothing.
-use mathlib.Core.Path.{_≡_, sym, _∙_}
+use mathlib.Core.Path.{sym, _∙_}
 use mathlib.Core.Bool.{true, false, true≢false}
 use native.Mathlib.Nat.{mod-lt}
 use native.Mathlib.Omega.{arith}

@@ -1,10 +1,8 @@
 -- `surface::mono_in_rows` meets its contract: the pixel's one byte is in memory.
 -- Assumes nothing.
 use borrow.Author.Needs.{needs}
-use mathlib.Core.Path.{_≡_}
 use Prim.Native.Nat.{_+_, _*_, _/_}
 use native.Mathlib.Omega.{arith}
-use Rattle.surface.specs.Place.{byteAt}
 use Rattle.surface.proofs.Bytes.{product-lt}
 use Rattle.surface.proofs.Rows.{byteAt-flat}
 use Rattle.surface.proofs.OnLaws.{mono-byte}
