@@ -113,7 +113,6 @@ module _ {t : Task} {w h len : ℕ} {toLeft toTop : Bool} (mv : Moves t w h len 
   pub row-moves : (y : ℕ) → t .y ≤ y → y < t .y + h → RowMoves t (w * bytes) y len toLeft
   unfolding sourcePlace
   row-moves y top bottom = record {
-    flat = mv .flat;
     target = mv .can .colour;
     source = source-colour;
     first = top;

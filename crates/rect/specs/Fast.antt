@@ -98,7 +98,6 @@ pub record Flat (t : Task) : Type 0 where
 
 -- row y of a rectangle can be moved as a run of n bytes
 pub record RowMoves (t : Task) (n y len : ℕ) (toLeft : Bool) : Type 0 where
-  pub flat : Flat t
   pub target : Colour (t .ink .target)
   pub source : Colour (t .from)
   pub first : t .y ≤ y

@@ -19,8 +19,8 @@ fn move_row(mem: &mut [u8], t: Task, n: usize, y: u32, toLeft: bool)
     requires { ⌜ RowMoves t n y (length (now mem)) toLeft ⌝ }
     ensures { λ _. ⌜ Shifted (toRow t y) (fromRow t y) 0 n (now (mem .entry)) (now (mem .exit)) ⌝ }
 {
-    let d = surface::place_in_rows(t.ink.target, t.x, y);
-    let s = surface::place_in_rows(t.from, t.sx, t.sy + (y - t.y));
+    let d = surface::byte_of(t.ink.target, t.x, y, 0);
+    let s = surface::byte_of(t.from, t.sx, t.sy + (y - t.y), 0);
     if toLeft {
         runs::run_down(mem, d, s, n);
         return;

@@ -54,12 +54,12 @@ pub fn solid_rows(mem: &mut [u8], s: Surface, v: u32, x0: u32, y0: u32, w: u32, 
     if h == 0 {
         return 0;
     }
-    let first = surface::place_in_rows(s, x0, y0);
+    let first = surface::byte_of(s, x0, y0, 0);
     let n = (w * s.bytes) as usize;
     let mut count = solid_row(mem, s, v, x0, w, y0, 0);
     let mut j = 1;
     while j < h {
-        let d = surface::place_in_rows(s, x0, y0 + j);
+        let d = surface::byte_of(s, x0, y0 + j, 0);
         run_up(mem, d, first, n);
         count += w;
         j += 1;

@@ -94,8 +94,8 @@ fn straight_row(
 {
     let from = t.from.bytes;
     let to = t.ink.target.bytes;
-    let d = surface::place_in_rows(t.ink.target, x, y);
-    let s = surface::place_in_rows(t.from, 0, sy);
+    let d = surface::byte_of(t.ink.target, x, y, 0);
+    let s = surface::byte_of(t.from, 0, sy, 0);
     if t.ink.srcKey {
         return straight_across(mem, t, columns, true, from, to, d, s, x, y, w, n);
     }

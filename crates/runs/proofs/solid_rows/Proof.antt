@@ -25,8 +25,8 @@ returns : tie.Need-returns Inv-loop μ-loop
 unfolding rect paint
 returns c = let z : c .before .before .args .h ≡ 0 = c .if1 .taken in rw z refl
 
-place-in-rows-requires : tie.Need-place-in-rows-requires Inv-loop μ-loop
-place-in-rows-requires c κs = let p = c .before .before .pre in (p .1 .colour, p .0)
+byte-of-requires : tie.Need-byte-of-requires Inv-loop μ-loop
+byte-of-requires c κs = let p = c .before .before .pre .1 .colour in (p, p .some)
 
 mul-n : tie.Need-mul-n Inv-loop μ-loop
 mul-n c =
@@ -62,11 +62,11 @@ loop-holds c =
       row-counts (a .s) (a .v) (a .x0) (a .y0) (a .w) (a .h) (a .mem .now) p some _ _ first,
     )
 
-add-place-in-rows : tie.Need-add-place-in-rows Inv-loop μ-loop
-add-place-in-rows c = omega (arith, c .before .before .before .before .before .before .before .before .before .before .pre .1 .high, c .loop-test .taken)
+add-byte-of : tie.Need-add-byte-of Inv-loop μ-loop
+add-byte-of c = omega (arith, c .before .before .before .before .before .before .before .before .before .before .pre .1 .high, c .loop-test .taken)
 
-place-in-rows-requires-2 : tie.Need-place-in-rows-requires-2 Inv-loop μ-loop
-place-in-rows-requires-2 c κs = let p = c .before .before .before .before .before .before .before .before .before .before .pre in (p .1 .colour, p .0)
+byte-of-requires-2 : tie.Need-byte-of-requires-2 Inv-loop μ-loop
+byte-of-requires-2 c κs = let p = c .before .before .before .before .before .before .before .before .before .before .pre .1 .colour in (p, p .some)
 
 run-up-requires : tie.Need-run-up-requires Inv-loop μ-loop
 run-up-requires c κs =
@@ -74,7 +74,7 @@ run-up-requires c κs =
     let flat = c .before .before .before .before .before .before .before .before .before .before .before .before .pre .0 in
     let k = c .before .before .before .loop in
     let taken = c .before .before .loop-test .taken in
-    rw (c .before .place-in-rows2 .ensures, c .before .before .before .before .before .before .before .before .before .place-in-rows .ensures, k .inv .0 .long, c .before .before .before .before .before .before .solid-row .kept .0) (row-run flat p (k .j) taken, row-free flat p (k .j) (k .inv .1) taken)
+    rw (c .before .byte-of2 .ensures, c .before .before .before .before .before .before .before .before .before .byte-of .ensures, k .inv .0 .long, c .before .before .before .before .before .before .solid-row .kept .0) (row-run flat p (k .j) taken, row-free flat p (k .j) (k .inv .1) taken)
 
 add-count : tie.Need-add-count Inv-loop μ-loop
 add-count c =
@@ -96,7 +96,7 @@ loop-again c =
     let flat = c .before .before .before .before .before .before .before .before .before .before .before .before .before .before .before .pre .0 in
     let k = c .before .before .before .before .before .before .loop in
     let taken = c .before .before .before .before .before .loop-test .taken in
-    let run = rw (c .before .before .before .before .place-in-rows2 .ensures, c .before .before .before .before .before .before .before .before .before .before .before .before .place-in-rows .ensures) at (c .before .before .run-up .ensures) in (
+    let run = rw (c .before .before .before .before .byte-of2 .ensures, c .before .before .before .before .before .before .before .before .before .before .before .before .byte-of .ensures) at (c .before .before .run-up .ensures) in (
       one-row-more flat p (a .v) (k .j) _ (k .mem) _ (k .inv .1) taken (k .inv .0) run,
       omega arith,
       omega arith,
@@ -123,13 +123,13 @@ solid-rows-spec =
     Inv-loop
     μ-loop
     returns
-    place-in-rows-requires
+    byte-of-requires
     mul-n
     cast-n
     solid-row-requires
     loop-holds
-    add-place-in-rows
-    place-in-rows-requires-2
+    add-byte-of
+    byte-of-requires-2
     run-up-requires
     add-count
     add-j

@@ -7,16 +7,16 @@ use Rattle.stretch.proofs.Straight.{run-here}
 use Rattle.stretch.proofs.straight_row.Statement.{statement}
 use Rattle.stretch.proofs.straight_row.Tie as tie
 
-place-in-rows-requires : tie.Need-place-in-rows-requires
-place-in-rows-requires c κs = search needs
+byte-of-requires : tie.Need-byte-of-requires
+byte-of-requires c κs = search needs
 
-place-in-rows-requires-2 : tie.Need-place-in-rows-requires-2
-place-in-rows-requires-2 c κs = search needs
+byte-of-requires-2 : tie.Need-byte-of-requires-2
+byte-of-requires-2 c κs = search needs
 
 straight-across-requires : tie.Need-straight-across-requires
 straight-across-requires c κs =
     let p = (c .before .before .before .before .before .pre) in
-    (p .0, (p .1 .0, (run-here refl refl (p .1 .1 .1) (c .before .before .before .place-in-rows .ensures) (c .before .before .place-in-rows2 .ensures) (p .1 .1 .0), sym (c .before .if1 .taken))))
+    (p .0, (p .1 .0, (run-here refl refl (p .1 .1 .1) (c .before .before .before .byte-of .ensures) (c .before .before .byte-of2 .ensures) (p .1 .1 .0), sym (c .before .if1 .taken))))
 
 same-length : tie.Need-same-length
 same-length c = search needs
@@ -33,37 +33,37 @@ add-pair c = search needs
 straight-across-requires-2 : tie.Need-straight-across-requires-2
 straight-across-requires-2 c κs =
     let p = (c .before .before .before .before .before .before .pre) in
-    (p .0, (p .1 .0, (run-here (omega (arith, (c .before .match .keys1), p .0)) (omega (arith, (c .before .match .keys1), p .0)) (p .1 .1 .1) (c .before .before .before .before .place-in-rows .ensures) (c .before .before .before .place-in-rows2 .ensures) (p .1 .1 .0), sym (c .before .before .if1 .left))))
+    (p .0, (p .1 .0, (run-here (omega (arith, (c .before .match .keys1), p .0)) (omega (arith, (c .before .match .keys1), p .0)) (p .1 .1 .1) (c .before .before .before .before .byte-of .ensures) (c .before .before .before .byte-of2 .ensures) (p .1 .1 .0), sym (c .before .before .if1 .left))))
 
 straight-across-requires-3 : tie.Need-straight-across-requires-3
 straight-across-requires-3 c κs =
     let p = (c .before .before .before .before .before .before .pre) in
-    (p .0, (p .1 .0, (run-here (omega (arith, (c .before .match .keys2), p .0)) (omega (arith, (c .before .match .keys2), p .0)) (p .1 .1 .1) (c .before .before .before .before .place-in-rows .ensures) (c .before .before .before .place-in-rows2 .ensures) (p .1 .1 .0), sym (c .before .before .if1 .left))))
+    (p .0, (p .1 .0, (run-here (omega (arith, (c .before .match .keys2), p .0)) (omega (arith, (c .before .match .keys2), p .0)) (p .1 .1 .1) (c .before .before .before .before .byte-of .ensures) (c .before .before .before .byte-of2 .ensures) (p .1 .1 .0), sym (c .before .before .if1 .left))))
 
 straight-across-requires-4 : tie.Need-straight-across-requires-4
 straight-across-requires-4 c κs =
     let p = (c .before .before .before .before .before .before .pre) in
-    (p .0, (p .1 .0, (run-here (omega (arith, (c .before .match .keys3), p .0)) (omega (arith, (c .before .match .keys3), p .0)) (p .1 .1 .1) (c .before .before .before .before .place-in-rows .ensures) (c .before .before .before .place-in-rows2 .ensures) (p .1 .1 .0), sym (c .before .before .if1 .left))))
+    (p .0, (p .1 .0, (run-here (omega (arith, (c .before .match .keys3), p .0)) (omega (arith, (c .before .match .keys3), p .0)) (p .1 .1 .1) (c .before .before .before .before .byte-of .ensures) (c .before .before .before .byte-of2 .ensures) (p .1 .1 .0), sym (c .before .before .if1 .left))))
 
 straight-across-requires-5 : tie.Need-straight-across-requires-5
 straight-across-requires-5 c κs =
     let p = (c .before .before .before .before .before .before .pre) in
-    (p .0, (p .1 .0, (run-here (omega (arith, (c .before .match .keys4), p .0)) (omega (arith, (c .before .match .keys4), p .0)) (p .1 .1 .1) (c .before .before .before .before .place-in-rows .ensures) (c .before .before .before .place-in-rows2 .ensures) (p .1 .1 .0), sym (c .before .before .if1 .left))))
+    (p .0, (p .1 .0, (run-here (omega (arith, (c .before .match .keys4), p .0)) (omega (arith, (c .before .match .keys4), p .0)) (p .1 .1 .1) (c .before .before .before .before .byte-of .ensures) (c .before .before .before .byte-of2 .ensures) (p .1 .1 .0), sym (c .before .before .if1 .left))))
 
 straight-across-requires-6 : tie.Need-straight-across-requires-6
 straight-across-requires-6 c κs =
     let p = (c .before .before .before .before .before .before .pre) in
-    (p .0, (p .1 .0, (run-here (omega (arith, (c .before .match .keys5), p .0)) (omega (arith, (c .before .match .keys5), p .0)) (p .1 .1 .1) (c .before .before .before .before .place-in-rows .ensures) (c .before .before .before .place-in-rows2 .ensures) (p .1 .1 .0), sym (c .before .before .if1 .left))))
+    (p .0, (p .1 .0, (run-here (omega (arith, (c .before .match .keys5), p .0)) (omega (arith, (c .before .match .keys5), p .0)) (p .1 .1 .1) (c .before .before .before .before .byte-of .ensures) (c .before .before .before .byte-of2 .ensures) (p .1 .1 .0), sym (c .before .before .if1 .left))))
 
 straight-across-requires-7 : tie.Need-straight-across-requires-7
 straight-across-requires-7 c κs =
     let p = (c .before .before .before .before .before .before .pre) in
-    (p .0, (p .1 .0, (run-here (omega (arith, (c .before .match .keys6), p .0)) (omega (arith, (c .before .match .keys6), p .0)) (p .1 .1 .1) (c .before .before .before .before .place-in-rows .ensures) (c .before .before .before .place-in-rows2 .ensures) (p .1 .1 .0), sym (c .before .before .if1 .left))))
+    (p .0, (p .1 .0, (run-here (omega (arith, (c .before .match .keys6), p .0)) (omega (arith, (c .before .match .keys6), p .0)) (p .1 .1 .1) (c .before .before .before .before .byte-of .ensures) (c .before .before .before .byte-of2 .ensures) (p .1 .1 .0), sym (c .before .before .if1 .left))))
 
 straight-across-requires-8 : tie.Need-straight-across-requires-8
 straight-across-requires-8 c κs =
     let p = (c .before .before .before .before .before .before .pre) in
-    (p .0, (p .1 .0, (run-here refl refl (p .1 .1 .1) (c .before .before .before .before .place-in-rows .ensures) (c .before .before .before .place-in-rows2 .ensures) (p .1 .1 .0), sym (c .before .before .if1 .left))))
+    (p .0, (p .1 .0, (run-here refl refl (p .1 .1 .1) (c .before .before .before .before .byte-of .ensures) (c .before .before .before .byte-of2 .ensures) (p .1 .1 .0), sym (c .before .before .if1 .left))))
 
 same-length-2 : tie.Need-same-length-2
 same-length-2 c = search needs
@@ -111,8 +111,8 @@ pub straight-row-spec : {M : Type 1} → statement M
 straight-row-spec =
     tie.close
     (tie.spec
-    place-in-rows-requires
-    place-in-rows-requires-2
+    byte-of-requires
+    byte-of-requires-2
     straight-across-requires
     same-length
     returns

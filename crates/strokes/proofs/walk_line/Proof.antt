@@ -38,14 +38,14 @@ abbrev μ-loop : tie.MeasureT-loop
 steps-of-requires : tie.Need-steps-of-requires Inv-loop μ-loop
 steps-of-requires c κs = c .before .before .pre .ahead .line
 
-sub-place-in-rows : tie.Need-sub-place-in-rows Inv-loop μ-loop
-sub-place-in-rows c = c .before .before .before .before .pre .ahead .left
+sub-byte-of : tie.Need-sub-byte-of Inv-loop μ-loop
+sub-byte-of c = c .before .before .before .before .pre .ahead .left
 
-sub-place-in-rows-2 : tie.Need-sub-place-in-rows-2 Inv-loop μ-loop
-sub-place-in-rows-2 c = c .before .before .before .before .before .pre .ahead .top
+sub-byte-of-2 : tie.Need-sub-byte-of-2 Inv-loop μ-loop
+sub-byte-of-2 c = c .before .before .before .before .before .pre .ahead .top
 
-place-in-rows-requires : tie.Need-place-in-rows-requires Inv-loop μ-loop
-place-in-rows-requires c κs = (c .before .before .before .before .before .pre .surface, c .before .before .before .before .before .pre .flat)
+byte-of-requires : tie.Need-byte-of-requires Inv-loop μ-loop
+byte-of-requires c κs = (c .before .before .before .before .before .pre .surface, c .before .before .before .before .before .pre .surface .some)
 
 long-side-requires : tie.Need-long-side-requires Inv-loop μ-loop
 long-side-requires c κs = search needs
@@ -61,7 +61,7 @@ loop-holds c =
       ap (λ (u : ℕ). paint (a .ink .target) (walkTouches (a .ink) (a .pen) u (pointsFrom (a .l) 0 (n - 0))) (state (a .mem .now) 0)) e
           ∙ ap (λ (ps : List Point). paint (a .ink .target) (walkTouches (a .ink) (a .pen) (a .style) ps) (state (a .mem .now) 0)) (from-start (a .l) n refl),
       ap (styleAfter (a .pen) (n - 0)) e ∙ style-start (a .pen) n n (a .style) refl,
-      (λ h. walk-start (a .ink .target) (a .l) _ _ (c .before .before .place-in-rows .ensures) (c .before .long-side .ensures)),
+      (λ h. walk-start (a .ink .target) (a .l) _ _ (c .before .before .byte-of .ensures) (c .before .long-side .ensures)),
       c .phase-of .ensures .0,
       refl,
       omega arith,
@@ -142,9 +142,9 @@ walk-line-spec =
     Inv-loop
     μ-loop
     steps-of-requires
-    sub-place-in-rows
-    sub-place-in-rows-2
-    place-in-rows-requires
+    sub-byte-of
+    sub-byte-of-2
+    byte-of-requires
     long-side-requires
     phase-of-requires
     loop-holds
