@@ -294,6 +294,8 @@ static void tiles_xor_set(void) { tiles_set(1, 0, 0x5a000005); }
 static void tiles_xor_plain(void) { sink += plain_tiles_xor(bytes, place(theirs, 1), n, n, patterns); }
 static void tiles_copy_set(void) { tiles_set(1, 1, 0xcc000001); }
 static void tiles_copy_plain(void) { tiles_copy(1, 1); }
+static void tiles_invert_set(void) { tiles_set(1, 1, 0x66000001); }
+static void tiles_invert_plain(void) { sink += plain_tiles_copy_xor(bytes, place(theirs, 1), place(theirs + SOURCE, 1), n, n); }
 static void to_tiles_set(void) { tiles_set(1, 0, 0xcc000001); }
 static void to_tiles_plain(void) { tiles_copy(1, 0); }
 static void from_tiles_set(void) { tiles_set(0, 1, 0xcc000001); }
@@ -341,6 +343,7 @@ static const struct work works[] = {
     {"solid fill, tiles", 3, 30, 0, tiles_fill_set, launch_at_0, tiles_fill_plain, 0, 0},
     {"pattern fill 5A, tiles", 3, 30, 0, tiles_xor_set, launch_at_0, tiles_xor_plain, 0, 0},
     {"plain copy, tiles", 3, 30, 0, tiles_copy_set, launch_at_0, tiles_copy_plain, 0, 0},
+    {"copy 66, tiles", 3, 30, 0, tiles_invert_set, launch_at_0, tiles_invert_plain, 0, 0},
     {"copy rows to tiles", 3, 30, 0, to_tiles_set, launch_at_0, to_tiles_plain, 0, 0},
     {"copy tiles to rows", 3, 30, 0, from_tiles_set, launch_at_0, from_tiles_plain, 0, 0},
     {"register write", 1, 16, 64, fill_set, write_ours, write_plain, 0, 0},

@@ -480,3 +480,17 @@ u32 plain_tiles_copy(int bytes, struct plain_surface to, int to_tiles, struct pl
     }
     return w * h;
 }
+
+u32 plain_tiles_copy_xor(int bytes, struct plain_surface to, struct plain_surface from, u32 w, u32 h)
+{
+    for (u32 j = 0; j < h; j++) {
+        for (u32 at = 0; at < w * bytes; at += 128) {
+            u8 *d = piece_of(to, 1, at, j);
+            const u8 *s = piece_of(from, 1, at, j);
+            u32 many = piece_size(at, w * bytes);
+            for (u32 i = 0; i < many; i++)
+                d[i] ^= s[i];
+        }
+    }
+    return w * h;
+}

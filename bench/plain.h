@@ -51,6 +51,7 @@ u32 plain_blit_word(struct plain_blit *b, u32 word);
 u32 plain_blit_mono(struct plain_blit *b, u32 word);
 u32 plain_tiles_fill(int bytes, struct plain_surface to, u32 w, u32 h, u32 colour);
 u32 plain_tiles_xor(int bytes, struct plain_surface to, u32 w, u32 h, const u8 *pattern);
+u32 plain_tiles_copy_xor(int bytes, struct plain_surface to, struct plain_surface from, u32 w, u32 h);
 u32 plain_tiles_copy(int bytes, struct plain_surface to, int to_tiles, struct plain_surface from, int from_tiles, u32 w, u32 h);
 u32 plain_write(struct plain_regs *r, u32 offset, u32 word);
 

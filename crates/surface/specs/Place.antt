@@ -14,10 +14,11 @@ use Rattle.surface.specs.declared.Surface.{Surface}
 abbrev pub surface : ℕ → ℕ → ℕ → Surface
 surface base stride bytes = record { base = base; stride = stride; bytes = bytes; tiled = false }
 
--- the same base, step, format and layout
+-- both, or neither
 abbrev pub alike : Bool → Bool → Bool
 alike a b = (a && b) || (not a && not b)
 
+-- the same base, step, format and layout
 abbrev pub sameSurface : Surface → Surface → Bool
 sameSurface a b = eqb (a .base) (b .base) && (eqb (a .stride) (b .stride) && (eqb (a .bytes) (b .bytes) && alike (a .tiled) (b .tiled)))
 
