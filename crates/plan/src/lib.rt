@@ -117,9 +117,9 @@ pub fn put_pixel(mem: &mut [u8], s: Surface, x: u32, y: u32, left: bool, v: u32,
     requires { ⌜ OnColour s (length (now mem)) x y × (n + 1 < 2 ^ 32) ⌝ }
     ensures { λ r. ⌜ (state (now (mem .exit)) r ≡ dab s (px x y) (cond left none (some v)) (state (now (mem .entry)) n)) × (r ≤ n + 1) ⌝ }
 {
-    if left {
-        return n;
+    if !left {
+        surface::put_pixel(mem, s, x, y, v);
+        return n + 1;
     }
-    surface::put_pixel(mem, s, x, y, v);
-    n + 1
+    n
 }
