@@ -4,9 +4,9 @@ ghost use mathlib.Core.Path.{_≡_};
 ghost use mathlib.Core.Bool.{true, false};
 ghost use Prim.Native.Nat.{_+_, _*_, _%_, _<_, _≤_};
 ghost use lib.ListN.{length};
-ghost use Rattle.surface.specs.Pixels.{rect};
+ghost use Rattle.surface.specs.Pixels.{across, rect};
 ghost use Rattle.paint.specs.Paint.{state, paint};
-ghost use Rattle.runs.specs.Runs.{evenly, RectOn};
+ghost use Rattle.runs.specs.Runs.{evenly, RowOn, RectOn};
 ghost use Rattle.blocks.specs.Blocks.{Put, originByte, Laid, pitch, Lines, Goes, Columns, Rows};
 
 // Bytes go from one surface to another: the first column and row of both, columns in bytes.
@@ -128,6 +128,19 @@ pub fn move_blocks(mem: &mut [u8], b: Way, n: usize, h: usize)
     }
 }
 
+// The w pixels of row y from x0 on, each of value v.
+fn solid_line(mem: &mut [u8], s: Surface, v: u32, x0: u32, w: u32, y: u32)
+    requires { ⌜ RowOn s (length (now mem)) x0 w y 0 ⌝ }
+    ensures { λ _. ⌜ state (now (mem .exit)) w ≡ paint s (evenly v (across false x0 w y)) (state (now (mem .entry)) 0) ⌝ }
+{
+    let end = x0 + w;
+    let mut x = x0;
+    while x < end {
+        surface::put_pixel(mem, s, x, y, v);
+        x += 1;
+    }
+}
+
 // A rectangle of one value, whatever the layout: its first row pixel by pixel; then the rows that are there go on below, as many again each time.
 pub fn solid_blocks(mem: &mut [u8], s: Surface, v: u32, x0: u32, y0: u32, w: u32, h: u32) -> u32
     requires { ⌜ RectOn s (length (now mem)) x0 y0 w h × ((0 < w) × (0 < h)) ⌝ }
@@ -138,7 +151,7 @@ pub fn solid_blocks(mem: &mut [u8], s: Surface, v: u32, x0: u32, y0: u32, w: u32
     let y = surface::wide(y0);
     let n = surface::wide(w) * bytes;
     let end = surface::wide(h);
-    runs::solid_row(mem, s, v, x0, w, y0, 0);
+    solid_line(mem, s, v, x0, w, y0);
     let mut j = 1;
     while j < end {
         let k = least(j, end - j);

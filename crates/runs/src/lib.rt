@@ -9,14 +9,14 @@ ghost use Rattle.paint.specs.Paint.{state, paint};
 ghost use Rattle.runs.specs.Runs.{evenly, Shifted, RowOn, RectOn, Run, Up, Down};
 
 // The w pixels of row y from x0 on, each of value v, after n that were written.
-pub fn solid_row(mem: &mut [u8], s: Surface, v: u32, x0: u32, w: u32, y: u32, n: u32) -> u32
-    requires { ⌜ RowOn s (length (now mem)) x0 w y n ⌝ }
+fn solid_row(mem: &mut [u8], s: Surface, v: u32, x0: u32, w: u32, y: u32, n: u32) -> u32
+    requires { ⌜ (s .tiled ≡ false) × RowOn s (length (now mem)) x0 w y n ⌝ }
     ensures { λ r. ⌜ (state (now (mem .exit)) r ≡ paint s (evenly v (across false x0 w y)) (state (now (mem .entry)) n)) × (r ≤ n + w) ⌝ }
 {
     let end = x0 + w;
     let mut x = x0;
     while x < end {
-        surface::put_pixel(mem, s, x, y, v);
+        surface::put_in_rows(mem, s, x, y, v);
         x += 1;
     }
     n + w

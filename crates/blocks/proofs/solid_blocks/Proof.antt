@@ -42,8 +42,8 @@ mul-n c = let p = c .before .before .before .before .before .pre .0 in rw (c .be
 wide-requires-5 : tie.Need-wide-requires-5 Inv-loop μ-loop
 wide-requires-5 c κs = search needs
 
-solid-row-requires : tie.Need-solid-row-requires Inv-loop μ-loop
-solid-row-requires c κs =
+solid-line-requires : tie.Need-solid-line-requires Inv-loop μ-loop
+solid-line-requires c κs =
     let a = c .before .before .before .before .before .before .before .args in
     let p = c .before .before .before .before .before .before .before .pre in
     record { wide = p .0 .wide; room = omega (arith, p .0 .wide); on = λ i l r. p .0 .on i (a .y0) l r (omega arith) (omega (arith, p .1 .1)) }
@@ -53,7 +53,7 @@ loop-holds c =
     let a = c .before .before .before .before .before .before .before .before .before .before .args in
     let p = c .before .before .before .before .before .before .before .before .before .before .pre in (
       even-put (a .s) (a .v) (a .x0) (a .y0) (a .w) (a .h) (p .0) (p .1 .0) (p .1 .1) 1
-          (row-itself (a .s) (a .v) (a .x0) (a .y0) (a .w) (a .h) (a .mem .now) (p .0) (p .1 .1) _ _ (c .before .before .solid-row .ensures .0)),
+          (row-itself (a .s) (a .v) (a .x0) (a .y0) (a .w) (a .h) (a .mem .now) (p .0) (p .1 .1) _ _ (c .before .before .solid-line .ensures)),
       omega arith,
       omega (arith, p .1 .1),
     )
@@ -74,7 +74,7 @@ move-blocks-requires c κs =
     let p = b .before .before .before .before .before .before .before .pre in
     let k = c .before .before .before .loop in
     let m = c .before .least .ensures in
-    rw (b .before .before .before .before .before .wide .ensures, b .before .before .before .before .wide2 .ensures, b .before .before .before .wide3 .ensures, b .before .before .wide4 .ensures, k .inv .0 .long, c .before .before .before .before .before .before .solid-row .kept .0)
+    rw (b .before .before .before .before .before .wide .ensures, b .before .before .before .before .wide2 .ensures, b .before .before .before .wide3 .ensures, b .before .before .wide4 .ensures, k .inv .0 .long, c .before .before .before .before .before .before .solid-line .kept .0)
     (rows-go (a .s) (a .v) (a .x0) (a .y0) (a .w) (a .h) (p .0) (p .1 .0) (p .1 .1) (k .j) (c .before .least .result) (m .0) (omega (arith, m .1 .0, b .before .wide5 .ensures, c .before .before .loop-test .taken)))
 
 add-j : tie.Need-add-j Inv-loop μ-loop
@@ -110,7 +110,7 @@ mul-result c =
     omega (arith, product-lt 14 14 {a = a .w} {b = a .h} (omega (arith, p .wide)) (omega (arith, p .high)))
 
 same-length : tie.Need-same-length Inv-loop μ-loop
-same-length c = c .before .loop .inv .0 .long ∙ c .before .before .before .before .solid-row .kept .0
+same-length c = c .before .loop .inv .0 .long ∙ c .before .before .before .before .solid-line .kept .0
 
 returns : tie.Need-returns Inv-loop μ-loop
 returns c =
@@ -119,9 +119,9 @@ returns c =
     let p = b .before .before .before .before .before .before .before .pre in
     let k = c .before .loop in
     let end : k .j ≡ a .h = omega (arith, c .loop-test .left, b .before .wide5 .ensures) in
-    whole-made (a .s) (a .v) (a .x0) (a .y0) (a .w) (a .h) (a .mem .now) (p .0) (p .1 .1) _ _ (c .before .before .before .before .solid-row .ensures .0) (k .mem) (a .w * a .h) (mul-comm (a .w) (a .h))
+    whole-made (a .s) (a .v) (a .x0) (a .y0) (a .w) (a .h) (a .mem .now) (p .0) (p .1 .1) _ _ (c .before .before .before .before .solid-line .ensures) (k .mem) (a .w * a .h) (mul-comm (a .w) (a .h))
     (put-even (a .s) (a .v) (a .x0) (a .y0) (a .w) (a .h) (p .0) (p .1 .0) (p .1 .1) (a .h)
-    (subst (λ (j : ℕ). Put (a .s) (columnByte (a .s) (a .v)) (a .x0 * a .s .bytes) (a .y0) (a .w * a .s .bytes) j (c .before .before .before .before .solid-row .last .0) (k .mem)) end (k .inv .0)))
+    (subst (λ (j : ℕ). Put (a .s) (columnByte (a .s) (a .v)) (a .x0 * a .s .bytes) (a .y0) (a .w * a .s .bytes) j (c .before .before .before .before .solid-line .last .0) (k .mem)) end (k .inv .0)))
 
 pub solid-blocks-spec : {M : Type 1} → statement M
 solid-blocks-spec =
@@ -136,7 +136,7 @@ solid-blocks-spec =
     wide-requires-4
     mul-n
     wide-requires-5
-    solid-row-requires
+    solid-line-requires
     loop-holds
     sub-least
     least-requires

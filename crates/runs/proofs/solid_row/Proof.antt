@@ -30,10 +30,11 @@ loop-holds c =
     let a = c .before .args in
     (even-start (a .s) (a .v) (a .x0) (a .w) (a .y) (a .n) (a .mem .now), refl, omega arith, omega arith, refl)
 
-put-pixel-requires : tie.Need-put-pixel-requires Inv-loop μ-loop
-put-pixel-requires c κs =
+put-in-rows-requires : tie.Need-put-in-rows-requires Inv-loop μ-loop
+put-in-rows-requires c κs =
     let k = c .before .before .loop in
-    rw (k .inv .1) (c .before .before .before .before .pre .on (k .x) (omega arith) (omega arith))
+    let p = c .before .before .before .before .pre in
+    (rw (k .inv .1) (p .1 .on (k .x) (omega arith) (omega arith)), p .0)
 
 add-x : tie.Need-add-x Inv-loop μ-loop
 add-x c = search needs
@@ -45,8 +46,8 @@ loop-again : tie.Need-loop-again Inv-loop μ-loop
 loop-again c =
     let a = c .before .before .before .before .before .before .before .args in
     let k = c .before .before .before .before .before .loop in (
-      even-again (a .s) (a .v) (a .x0) (a .w) (a .y) (a .n) (k .x) (k .mem) _ (omega arith) (omega (arith, c .before .before .before .before .loop-test .taken)) (c .before .before .put-pixel .ensures) ∙ k .inv .0,
-      c .before .before .put-pixel .kept .0 ∙ k .inv .1,
+      even-again (a .s) (a .v) (a .x0) (a .w) (a .y) (a .n) (k .x) (k .mem) _ (omega arith) (omega (arith, c .before .before .before .before .loop-test .taken)) (c .before .before .put-in-rows .ensures) ∙ k .inv .0,
+      c .before .before .put-in-rows .kept .0 ∙ k .inv .1,
       omega arith,
       omega (arith, c .before .before .before .before .loop-test .taken),
       refl,
@@ -72,7 +73,7 @@ solid-row-spec =
     μ-loop
     add-end
     loop-holds
-    put-pixel-requires
+    put-in-rows-requires
     add-x
     loop-less
     loop-again

@@ -43,12 +43,9 @@ cast-n c =
 solid-row-requires : tie.Need-solid-row-requires Inv-loop μ-loop
 solid-row-requires c κs =
     let a = c .before .before .before .before .before .args in
+    let flat = c .before .before .before .before .before .pre .0 in
     let p = c .before .before .before .before .before .pre .1 in
-    record {
-      wide = p .wide;
-      room = omega (arith, p .wide);
-      on = λ i l r. p .on i (a .y0) l r (omega arith) (omega (arith, c .before .before .before .if1 .left));
-    }
+    (flat, record { wide = p .wide; room = omega (arith, p .wide); on = λ i l r. p .on i (a .y0) l r (omega arith) (omega (arith, c .before .before .before .if1 .left)) })
 
 loop-holds : tie.Need-loop-holds Inv-loop μ-loop
 loop-holds c =
