@@ -75,7 +75,7 @@ fn fill(bank: Bank, blit: Blit, mem: &mut [u8]) -> Act
     let cut = cuts::fill_cut(regs);
     let task = command::fill_task(regs);
     let pattern = bank.pattern;
-    let count = tiles::fill_rect(mem, task, pattern, cut.w, cut.h);
+    let count = rect::fill_rect(mem, task, pattern, cut.w, cut.h);
     Act {
         number: 0,
         bank: end_rect(bank),
@@ -97,7 +97,7 @@ fn copy(bank: Bank, blit: Blit, mem: &mut [u8]) -> Act
     let pattern = bank.pattern;
     let toLeft = cuts::from_right(regs);
     let toTop = cuts::from_bottom(regs);
-    let count = tiles::copy_rect(mem, task, pattern, c.w, c.h, toLeft, toTop);
+    let count = rect::copy_rect(mem, task, pattern, c.w, c.h, toLeft, toTop);
     Act {
         number: 0,
         bank: end_rect(bank),

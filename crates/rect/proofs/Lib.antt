@@ -7,3 +7,5 @@ pub mod Plain
 pub mod Moves
 pub mod Moved
 pub mod Smear
+pub mod Bytes
+pub mod Tests

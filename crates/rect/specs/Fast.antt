@@ -113,3 +113,17 @@ pub record Moves (t : Task) (w h len : ℕ) (toLeft toTop : Bool) : Type 0 where
   pub can : CanPaint t w h len
   pub orderly : Orderly t w h
   pub early : late toLeft toTop t w h ≡ false
+
+-- a plain copy shares no pixel with its source, and covers some
+pub record Apart (t : Task) (w h len : ℕ) : Type 0 where
+  pub plain : plainly t ≡ true
+  pub can : CanPaint t w h len
+  pub orderly : Orderly t w h
+  pub none : touching t w h ≡ false
+  pub wide : 0 < w
+  pub high : 0 < h
+
+-- a fill goes from the upper left corner, and a copy from the one that the two flags name
+pub record Cornered (t : Task) (w h : ℕ) (toLeft toTop : Bool) : Type 0 where
+  pub fills : t .copies ≡ false → (toLeft ≡ false) × (toTop ≡ false)
+  pub copies : t .copies ≡ true → Orderly t w h

@@ -1,6 +1,7 @@
-// Rectangles of pixels on surfaces in rows, filled or copied: as runs of bytes or bits where they can be, and else pixel by pixel.
+// Rectangles of pixels, filled or copied: in rows as runs of bytes or bits where they can be, on tiles in blocks where they can be, and else pixel by pixel.
 use bits::Mono;
 use bits::Plain;
+use blocks::Way;
 use straight::Straight;
 use sweep::Task;
 ghost use mathlib.Core.Path.{_≡_};
@@ -11,7 +12,7 @@ ghost use Rattle.surface.specs.Pixels.{rect};
 ghost use Rattle.paint.specs.Paint.{state, paint};
 ghost use Rattle.paint.specs.Mix.{source};
 ghost use Rattle.sweep.specs.Copy.{inTurn, CanPaint, Orderly};
-ghost use Rattle.rect.specs.Fast.{solid, plainly, straight, straightOf, bitwise, monoOf, sourceByte, behind, overlap, touching, late, toRow, fromRow, Flat, RowMoves, Moves};
+ghost use Rattle.rect.specs.Fast.{solid, plainly, straight, straightOf, bitwise, monoOf, sourceByte, behind, overlap, touching, late, toRow, fromRow, RowMoves, Moves, Apart, Cornered};
 ghost use Rattle.runs.specs.Runs.{Shifted, Given};
 
 // Row y of a plain copy, as a run of n bytes.
@@ -43,7 +44,7 @@ fn move_rows(mem: &mut [u8], t: Task, w: u32, h: u32, toLeft: bool, toTop: bool)
 }
 
 // Whether a copy moves the bytes of its source.
-pub fn is_plain(t: Task) -> bool
+fn is_plain(t: Task) -> bool
     ensures { λ r. ⌜ r ≡ plainly t ⌝ }
 {
     t.copies
@@ -54,7 +55,7 @@ pub fn is_plain(t: Task) -> bool
 }
 
 // Whether a fill gives each pixel colorFore.
-pub fn is_solid(t: Task) -> bool
+fn is_solid(t: Task) -> bool
     ensures { λ r. ⌜ r ≡ solid t ⌝ }
 {
     !t.copies & (t.ink.rop0 == 0xcc) & !t.ink.dstKey & !(t.ink.clear & t.ink.mono)
@@ -79,7 +80,7 @@ fn do_overlap(s: u32, x: u32, n: u32) -> bool
 }
 
 // Whether a copy shares a pixel with its source.
-pub fn is_touching(t: Task, w: u32, h: u32) -> bool
+fn is_touching(t: Task, w: u32, h: u32) -> bool
     ensures { λ r. ⌜ r ≡ touching t w h ⌝ }
 {
     surface::same_surface(t.from, t.ink.target)
@@ -151,23 +152,27 @@ pub fn straight_of(t: Task) -> Straight
     }
 }
 
-// A rectangle filled; the count of pixels written.
-pub fn fill_in_rows(mem: &mut [u8], t: Task, pattern: [u8; 256], w: u32, h: u32) -> u32
-    requires { ⌜ (t .ink .target .tiled ≡ false) × (CanPaint t w h (length (now mem)) × (t .copies ≡ false)) ⌝ }
-    ensures { λ r. ⌜ state (now (mem .exit)) r ≡ paint (t .ink .target) (inTurn t pattern (rect false false (t .x) (t .y) w h)) (state (now (mem .entry)) 0) ⌝ }
+// A plain copy that shares no pixel with its source.
+fn move_apart(mem: &mut [u8], t: Task, w: u32, h: u32)
+    requires { ⌜ Apart t w h (length (now mem)) ⌝ }
+    ensures { λ _. ⌜ Given (t .ink .target) (sourceByte t (now (mem .entry))) (t .x) (t .y) w h (now (mem .entry)) (now (mem .exit)) ⌝ }
 {
-    if is_solid(t) {
-        let v = raster::raster(0xcc, 0, t.ink.fore, 0);
-        return runs::solid_rows(mem, t.ink.target, v, t.x, t.y, w, h);
-    }
-    if !t.ink.dstKey {
-        return tint::tint_rows(mem, t.ink, pattern, t.x, t.y, w, h);
-    }
-    sweep::paint_rows(mem, t, pattern, w, h, false, false)
+    let to = t.ink.target;
+    let from = t.from;
+    let n = surface::wide(to.bytes);
+    let b = Way {
+        to: to,
+        from: from,
+        x: surface::wide(t.x) * n,
+        y: surface::wide(t.y),
+        sx: surface::wide(t.sx) * n,
+        sy: surface::wide(t.sy),
+    };
+    blocks::move_blocks(mem, b, surface::wide(w) * n, surface::wide(h));
 }
 
-// A rectangle copied from the corner that the two flags name, each pixel from the source as it then stands; the count of pixels written.
-pub fn copy_in_rows(
+// A rectangle filled, from the upper left corner, or copied, where a surface is tiled; the count of pixels written.
+fn on_tiles(
     mem: &mut [u8],
     t: Task,
     pattern: [u8; 256],
@@ -176,9 +181,59 @@ pub fn copy_in_rows(
     toLeft: bool,
     toTop: bool,
 ) -> u32
-    requires { ⌜ Flat t × (CanPaint t w h (length (now mem)) × ((t .copies ≡ true) × Orderly t w h)) ⌝ }
+    requires { ⌜ CanPaint t w h (length (now mem)) × Cornered t w h toLeft toTop ⌝ }
     ensures { λ r. ⌜ state (now (mem .exit)) r ≡ paint (t .ink .target) (inTurn t pattern (rect toLeft toTop (t .x) (t .y) w h)) (state (now (mem .entry)) 0) ⌝ }
 {
+    if (0 < w) & (0 < h) {
+        if is_plain(t) & !is_touching(t, w, h) {
+            move_apart(mem, t, w, h);
+            return w * h;
+        }
+        if is_solid(t) {
+            let v = raster::raster(0xcc, 0, t.ink.fore, 0);
+            return blocks::solid_blocks(mem, t.ink.target, v, t.x, t.y, w, h);
+        }
+        if !t.copies & !t.ink.dstKey {
+            return wash::wash_rows(mem, t.ink, pattern, t.x, t.y, w, h);
+        }
+    }
+    patch::paint_rows(mem, t, pattern, w, h, toLeft, toTop)
+}
+
+// A rectangle filled; the count of pixels written.
+pub fn fill_rect(mem: &mut [u8], t: Task, pattern: [u8; 256], w: u32, h: u32) -> u32
+    requires { ⌜ CanPaint t w h (length (now mem)) × (t .copies ≡ false) ⌝ }
+    ensures { λ r. ⌜ state (now (mem .exit)) r ≡ paint (t .ink .target) (inTurn t pattern (rect false false (t .x) (t .y) w h)) (state (now (mem .entry)) 0) ⌝ }
+{
+    if t.ink.target.tiled {
+        return on_tiles(mem, t, pattern, w, h, false, false);
+    }
+    if is_solid(t) {
+        let v = raster::raster(0xcc, 0, t.ink.fore, 0);
+        return runs::solid_rows(mem, t.ink.target, v, t.x, t.y, w, h);
+    }
+    if !t.ink.dstKey {
+        return wash::wash_rows(mem, t.ink, pattern, t.x, t.y, w, h);
+    }
+    sweep::paint_rows(mem, t, pattern, w, h, false, false)
+}
+
+// A rectangle copied from the corner that the two flags name, each pixel from the source as it then stands; the count of pixels written.
+pub fn copy_rect(
+    mem: &mut [u8],
+    t: Task,
+    pattern: [u8; 256],
+    w: u32,
+    h: u32,
+    toLeft: bool,
+    toTop: bool,
+) -> u32
+    requires { ⌜ CanPaint t w h (length (now mem)) × ((t .copies ≡ true) × Orderly t w h) ⌝ }
+    ensures { λ r. ⌜ state (now (mem .exit)) r ≡ paint (t .ink .target) (inTurn t pattern (rect toLeft toTop (t .x) (t .y) w h)) (state (now (mem .entry)) 0) ⌝ }
+{
+    if t.ink.target.tiled | t.from.tiled {
+        return on_tiles(mem, t, pattern, w, h, toLeft, toTop);
+    }
     if is_bitwise(t) {
         return bits::mono_rows(mem, mono_of(t), w, h);
     }

@@ -22,17 +22,11 @@ use Rattle.paint.proofs.Turns.{paint-same}
 use Rattle.tint.specs.declared.Mask.{Mask}
 use Rattle.tint.specs.declared.Masks.{Masks}
 use Rattle.tint.specs.Tint.{filling, fillings}
-use Rattle.tint.specs.Masking.{ones, masked, byMask, maskBy, becomes, maskOf, maskIn, tinting, tintings, MasksOf, Sound}
+use Rattle.tint.specs.Masking.{ones, masked, byMask, maskBy, becomes, maskOf, maskIn, tinting, tintings, downTint, downTints, MasksOf, Sound}
 use Rattle.tint.proofs.MaskLaws.{mask-rop}
 use Rattle.tint.proofs.ByteLaws.{put-low}
 
--- ---- a rectangle, whose rows have their masks by eights
-abbrev pub downTint : Surface → List ℕ → List ℕ → List ℕ → ℕ → ℕ → List ℕ → Px → Option ℕ
-downTint s keep flip adds x y now p = tinting s keep flip adds ((p .y - y) % 8 * 8) x now p
-
-abbrev pub downTints : Surface → List ℕ → List ℕ → List ℕ → ℕ → ℕ → List Px → List Touch
-downTints s keep flip adds x y ps = map (λ p. touch p (λ now. downTint s keep flip adds x y now p)) ps
-
+-- ---- a rectangle, row by row
 pub down-row : (s : Surface) (keep flip adds : List ℕ) (x y w j : ℕ) (st : State)
     → paint s (tintings s keep flip adds (j % 8 * 8) x (across false x w (y + j))) st ≡ paint s (downTints s keep flip adds x y (across false x w (y + j))) st
 down-row s keep flip adds x y w j st =

@@ -66,6 +66,13 @@ tinting s keep flip adds first x now p =
 abbrev pub tintings : Surface → List ℕ → List ℕ → List ℕ → ℕ → ℕ → List Px → List Touch
 tintings s keep flip adds first x ps = map (λ p. touch p (λ now. tinting s keep flip adds first x now p)) ps
 
+-- the same of a rectangle from (x, y) on, whose rows have their eight masks by eights
+abbrev pub downTint : Surface → List ℕ → List ℕ → List ℕ → ℕ → ℕ → List ℕ → Px → Option ℕ
+downTint s keep flip adds x y now p = tinting s keep flip adds ((p .y - y) % 8 * 8) x now p
+
+abbrev pub downTints : Surface → List ℕ → List ℕ → List ℕ → ℕ → ℕ → List Px → List Touch
+downTints s keep flip adds x y ps = map (λ p. touch p (λ now. downTint s keep flip adds x y now p)) ps
+
 -- the memory with n bytes from `at` on changed by the tables' bytes from `from` on
 unfoldable pub blended : List ℕ → List ℕ → ℕ → ℕ → ℕ → List ℕ → List ℕ
 blended keep flip from at zero m = m
@@ -89,6 +96,11 @@ pub record MasksOf (ink : Ink) (pattern : List ℕ) (x y rows : ℕ) (m : Masks)
 pub record Sound (n keep flip adds : ℕ) : Type 0 where
   pub few : adds ≤ 1
   pub left : adds ≡ 0 → (keep ≡ ones % 256 ^ n) × (flip ≡ 0 % 256 ^ n)
+
+-- those that h rows of pixels want are
+pub record RowsSound (s : Surface) (keep flip adds : List ℕ) (h : ℕ) : Type 0 where
+  pub sound : (j : ℕ) → j < h → (i : ℕ) → i < 8
+      → Sound (s .bytes) (maskIn (s .bytes) keep (j % 8 * 8 + i)) (maskIn (s .bytes) flip (j % 8 * 8 + i)) (getD adds (j % 8 * 8 + i) 0)
 
 -- w pixels of row y from x on can be tinted, after n that were written
 pub record CanTint (s : Surface) (keep flip adds : List ℕ) (first len x w y n : ℕ) : Type 0 where

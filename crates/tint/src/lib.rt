@@ -10,8 +10,7 @@ ghost use Rattle.surface.specs.Pixels.{across, rect};
 ghost use Rattle.paint.specs.Paint.{state, paint};
 ghost use Rattle.ink.specs.Pattern.{patternBit, patternIn, Cell};
 ghost use Rattle.runs.specs.Runs.{RectOn};
-ghost use Rattle.tint.specs.Tint.{fillings};
-ghost use Rattle.tint.specs.Masking.{blended, maskOf, tintings, MasksOf, CanTint};
+ghost use Rattle.tint.specs.Masking.{blended, maskOf, tintings, downTints, MasksOf, RowsSound, CanTint};
 
 // The bits of a pixel that are kept, those that are then turned over, and 1 if the pixel is written.
 pub struct Mask {
@@ -201,28 +200,25 @@ fn tint_row(
     }
 }
 
-// A fill without a target key, its surface in rows, row by row from the upper left corner; the count of pixels written.
+// A rectangle by tables of masks, its surface in rows, row by row from the upper left corner; the count of pixels written.
 pub fn tint_rows(
     mem: &mut [u8],
-    ink: Ink,
-    pattern: [u8; 256],
+    s: Surface,
+    keep: &[u8; 256],
+    flip: &[u8; 256],
+    adds: &[u32; 64],
     x: u32,
     y: u32,
     w: u32,
     h: u32,
 ) -> u32
-    requires { ⌜ RectOn (ink .target) (length (now mem)) x y w h × ((ink .target .tiled ≡ false) × (ink .dstKey ≡ false)) ⌝ }
-    ensures { λ r. ⌜ state (now (mem .exit)) r ≡ paint (ink .target) (fillings ink pattern (rect false false x y w h)) (state (now (mem .entry)) 0) ⌝ }
+    requires { ⌜ (s .tiled ≡ false) × (RectOn s (length (now mem)) x y w h × RowsSound s (now keep) (now flip) (now adds) h) ⌝ }
+    ensures { λ r. ⌜ state (now (mem .exit)) r ≡ paint s (downTints s (now (keep .entry)) (now (flip .entry)) (now (adds .entry)) x y (rect false false x y w h)) (state (now (mem .entry)) 0) ⌝ }
 {
-    let m = masks_at(ink, &pattern, x, y, mask_rows(h));
-    let keep = m.keep;
-    let flip = m.flip;
-    let adds = m.adds;
-    let s = ink.target;
     let mut n = 0;
     let mut j = 0;
     while j < h {
-        n = tint_row(mem, s, &keep, &flip, &adds, j % 8 * 8, x, w, y + j, n);
+        n = tint_row(mem, s, keep, flip, adds, j % 8 * 8, x, w, y + j, n);
         j += 1;
     }
     n

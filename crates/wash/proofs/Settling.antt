@@ -21,8 +21,7 @@ use Rattle.paint.proofs.Owners.{byte-of, of-byte, read-px}
 use Rattle.paint.proofs.Settle.{Settled, settled, counted}
 use Rattle.runs.specs.Runs.{Given, RectOn}
 use Rattle.runs.proofs.Runs.{given-once}
-use Rattle.tint.specs.Masking.{masked, byMask, maskIn, tinting, Sound}
-use Rattle.tint.proofs.FillLaws.{downTint, downTints}
+use Rattle.tint.specs.Masking.{masked, byMask, maskIn, tinting, downTint, downTints, Sound}
 use Rattle.tint.proofs.RowLaws.{step}
 use Rattle.blocks.specs.Blocks.{Put}
 use Rattle.blocks.proofs.Pixels.{put-given}

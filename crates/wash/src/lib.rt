@@ -2,7 +2,7 @@
 use ink::Ink;
 use surface::Surface;
 ghost use mathlib.Core.Path.{_≡_};
-ghost use mathlib.Core.Bool.{false};
+ghost use mathlib.Core.Bool.{true, false};
 ghost use Prim.Native.Nat.{ℕ, _+_, _*_, _%_, _^_, _<_, _≤_};
 ghost use lib.ListN.{length};
 ghost use Rattle.surface.specs.Place.{rowBytes};
@@ -183,7 +183,7 @@ fn wash_masks(
     );
 }
 
-// A fill without a target key, whatever the layout; the count of pixels written.
+// A fill without a target key: the masks are worked out once, and go over the rows as the layout has them; the count of pixels written.
 pub fn wash_rows(
     mem: &mut [u8],
     ink: Ink,
@@ -193,7 +193,7 @@ pub fn wash_rows(
     w: u32,
     h: u32,
 ) -> u32
-    requires { ⌜ RectOn (ink .target) (length (now mem)) x y w h × (((0 < w) × (0 < h)) × (ink .dstKey ≡ false)) ⌝ }
+    requires { ⌜ RectOn (ink .target) (length (now mem)) x y w h × ((ink .target .tiled ≡ true → (0 < w) × (0 < h)) × (ink .dstKey ≡ false)) ⌝ }
     ensures { λ r. ⌜ state (now (mem .exit)) r ≡ paint (ink .target) (fillings ink pattern (rect false false x y w h)) (state (now (mem .entry)) 0) ⌝ }
 {
     let rows = tint::mask_rows(h);
@@ -201,6 +201,10 @@ pub fn wash_rows(
     let keep = m.keep;
     let flip = m.flip;
     let adds = m.adds;
-    wash_masks(mem, ink.target, &keep, &flip, rows, x, y, w, h);
+    let s = ink.target;
+    if !s.tiled {
+        return tint::tint_rows(mem, s, &keep, &flip, &adds, x, y, w, h);
+    }
+    wash_masks(mem, s, &keep, &flip, rows, x, y, w, h);
     count_rows(&adds, w, h)
 }

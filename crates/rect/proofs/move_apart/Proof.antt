@@ -1,12 +1,12 @@
--- `tiles::move_apart` meets its contract: the pixels' bytes go their way.
+-- `rect::move_apart` meets its contract: the pixels' bytes go their way.
 -- Assumes nothing.
 use borrow.Author.Needs.{needs}
 use Prim.Native.Nat.{ℕ, _*_, _<_, _≤_}
 use native.Mathlib.Omega.{arith}
 use Rattle.surface.proofs.Bytes.{product-lt}
-use Rattle.tiles.proofs.Bytes.{bytes-go, bytes-given}
-use Rattle.tiles.proofs.move_apart.Statement.{statement}
-use Rattle.tiles.proofs.move_apart.Tie as tie
+use Rattle.rect.proofs.Bytes.{bytes-go, bytes-given}
+use Rattle.rect.proofs.move_apart.Statement.{statement}
+use Rattle.rect.proofs.move_apart.Tie as tie
 
 few-bytes : {a b : ℕ} → a ≤ 32768 → b < 5 → a * b < 524288
 few-bytes {a} {b} l u = product-lt 16 3 {a = a} {b = b} (omega arith) (omega arith)

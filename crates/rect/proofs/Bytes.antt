@@ -16,14 +16,13 @@ use Rattle.sweep.specs.declared.Task.{Task}
 use Rattle.sweep.specs.Copy.{sourcePlace}
 use Rattle.sweep.proofs.TaskLaws.{can-pixel}
 use Rattle.runs.specs.Runs.{Given}
-use Rattle.rect.specs.Fast.{sourceByte}
 use Rattle.rect.proofs.Order.{shared, touching-read}
 use Rattle.rect.proofs.Plain.{PlainCopy, plainly-plain}
 use Rattle.blocks.specs.declared.Way.{Way}
 use Rattle.blocks.specs.Blocks.{Put, origin, originByte, Goes}
 use Rattle.blocks.proofs.Blocks.{way}
 use Rattle.blocks.proofs.Pixels.{pixel-of, put-given, byte-held, bytes-wide}
-use Rattle.tiles.specs.Apart.{Apart}
+use Rattle.rect.specs.Fast.{sourceByte, Apart}
 
 module _ {t : Task} {w h len : ℕ} (apart : Apart t w h len) where
   abbrev target : Surface
