@@ -136,8 +136,8 @@ fn straight_row(mem: &mut [u8], t: Straight, w: u32, j: u32, back: bool, n: u32)
 {
     let from = t.from.bytes;
     let to = t.target.bytes;
-    let d = surface::byte_of(t.target, t.x, t.y + j, 0);
-    let s = surface::byte_of(t.from, t.sx, t.sy + j, 0);
+    let d = surface::place_in_rows(t.target, t.x, t.y + j);
+    let s = surface::place_in_rows(t.from, t.sx, t.sy + j);
     let pair = from * 8 + to;
     match pair {
         9 => straight_run(mem, t, 1, 1, d, s, w, j, back, n),
