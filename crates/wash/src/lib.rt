@@ -1,4 +1,4 @@
-// Fills by masks, whatever the layout: the masks' bytes, repeated, go over each row in pieces that reach over no edge of a tile.
+// Fills by masks: in rows as tint lays them; on tiles the masks' bytes, repeated, go over each row in pieces that reach over no edge of a tile.
 use ink::Ink;
 use surface::Surface;
 ghost use mathlib.Core.Path.{_≡_};
