@@ -6,7 +6,8 @@ use mathlib.Core.List.{List, [], _∷_, map, List·Memᴰ·head, List·Memᴰ·t
 use mathlib.Core.Option.{Option, none, some}
 use Prim.Native.Nat.{ℕ, _+_, _-_, _*_, _/_, _%_, _^_, _<_, _≤_}
 use native.Mathlib.Omega.{arith}
-use lib.Dec.{eqb}
+use lib.Dec.{eqb, ltb}
+use borrow.Author.Tests.{ltb-true}
 use lib.Bits.{bitXor}
 use lib.ListN.{getD}
 use Rattle.surface.specs.declared.Surface.{Surface}
@@ -22,7 +23,7 @@ use Rattle.paint.proofs.Turns.{paint-same}
 use Rattle.tint.specs.declared.Mask.{Mask}
 use Rattle.tint.specs.declared.Masks.{Masks}
 use Rattle.tint.specs.Tint.{filling, fillings}
-use Rattle.tint.specs.Masking.{ones, masked, byMask, maskBy, becomes, maskOf, maskIn, tinting, tintings, downTint, downTints, MasksOf, Sound}
+use Rattle.tint.specs.Masking.{ones, masked, byMask, maskBy, becomes, maskOf, maskIn, maskRows, tinting, tintings, downTint, downTints, MasksOf, Sound}
 use Rattle.tint.proofs.MaskLaws.{mask-rop}
 use Rattle.tint.proofs.ByteLaws.{put-low}
 
@@ -32,6 +33,24 @@ pub down-row : (s : Surface) (keep flip adds : List ℕ) (x y w j : ℕ) (st : S
 down-row s keep flip adds x y w j st =
     paint-same s (λ p now. tinting s keep flip adds (j % 8 * 8) x now p) (λ p now. downTint s keep flip adds x y now p) (across false x w (y + j))
     (λ p i now. let q = in-across false x w (y + j) p i in let e : (p .y - y) % 8 ≡ j % 8 = omega arith in rw e) st
+
+-- ---- rows of masks: at most eight, and as many as the rows of pixels want
+module _ (h : ℕ) where
+  pub rows-few : maskRows h ≤ 8
+  unfolding maskRows
+  rows-few = by-test (ltb h 8) refl
+    where
+      by-test : (t : Bool) → ltb h 8 ≡ t → cond t h 8 ≤ 8
+      by-test true e = omega (arith, ltb-true h 8 e)
+      by-test false e = omega arith
+
+  pub rows-enough : (j : ℕ) → j < h → j % 8 < maskRows h
+  unfolding maskRows
+  rows-enough j l = by-test (ltb h 8) refl
+    where
+      by-test : (t : Bool) → ltb h 8 ≡ t → j % 8 < cond t h 8
+      by-test true e = omega (arith, ltb-true h 8 e)
+      by-test false e = omega arith
 
 -- ---- the masks of a fill
 pub bit-there : (pattern : List ℕ) (column row : ℕ) {bit byte : ℕ} → bit ≡ byte / 2 ^ (7 - column) % 2 → byte ≡ getD pattern row 0 → bit ≡ patternBit pattern column row

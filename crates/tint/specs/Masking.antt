@@ -5,7 +5,7 @@ use mathlib.Core.Bool.{Bool, true, false, cond}
 use mathlib.Core.List.{List, map}
 use mathlib.Core.Option.{Option, none, some}
 use Prim.Native.Nat.{ℕ, zero, suc, _+_, _-_, _*_, _/_, _%_, _^_, _<_, _≤_}
-use lib.Dec.{eqb}
+use lib.Dec.{eqb, ltb}
 use lib.Bits.{bitAnd, bitXor}
 use lib.ListN.{length, getD, set}
 use Rattle.raster.specs.Rop.{ropBits}
@@ -77,6 +77,10 @@ downTints s keep flip adds x y ps = map (λ p. touch p (λ now. downTint s keep 
 unfoldable pub blended : List ℕ → List ℕ → ℕ → ℕ → ℕ → List ℕ → List ℕ
 blended keep flip from at zero m = m
 blended keep flip from at (suc n) m = blended keep flip (from + 1) (at + 1) n (set m at (masked (getD m at 0) (getD keep from 0) (getD flip from 0)))
+
+-- how many rows of masks h rows of pixels want: they repeat after eight
+unfoldable pub maskRows : ℕ → ℕ
+maskRows h = cond (ltb h 8) h 8
 
 -- ---- what functions ask for and give
 

@@ -10,7 +10,7 @@ ghost use Rattle.surface.specs.Pixels.{across, rect};
 ghost use Rattle.paint.specs.Paint.{state, paint};
 ghost use Rattle.ink.specs.Pattern.{patternBit, patternIn, Cell};
 ghost use Rattle.runs.specs.Runs.{RectOn};
-ghost use Rattle.tint.specs.Masking.{blended, maskOf, tintings, downTints, MasksOf, RowsSound, CanTint};
+ghost use Rattle.tint.specs.Masking.{blended, maskOf, maskRows, tintings, downTints, MasksOf, RowsSound, CanTint};
 
 // The bits of a pixel that are kept, those that are then turned over, and 1 if the pixel is written.
 pub struct Mask {
@@ -99,7 +99,7 @@ pub fn masks_at(ink: Ink, pattern: &[u8; 256], x: u32, y: u32, rows: u32) -> Mas
 
 // How many rows of masks h rows of pixels want.
 pub fn mask_rows(h: u32) -> u32
-    ensures { λ r. ⌜ (r ≤ 8) × ((j : ℕ) → j < h → j % 8 < r) ⌝ }
+    ensures { λ r. ⌜ r ≡ maskRows h ⌝ }
 {
     if h < 8 {
         return h;
