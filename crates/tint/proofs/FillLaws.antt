@@ -16,7 +16,7 @@ use Rattle.surface.specs.Pixels.{Px, across, rect}
 use Rattle.surface.proofs.Lists.{In}
 use Rattle.surface.proofs.Rects.{in-across, in-rect}
 use Rattle.ink.specs.declared.Ink.{Ink}
-use Rattle.paint.specs.Paint.{State, state, Touch, touch, dab, paint}
+use Rattle.paint.specs.Paint.{State, state, touch, dab, paint}
 use Rattle.paint.specs.Mix.{fillSource, chosen, mixed}
 use Rattle.ink.specs.Pattern.{patternColumn, patternRow, patternBit, patternIn}
 use Rattle.paint.proofs.Turns.{paint-same}
@@ -35,22 +35,13 @@ down-row s keep flip adds x y w j st =
     (λ p i now. let q = in-across false x w (y + j) p i in let e : (p .y - y) % 8 ≡ j % 8 = omega arith in rw e) st
 
 -- ---- rows of masks: at most eight, and as many as the rows of pixels want
-module _ (h : ℕ) where
-  pub rows-few : maskRows h ≤ 8
-  unfolding maskRows
-  rows-few = by-test (ltb h 8) refl
-    where
-      by-test : (t : Bool) → ltb h 8 ≡ t → cond t h 8 ≤ 8
-      by-test true e = omega (arith, ltb-true h 8 e)
-      by-test false e = omega arith
-
-  pub rows-enough : (j : ℕ) → j < h → j % 8 < maskRows h
-  unfolding maskRows
-  rows-enough j l = by-test (ltb h 8) refl
-    where
-      by-test : (t : Bool) → ltb h 8 ≡ t → j % 8 < cond t h 8
-      by-test true e = omega (arith, ltb-true h 8 e)
-      by-test false e = omega arith
+pub rows-fit : (h : ℕ) → (maskRows h ≤ 8) × ((j : ℕ) → j < h → j % 8 < maskRows h)
+unfolding maskRows
+rows-fit h = by-test (ltb h 8) refl
+  where
+    by-test : (t : Bool) → ltb h 8 ≡ t → (cond t h 8 ≤ 8) × ((j : ℕ) → j < h → j % 8 < cond t h 8)
+    by-test true e = let few = ltb-true h 8 e in (omega (arith, few), λ j l. omega (arith, few))
+    by-test false e = (omega arith, λ j l. omega arith)
 
 -- ---- the masks of a fill
 pub bit-there : (pattern : List ℕ) (column row : ℕ) {bit byte : ℕ} → bit ≡ byte / 2 ^ (7 - column) % 2 → byte ≡ getD pattern row 0 → bit ≡ patternBit pattern column row

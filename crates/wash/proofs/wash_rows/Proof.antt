@@ -1,7 +1,7 @@
 -- `wash::wash_rows` meets its contract: the masks are sound and are the fill's; on tiles the bytes are what their masks make of them, and the count is what the masks count.
 -- Assumes nothing.
-use mathlib.Core.Path.{_∙_}
-use Prim.Native.Nat.{ℕ, _%_, _<_}
+use mathlib.Core.Path.{subst⁻¹, _∙_}
+use Prim.Native.Nat.{ℕ, _%_, _<_, _≤_}
 use native.Mathlib.Omega.{arith}
 use borrow.Author.Needs.{needs}
 use borrow.Author.Tests.{not-true, not-false}
@@ -10,7 +10,7 @@ use mir.Val.{Fits}
 use mir.Syntax.{w8}
 use Rattle.paint.specs.Paint.{state}
 use Rattle.tint.specs.Masking.{RowsSound}
-use Rattle.tint.proofs.FillLaws.{rows-few, rows-enough, row-sound, rect-fills}
+use Rattle.tint.proofs.FillLaws.{rows-fit, row-sound, rect-fills}
 use Rattle.wash.proofs.Settling.{washed-whole}
 use Rattle.wash.proofs.wash_rows.Statement.{statement}
 use Rattle.wash.proofs.wash_rows.Tie as tie
@@ -21,7 +21,7 @@ mask-rows-requires c κs = search needs
 masks-at-requires : tie.Need-masks-at-requires
 masks-at-requires c κs =
     let p = c .before .before .before .pre .0 in
-    (p .colour, omega (arith, p .wide), omega (arith, p .high), rw (c .before .mask-rows .ensures) (rows-few (c .before .before .before .args .h)))
+    (p .colour, omega (arith, p .wide), omega (arith, p .high), rw (c .before .mask-rows .ensures) (rows-fit (c .before .before .before .args .h) .0))
 
 -- ---- the masks are bytes, and sound
 module _ (c : tie.After-masks-at) where
@@ -34,14 +34,14 @@ module _ (c : tie.After-masks-at) where
   abbrev start : tie.Start
   start = c .before .before .before .before
 
-  -- as many rows of them as the rows of pixels want
-  enough : (j : ℕ) → j < start .args .h → j % 8 < c .before .before .mask-rows .result
-  enough j l = rw (c .before .before .mask-rows .ensures) (rows-enough (start .args .h) j l)
+  -- at most eight rows of them, and as many as the rows of pixels want
+  fit : (c .before .before .mask-rows .result ≤ 8) × ((j : ℕ) → j < start .args .h → j % 8 < c .before .before .mask-rows .result)
+  fit = subst⁻¹ (λ (r : ℕ). (r ≤ 8) × ((j : ℕ) → j < start .args .h → j % 8 < r)) (c .before .before .mask-rows .ensures) (rows-fit (start .args .h))
 
   sound : RowsSound (start .args .ink .target) (c .masks-at .result .keep) (c .masks-at .result .flip) (c .masks-at .result .adds) (start .args .h)
   sound =
       let a = start .args in
-      record { sound = λ j l. row-sound (a .ink) (a .t3) (a .x) (a .y) (c .before .before .mask-rows .result) (c .masks-at .result) (c .masks-at .ensures) j (enough j l) }
+      record { sound = λ j l. row-sound (a .ink) (a .t3) (a .x) (a .y) (c .before .before .mask-rows .result) (c .masks-at .result) (c .masks-at .ensures) j (fit .1 j l) }
 
 tint-rows-requires : tie.Need-tint-rows-requires
 tint-rows-requires c κs =
@@ -56,12 +56,12 @@ returns c =
     let b = c .before .before .before .before .before .before .before .before .before .before .before .before .before in
     let a = start b .args in
     c .before .before .tint-rows .ensures
-    ∙ rect-fills (a .ink) (a .t3) (a .x) (a .y) (b .before .before .mask-rows .result) (b .masks-at .result) (b .masks-at .ensures) (start b .pre .1 .1) (a .w) (a .h) (enough b) (state (a .mem .now) 0)
+    ∙ rect-fills (a .ink) (a .t3) (a .x) (a .y) (b .before .before .mask-rows .result) (b .masks-at .result) (b .masks-at .ensures) (start b .pre .1 .1) (a .w) (a .h) (fit b .1) (state (a .mem .now) 0)
 
 wash-masks-requires : tie.Need-wash-masks-requires
 wash-masks-requires c κs =
     let b = c .before .before .before .before .before .before .before .before .before in
-    (start b .pre .0, (start b .pre .1 .0 (not-false _ (c .before .before .before .if1 .left)), (rw (b .before .before .mask-rows .ensures) (rows-few (start b .args .h)), enough b)))
+    (start b .pre .0, (start b .pre .1 .0 (not-false _ (c .before .before .before .if1 .left)), fit b))
 
 count-rows-requires : tie.Need-count-rows-requires
 count-rows-requires c κs =
@@ -80,7 +80,7 @@ returns-2 c =
     washed-whole (a .ink .target) (m .keep) (m .flip) (m .adds) (a .x) (a .y) (a .w) (a .h) (a .mem .now) (start b .pre .0)
     (λ i. omega (arith, b .before .before .before .slice-known .given i)) (λ i. omega (arith, keep-small b i)) (λ i. omega (arith, flip-small b i)) (sound b .sound)
     (c .before .before .before .before .wash-masks .ensures) (c .count-rows .ensures)
-    ∙ rect-fills (a .ink) (a .t3) (a .x) (a .y) (b .before .before .mask-rows .result) m (b .masks-at .ensures) (start b .pre .1 .1) (a .w) (a .h) (enough b) (state (a .mem .now) 0)
+    ∙ rect-fills (a .ink) (a .t3) (a .x) (a .y) (b .before .before .mask-rows .result) m (b .masks-at .ensures) (start b .pre .1 .1) (a .w) (a .h) (fit b .1) (state (a .mem .now) 0)
 
 pub wash-rows-spec : {M : Type 1} → statement M
 wash-rows-spec =
