@@ -1,5 +1,6 @@
 -- `keys::in_range` meets its contract: by the format.
 -- Assumes nothing.
+use mathlib.Core.Bool.{and-true}
 use borrow.Author.Needs.{needs}
 use borrow.Author.Tests.{eq-eqb, ne-eqb}
 use Rattle.keys.specs.Range.{inRange}
@@ -14,7 +15,7 @@ is-between-requires c κs = search needs
 
 returns : tie.Need-returns
 unfolding inRange
-returns c = simp (eq-eqb _ _ (c .before .before .if1 .taken)) (cc)
+returns c = simp (eq-eqb _ _ (c .before .before .if1 .taken), and-true) (cc)
 
 channel-of-requires-2 : tie.Need-channel-of-requires-2
 channel-of-requires-2 c κs = search needs
@@ -36,7 +37,7 @@ is-between-requires-4 c κs = search needs
 
 returns-2 : tie.Need-returns-2
 unfolding inRange
-returns-2 c = simp (ne-eqb _ _ (c .before .before .before .before .before .before .before .if1 .left), eq-eqb _ _ (c .before .before .before .before .before .before .if2 .taken)) (cc)
+returns-2 c = simp (ne-eqb _ _ (c .before .before .before .before .before .before .before .if1 .left), eq-eqb _ _ (c .before .before .before .before .before .before .if2 .taken), and-true) (cc)
 
 channel-of-requires-5 : tie.Need-channel-of-requires-5
 channel-of-requires-5 c κs = search needs
@@ -58,7 +59,7 @@ is-between-requires-7 c κs = search needs
 
 returns-3 : tie.Need-returns-3
 unfolding inRange
-returns-3 c = simp (ne-eqb _ _ (c .before .before .before .before .before .before .before .if1 .left), ne-eqb _ _ (c .before .before .before .before .before .before .if2 .left)) (cc)
+returns-3 c = simp (ne-eqb _ _ (c .before .before .before .before .before .before .before .if1 .left), ne-eqb _ _ (c .before .before .before .before .before .before .if2 .left), and-true) (cc)
 
 pub in-range-spec : {M : Type 1} → statement M
 in-range-spec =
