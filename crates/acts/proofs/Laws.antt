@@ -11,15 +11,18 @@ use Rattle.sweep.specs.declared.Task.{Task}
 use Rattle.ink.specs.declared.Ink.{Ink}
 use Rattle.paint.specs.declared.Clip.{Clip}
 use Rattle.paint.specs.Paint.{State, state, paint}
-use Rattle.sweep.specs.Copy.{inTurn, CanPaint, Orderly}
+use Rattle.sweep.specs.Copy.{inTurn}
+use Rattle.sweep.specs.Asked.{CanPaint, Orderly}
 use Rattle.scale.specs.declared.Stretch.{Stretch}
-use Rattle.scale.specs.Stretch.{stretched, CanStretch}
+use Rattle.scale.specs.Stretch.{stretched}
+use Rattle.scale.specs.Asked.{CanStretch}
 use Rattle.line.specs.declared.Line.{Line}
-use Rattle.line.specs.Draw.{Drawable}
+use Rattle.line.specs.Asked.{Drawable}
 use Rattle.host.specs.declared.Feed.{Feed}
 use Rattle.bits.specs.declared.Plain.{Plain}
-use Rattle.host.specs.Host.{wordsOf, byWord, Sizes}
-use Rattle.host.specs.Draw.{hostTouches, drawn, Opened, Waits}
+use Rattle.host.specs.Host.{wordsOf, byWord}
+use Rattle.host.specs.Asked.{Sizes, Opened, Waits}
+use Rattle.host.specs.Draw.{hostTouches, drawn}
 use Rattle.plain.specs.Plain.{plainInk}
 use Rattle.plain.proofs.PlainLaws.{plain-drawn, plain-waits}
 use Rattle.registers.specs.declared.Regs.{Regs}

@@ -9,13 +9,13 @@ use native.Mathlib.Omega.{arith}
 use lib.ListN.{length}
 use Rattle.surface.specs.declared.Surface.{Surface}
 use Rattle.surface.specs.Place.{readPx}
-use Rattle.surface.specs.Pixels.{Px, Inside, NotBefore}
+use Rattle.surface.specs.Pixels.{Px, Inside, NotBefore, origin}
 use Rattle.surface.proofs.Lists.{In}
 use Rattle.surface.proofs.Rects.{in-rect, rect-in, Past}
-use Rattle.paint.specs.Clip.{origin}
 use Rattle.paint.specs.Paint.{state, paint}
 use Rattle.paint.proofs.Frame.{Bytes}
-use Rattle.sweep.specs.Copy.{sourcePlace, asBefore, inTurn, CanPaint, Orderly}
+use Rattle.sweep.specs.Copy.{sourcePlace, asBefore, inTurn}
+use Rattle.sweep.specs.Asked.{CanPaint, Orderly}
 use Rattle.rect.proofs.Order.{source-inside, as-before}
 use Rattle.rect.proofs.Plain.{PlainCopy}
 use Rattle.rect.proofs.Smear.{smears}

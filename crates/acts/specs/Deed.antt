@@ -1,9 +1,8 @@
 -- What each command does: the number of the row that refuses it, and what it leaves where none does.
 -- Assumes nothing.
 use mathlib.Core.Bool.{true, false, cond, _&&_}
-use mathlib.Core.Path.{_≡_}
 use mathlib.Core.List.{List}
-use Prim.Native.Nat.{ℕ, _+_, _<_}
+use Prim.Native.Nat.{ℕ, _+_}
 use lib.Dec.{eqb, leb, ltb}
 use lib.ListN.{length}
 use Rattle.paint.specs.Paint.{State, state, Touch, paint}
@@ -142,8 +141,3 @@ unfoldable pub starting : Bank → Blit → List ℕ → ℕ → Deed
 starting b k m d =
     byNumber (number (b .regs)) (idling b k m) (copying (stored b 0x5c d) k m) (stretching (stored b 0x5c d) k m) (feeding b k m d) (filling (stored b 0x6c d) k m)
     (lining (stored b 0x6c d) k m) (unbuilt b k m)
-
--- ---- what a function asks for: a blit that the table takes, and that has not had all its words
-pub record Feeds (b : Bank) (k : Blit) (len : ℕ) : Type 0 where
-  pub fine : hostVerdict (b .regs) len ≡ 0
-  pub more : k .taken < wordsOf (feedOf (b .regs))

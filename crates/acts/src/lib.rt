@@ -3,7 +3,8 @@ use bank::Bank;
 ghost use mathlib.Core.Path.{_≡_};
 ghost use lib.ListN.{length};
 ghost use Rattle.paint.specs.Paint.{state};
-ghost use Rattle.acts.specs.Deed.{noBlit, rectEnded, lineEnded, touchedByWord, paintedBy, deed, judged, filling, copying, stretching, lining, opening, feeding, Feeds, carrying, aimed, starting};
+ghost use Rattle.acts.specs.Deed.{noBlit, rectEnded, lineEnded, touchedByWord, paintedBy, deed, judged, filling, copying, stretching, lining, opening, feeding, carrying, aimed, starting};
+ghost use Rattle.acts.specs.Asked.{Feeds};
 
 // A host blit: how many words it has taken, the last of them, and whether it waits for more.
 pub struct Blit {

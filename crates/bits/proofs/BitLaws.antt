@@ -11,7 +11,8 @@ use lib.Dec.{eqb}
 use lib.ListN.{getD}
 use borrow.Author.Tests.{eq-eqb, ne-eqb}
 use Rattle.surface.specs.declared.Surface.{Surface}
-use Rattle.surface.specs.Place.{byteAt, byteOf, monoBit, writeBytes, Held}
+use Rattle.surface.specs.Place.{byteAt, byteOf, monoBit, writeBytes}
+use Rattle.surface.specs.Asked.{Held}
 use Rattle.surface.specs.Pixels.{Px, px, across}
 use Rattle.surface.proofs.Run.{in-rows, pixel-held, run-pixel}
 use Rattle.surface.proofs.Rects.{same-px, in-across}
@@ -20,10 +21,11 @@ use Rattle.spans.proofs.Spans.{IsByte}
 use Rattle.paint.specs.Paint.{State, state, dab, dabAt, paint}
 use Rattle.paint.proofs.Owners.{of-byte, dab-leaves}
 use Rattle.paint.proofs.Turns.{paint-while, dab-at}
-use Rattle.runs.specs.Runs.{RowOn}
+use Rattle.runs.specs.Asked.{RowOn}
 use Rattle.bits.specs.declared.Plain.{Plain}
 use Rattle.bits.specs.declared.Mono.{Mono}
-use Rattle.bits.specs.Bits.{coloured, bitOf, byteTouches, monoGiving, monoly, RowMono, CanMono}
+use Rattle.bits.specs.Bits.{coloured, bitOf, byteTouches, monoGiving, monoly}
+use Rattle.bits.specs.Asked.{RowMono, CanMono}
 
 -- ---- one pixel
 module _ (at n bit count : ℕ) (p : Plain) (m : List ℕ) where

@@ -4,11 +4,12 @@ ghost use mathlib.Core.Path.{_≡_};
 ghost use mathlib.Core.Bool.{false};
 ghost use Prim.Native.Nat.{_+_, _-_, _<_, _≤_, min};
 ghost use lib.ListN.{length};
-ghost use Rattle.surface.specs.Place.{Colour, Held};
+ghost use Rattle.surface.specs.Asked.{Colour, Held};
 ghost use Rattle.surface.specs.Pixels.{across, rect};
 ghost use Rattle.paint.specs.Paint.{state, dabAt, paint};
-ghost use Rattle.runs.specs.Runs.{RowOn};
-ghost use Rattle.bits.specs.Bits.{coloured, byteTouches, monoly, RowMono, CanMono};
+ghost use Rattle.runs.specs.Asked.{RowOn};
+ghost use Rattle.bits.specs.Bits.{coloured, byteTouches, monoly};
+ghost use Rattle.bits.specs.Asked.{RowMono, CanMono};
 
 // What each bit needs: the target, the colours of the two bits, and whether a 0 bit leaves its pixel unwritten.
 pub struct Plain {

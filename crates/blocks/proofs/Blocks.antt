@@ -10,12 +10,14 @@ use native.Mathlib.Omega.{arith}
 use native.Mathlib.Decide.{decLt}
 use lib.ListN.{getD}
 use Rattle.surface.specs.declared.Surface.{Surface}
-use Rattle.surface.specs.Place.{rowBytes, byteAt, Small, Near}
+use Rattle.surface.specs.Place.{rowBytes, byteAt}
+use Rattle.surface.specs.Asked.{Small, Near}
 use Rattle.surface.specs.Pixels.{Px, px, Inside}
 use Rattle.surface.proofs.Lists.{by-cases}
 use Rattle.surface.proofs.Rows.{by-layout, byteAt-flat, byteAt-tiled, rowBytes-flat, rowBytes-tiled, byteAt-inj, byteAt-small}
 use Rattle.blocks.specs.declared.Way.{Way}
-use Rattle.blocks.specs.Blocks.{Put, origin, originByte, Laid, pitch, Lines, Goes, Columns, Rows}
+use Rattle.blocks.specs.Blocks.{Put, origin, originByte, Laid, pitch}
+use Rattle.blocks.specs.Asked.{Lines, Goes, Columns, Rows}
 
 -- ---- where the bytes of a block are
 flat-pitch : (s : Surface) → s .tiled ≡ false → pitch s ≡ s .stride

@@ -10,10 +10,12 @@ use Rattle.surface.specs.declared.Surface.{Surface}
 use Rattle.surface.specs.Place.{rowBytes, byteAt}
 use Rattle.surface.specs.Pixels.{Px, px, Inside}
 use Rattle.surface.proofs.Rows.{byteAt-inj}
-use Rattle.runs.specs.Runs.{Given, RectOn}
+use Rattle.runs.specs.Runs.{Given}
+use Rattle.runs.specs.Asked.{RectOn}
 use Rattle.runs.proofs.Even.{byteNumber}
 use Rattle.blocks.specs.declared.Way.{Way}
-use Rattle.blocks.specs.Blocks.{Put, origin, originByte, Goes}
+use Rattle.blocks.specs.Blocks.{Put, origin, originByte}
+use Rattle.blocks.specs.Asked.{Goes}
 use Rattle.blocks.proofs.Blocks.{way, put-below}
 use Rattle.blocks.proofs.Pixels.{put-given, given-put, byte-held, bytes-wide}
 

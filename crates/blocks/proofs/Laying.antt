@@ -12,7 +12,8 @@ use Rattle.surface.proofs.Lists.{by-cases}
 use Rattle.surface.proofs.OnLaws.{pos-of-ne}
 use Rattle.runs.specs.Runs.{Shifted}
 use Rattle.runs.proofs.Runs.{untouched}
-use Rattle.blocks.specs.Blocks.{Laid, Lines}
+use Rattle.blocks.specs.Blocks.{Laid}
+use Rattle.blocks.specs.Asked.{Lines}
 
 -- ---- byte j of h lines of n bytes with nothing between them
 some-bytes : (n h j : ℕ) → j < h * n → 0 < n

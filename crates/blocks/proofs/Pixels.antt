@@ -8,7 +8,8 @@ use native.Mathlib.Omega.{arith}
 use lib.Arith.{digits-lt}
 use lib.ListN.{getD}
 use Rattle.surface.specs.declared.Surface.{Surface}
-use Rattle.surface.specs.Place.{rowBytes, byteAt, byteOf, OnColour}
+use Rattle.surface.specs.Place.{rowBytes, byteAt, byteOf}
+use Rattle.surface.specs.Asked.{OnColour}
 use Rattle.surface.specs.Pixels.{Px, px, Inside}
 use Rattle.surface.proofs.OnLaws.{colour-byte, on-column}
 use Rattle.surface.proofs.Pixels.{in-row-byte}

@@ -6,8 +6,10 @@ ghost use Prim.Native.Nat.{_+_, _*_, _%_, _<_, _≤_};
 ghost use lib.ListN.{length};
 ghost use Rattle.surface.specs.Pixels.{across, rect};
 ghost use Rattle.paint.specs.Paint.{state, paint};
-ghost use Rattle.runs.specs.Runs.{evenly, RowOn, RectOn};
-ghost use Rattle.blocks.specs.Blocks.{Put, originByte, Laid, pitch, Lines, Goes, Columns, Rows};
+ghost use Rattle.runs.specs.Runs.{evenly};
+ghost use Rattle.runs.specs.Asked.{RowOn, RectOn};
+ghost use Rattle.blocks.specs.Blocks.{Put, originByte, Laid, pitch};
+ghost use Rattle.blocks.specs.Asked.{Lines, Goes, Columns, Rows};
 
 // Bytes go from one surface to another: the first column and row of both, columns in bytes.
 pub struct Way {

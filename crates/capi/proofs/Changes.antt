@@ -28,7 +28,7 @@ use Rattle.engine.specs.Step.{Step, making, judging, regs, withBlit, idle, stor
 use Rattle.engine.proofs.Short.{afterRect, afterLine, filled, copied, stretched, lined, begun, fed}
 use Rattle.acts.proofs.Cases.{by-test, picked, by-number}
 use Rattle.state.specs.Layout.{slot, byteIn, encoded, withSlots, commandSlots}
-use Rattle.capi.specs.Calls.{Draws}
+use Rattle.capi.specs.Asked.{Draws}
 use Rattle.state.proofs.Places.{Word, encoded-length, encoded-byte, slots-laid}
 
 pub record Like (os : List ℕ) (e after : Engine) : Type 0 where

@@ -8,7 +8,8 @@ use lib.Dec.{eqb}
 use lib.ListN.{length, take, drop}
 use borrow.Author.Tests.{eq-eqb, ne-eqb, eqb-true, eqb-false}
 use Rattle.surface.specs.declared.Surface.{Surface}
-use Rattle.surface.specs.Place.{byteOf, Colour}
+use Rattle.surface.specs.Place.{byteOf}
+use Rattle.surface.specs.Asked.{Colour}
 use Rattle.formats.specs.Format.{targetOf}
 use Rattle.views.specs.View.{viewAnswer, viewed}
 use Rattle.views.proofs.ViewLaws.{given-zero, view-given, view-refused}

@@ -1,6 +1,5 @@
 -- What each call makes of the bytes that are lent to it, in terms of the engine's definitions.
 -- Assumes nothing.
-use mathlib.Core.Path.{_≡_}
 use mathlib.Core.Bool.{cond}
 use mathlib.Core.List.{List}
 use Prim.Native.Nat.{ℕ, _+_, _*_, _^_}
@@ -10,8 +9,6 @@ use Rattle.surface.specs.Place.{byteOf}
 use Rattle.formats.specs.Format.{targetOf}
 use Rattle.views.specs.View.{viewAnswer}
 use Rattle.bank.specs.declared.Reading.{Reading}
-use Rattle.registers.specs.declared.Place.the-variants.{Register, Pattern}
-use Rattle.registers.specs.Offsets.{placeOf}
 use Rattle.bank.specs.Bank.{readNumber, readValue}
 use Rattle.engine.specs.declared.Answer.{Answer}
 use Rattle.engine.specs.Step.{Step, numberOf, countOf, freshEngine, written, readFrom}
@@ -84,8 +81,3 @@ plainly s len at d =
     cond (ltb (2 ^ 24) len) (opening s (packed 1 0))
     (cond (eqb len (openedIn s)) (cond (eqb (wordAt s 0x04) 1) (opening s (packed 3 0)) (opening (withWord s at d) 0))
     (opening s (packed 1 0)))
-
--- an offset that is neither a plain register's nor the pattern's
-pub record Draws (o : ℕ) : Type 0 where
-  pub register : placeOf o ≡ Register → o ≡ 0x70
-  pub pattern : (i : ℕ) → placeOf o ≡ Pattern i → ⊥

@@ -6,7 +6,8 @@ ghost use mathlib.Core.Bool.{true};
 ghost use Prim.Native.Nat.{_+_, _<_, _≤_};
 ghost use lib.ListN.{length};
 ghost use Rattle.state.specs.Layout.{stateSize, isState, Bytes};
-ghost use Rattle.capi.specs.Calls.{packedAnswer, call, opening, writtenTo, openedTo, readOf, part, partOf, plainly, Draws};
+ghost use Rattle.capi.specs.Calls.{packedAnswer, call, opening, writtenTo, openedTo, readOf, part, partOf, plainly};
+ghost use Rattle.capi.specs.Asked.{Draws};
 
 // An answer's number in the high 32 bits, its count in the low 32.
 fn pack(a: Answer) -> u64

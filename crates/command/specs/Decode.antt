@@ -5,10 +5,10 @@ use Prim.Native.Nat.{_-_, _/_, _%_, _^_}
 use lib.Dec.{eqb}
 use Rattle.surface.specs.declared.Surface.{Surface}
 use Rattle.surface.specs.Place.{surface}
+use Rattle.surface.specs.Pixels.{origin}
 use Rattle.formats.specs.Format.{targetOf, sourceOf}
 use Rattle.ink.specs.declared.Ink.{Ink}
 use Rattle.sweep.specs.declared.Task.{Task}
-use Rattle.paint.specs.Clip.{origin}
 use Rattle.scale.specs.declared.Stretch.{Stretch}
 use Rattle.cuts.specs.Cut.{bit, number, low13, high13, width, height, fillCut, copyCut}
 use Rattle.registers.specs.declared.Regs.{Regs}

@@ -5,15 +5,16 @@ use mathlib.Core.Bool.{Bool, true, false, cond}
 use mathlib.Core.List.{List, [], _∷_, _++_, map, List·Memᴰ·head}
 use Prim.Native.Nat.{ℕ, zero, suc, _+_, _-_, _/_, _^_, _<_, _≤_}
 use native.Mathlib.Omega.{arith}
-use Rattle.surface.specs.Pixels.{Px, px, across, rect}
+use Rattle.surface.specs.Pixels.{Px, px, across, rect, origin}
 use Rattle.surface.proofs.Lists.{In}
 use Rattle.surface.proofs.Rects.{same-px, in-rect}
 use Rattle.paint.specs.declared.Clip.{Clip}
-use Rattle.paint.specs.Clip.{origin, Bits12}
+use Rattle.paint.specs.Asked.{Bits12}
 use Rattle.registers.specs.declared.Regs.{Regs}
 use Rattle.cuts.specs.declared.Cut.{Cut}
 use Rattle.positions.specs.Position.{placed}
-use Rattle.cuts.specs.Cut.{bit, width, height, clipBy, clipOf, firstOf, cutLow, cutAt, copyCut, needed, CutRange}
+use Rattle.cuts.specs.Cut.{bit, width, height, clipBy, clipOf, firstOf, cutLow, cutAt, copyCut, needed}
+use Rattle.cuts.specs.Asked.{CutRange}
 
 -- ---- the clip
 pub clip-bits : (r : Regs) → Bits12 (clipOf r)

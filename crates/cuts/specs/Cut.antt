@@ -2,11 +2,10 @@
 -- Assumes nothing.
 use mathlib.Core.Bool.{Bool, false, cond}
 use mathlib.Core.List.{List, map}
-use Prim.Native.Nat.{ℕ, _+_, _-_, _/_, _%_, _^_, _<_, min, max}
+use Prim.Native.Nat.{ℕ, _+_, _-_, _/_, _%_, _^_, min, max}
 use lib.Dec.{eqb}
-use Rattle.surface.specs.Pixels.{Px, px, rect}
+use Rattle.surface.specs.Pixels.{Px, px, rect, origin}
 use Rattle.paint.specs.declared.Clip.{Clip}
-use Rattle.paint.specs.Clip.{origin, Bits12}
 use Rattle.registers.specs.declared.Regs.{Regs}
 use Rattle.positions.specs.Position.{placed}
 use Rattle.cuts.specs.declared.Cut.{Cut}
@@ -88,17 +87,3 @@ copyOrder r = coveredFrom (bit (r .command) 14) (bit (r .command) 15) (copyCut r
 
 abbrev pub needed : Cut → List Px
 needed c = map (λ p. px (c .sx + (p .x - c .x)) (c .sy + (p .y - c .y))) (covered c)
-
--- ---- what functions ask for
-pub record Axis (least at : ℕ) : Type 0 where
-  pub least12 : least < 2 ^ 12
-  pub small : at < 20480
-
-pub record CutRange (c : Clip) (x y w h sx sy : ℕ) : Type 0 where
-  pub clip : Bits12 c
-  pub x15 : x < 20480
-  pub y15 : y < 20480
-  pub w13 : w < 2 ^ 13
-  pub h13 : h < 2 ^ 13
-  pub sx15 : sx < 20480
-  pub sy15 : sy < 20480

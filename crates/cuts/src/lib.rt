@@ -3,7 +3,8 @@ use paint::Clip;
 use registers::Regs;
 ghost use mathlib.Core.Path.{_≡_};
 ghost use Prim.Native.Nat.{_-_, _^_, _<_, _≤_};
-ghost use Rattle.cuts.specs.Cut.{bit, clipBy, clipOf, firstOf, cutLow, cutSize, cutAt, fillCut, copyCut, Axis, CutRange};
+ghost use Rattle.cuts.specs.Cut.{bit, clipBy, clipOf, firstOf, cutLow, cutSize, cutAt, fillCut, copyCut};
+ghost use Rattle.cuts.specs.Asked.{Axis, CutRange};
 
 // What the clip leaves of a rectangle: its first pixel and size, and the position of its first source pixel, counted from 16384.
 pub struct Cut {

@@ -13,13 +13,12 @@ use lib.Dec.{eqb, ltb}
 use lib.ListN.{length}
 use borrow.Author.Tests.{eq-eqb, ltb-true}
 use Rattle.surface.specs.Place.{sameSurface}
-use Rattle.surface.specs.Pixels.{Px}
+use Rattle.surface.specs.Pixels.{Px, origin}
 use Rattle.spans.specs.Span.{allOn, spanOf, meet}
 use Rattle.surface.proofs.Lists.{In, by-cases}
 use Rattle.surface.proofs.Rects.{rect-in}
 use Rattle.spans.proofs.Corner.{any-corner}
 use Rattle.sweep.specs.declared.Task.{Task}
-use Rattle.paint.specs.Clip.{origin}
 use Rattle.paint.specs.Paint.{state, Touch, paint}
 use Rattle.sweep.specs.Copy.{giving, inTurn}
 use Rattle.scale.specs.Stretch.{stretchGiving}

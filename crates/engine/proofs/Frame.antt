@@ -9,12 +9,12 @@ use native.Mathlib.Omega.{arith}
 use native.Mathlib.Decide.{ℕ-discrete}
 use lib.ListN.{length, getD}
 use Rattle.surface.specs.declared.Surface.{Surface}
-use Rattle.surface.specs.Pixels.{Px, Inside}
+use Rattle.surface.specs.Pixels.{Px, Inside, origin}
 use Rattle.surface.proofs.Lists.{In, by-cases}
 use Rattle.surface.proofs.Rects.{in-rect}
 use Rattle.spans.proofs.Spans.{IsByte, addresses-in}
 use Rattle.paint.specs.declared.Clip.{Clip}
-use Rattle.paint.specs.Clip.{origin, inClip}
+use Rattle.paint.specs.Clip.{inClip}
 use Rattle.paint.specs.Paint.{state, Touch, paint}
 use Rattle.paint.proofs.ClipLaws.{clip-in}
 use Rattle.paint.proofs.Frame.{Bytes, frame, paint-length, paint-bytes}

@@ -10,10 +10,10 @@ use lib.Dec.{eqb, ltb}
 use lib.ListN.{length, getD}
 use Rattle.surface.specs.declared.Surface.{Surface}
 use Rattle.surface.specs.Place.{sameSurface, byteAt, byteOf, readPx, rowPixels, firstByte, byteCount, onSurface}
-use Rattle.surface.specs.Pixels.{Px, NotBefore}
+use Rattle.surface.specs.Pixels.{Px, NotBefore, origin}
 use Rattle.spans.specs.Span.{allOn, addresses, spanOf, meet}
 use Rattle.views.specs.View.{viewAnswer, viewed}
-use Rattle.paint.specs.Clip.{origin, inClip}
+use Rattle.paint.specs.Clip.{inClip}
 use Rattle.paint.specs.Paint.{state, Touch, dab, paint}
 use Rattle.sweep.specs.Copy.{asBefore}
 use Rattle.registers.specs.declared.Regs.{Regs}

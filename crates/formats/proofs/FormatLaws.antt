@@ -6,7 +6,7 @@ use Prim.Native.Nat.{ℕ, _+_, _*_, _/_, _%_, _^_, _<_, _≤_}
 use native.Mathlib.Omega.{arith}
 use lib.Dec.{eqb}
 use borrow.Author.Tests.{not-true}
-use Rattle.surface.specs.Place.{Small, Colour}
+use Rattle.surface.specs.Asked.{Small, Colour}
 use Rattle.formats.specs.Format.{isTiled, targetCode, sourceCode, coloured, bytesOf, targetNamed, viewNamed, targetOf, sourceOf}
 use Rattle.formats.specs.Step.{packingOf, bitsPer, rowLength, stepOf}
 use Rattle.surface.proofs.Bytes.{product-lt}

@@ -1,7 +1,7 @@
 -- The step from one row of a source to the next, and how much data a host blit needs.
 -- Assumes nothing.
 use mathlib.Core.Bool.{cond, _||_}
-use Prim.Native.Nat.{ℕ, _+_, _*_, _/_, _%_, _-_, _^_, _<_}
+use Prim.Native.Nat.{ℕ, _+_, _*_, _/_, _%_, _-_, _^_}
 use lib.Dec.{eqb}
 
 -- bits 23:22 of the source's format word
@@ -29,8 +29,3 @@ dataBytes bytes step width height = cond (eqb width 0 || eqb height 0) 0 ((heigh
 
 unfoldable pub dataWords : ℕ → ℕ → ℕ → ℕ → ℕ
 dataWords bytes step width height = (dataBytes bytes step width height + 3) / 4
-
--- a width as a size register has it, of a format
-pub record Sized (bytes width : ℕ) : Type 0 where
-  pub format : bytes < 5
-  pub fits : width < 2 ^ 13

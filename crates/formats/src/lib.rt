@@ -3,7 +3,8 @@ use surface::Surface;
 ghost use mathlib.Core.Path.{_≡_};
 ghost use Prim.Native.Nat.{_+_, _-_, _%_, _^_, _<_};
 ghost use Rattle.formats.specs.Format.{bytesOf, coloured, isTiled, targetNamed, viewNamed, targetOf, sourceNamed, hostNamed, sourceOf};
-ghost use Rattle.formats.specs.Step.{rowLength, stepOf, Sized};
+ghost use Rattle.formats.specs.Step.{rowLength, stepOf};
+ghost use Rattle.formats.specs.Asked.{Sized};
 
 fn bytes_of(code: u32) -> u32
     ensures { λ r. ⌜ r ≡ bytesOf code ⌝ }

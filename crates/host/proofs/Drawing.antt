@@ -8,13 +8,14 @@ use native.Mathlib.Omega.{arith}
 use borrow.Author.Tests.{lt-ltb, le-ltb}
 use lib.ListN.{length}
 use Rattle.surface.specs.Place.{readPx}
+use Rattle.surface.specs.Pixels.{origin}
 use Rattle.ink.specs.declared.Ink.{Ink}
 use Rattle.paint.specs.declared.Clip.{Clip}
 use Rattle.paint.specs.declared.Source.{Source}
 use Rattle.paint.specs.Paint.{State, state, dab, Touch, paint}
 use Rattle.paint.specs.Mix.{mixed}
 use Rattle.ink.specs.Pattern.{patternValue}
-use Rattle.paint.specs.Clip.{origin, inClip, pixelAt}
+use Rattle.paint.specs.Clip.{inClip, pixelAt}
 use Rattle.paint.proofs.Turns.{paint-append}
 use Rattle.paint.proofs.Frame.{count-most}
 use Rattle.host.specs.declared.Feed.{Feed}

@@ -10,7 +10,8 @@ use native.Mathlib.Omega.{arith}
 use borrow.Author.Tests.{ltb-true, lt-ltb}
 use lib.Dec.{ltb}
 use Rattle.host.specs.declared.Feed.{Feed}
-use Rattle.host.specs.Host.{lastColumn, lastByteOf, Pixel, pixel, valueOf, whole, run, byByte, byBytes, byWord, Rows}
+use Rattle.host.specs.Host.{lastColumn, lastByteOf, Pixel, pixel, valueOf, whole, run, byByte, byBytes, byWord}
+use Rattle.host.specs.Asked.{Rows}
 use Rattle.host.proofs.Places.{whole-width, column-of, of-column, row-of, rest-of}
 
 abbrev pub Has : Pixel → List Pixel → Type 0

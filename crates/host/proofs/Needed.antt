@@ -11,7 +11,8 @@ use Rattle.surface.proofs.Bytes.{product-lt}
 use Rattle.formats.proofs.FormatLaws.{row-small}
 use Rattle.surface.proofs.OnLaws.{pos-of-ne}
 use Rattle.host.specs.declared.Feed.{Feed}
-use Rattle.host.specs.Host.{bitsOf, lastColumn, lastByteOf, wordsOf, Pixel, pixel, valueOf, byWord, Sizes, Rows}
+use Rattle.host.specs.Host.{bitsOf, lastColumn, lastByteOf, wordsOf, Pixel, pixel, valueOf, byWord}
+use Rattle.host.specs.Asked.{Sizes, Rows}
 use Rattle.host.proofs.Places.{row-bits, column-held}
 use Rattle.host.proofs.Finished.{Has, finished-by}
 

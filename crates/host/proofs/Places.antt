@@ -11,7 +11,8 @@ use lib.Dec.{eqb}
 use Rattle.formats.specs.Step.{rowLength}
 use Rattle.surface.proofs.OnLaws.{pos-of-ne}
 use Rattle.host.specs.declared.Feed.{Feed}
-use Rattle.host.specs.Host.{bitsOf, lastColumn, lastByteOf, whole, Rows}
+use Rattle.host.specs.Host.{bitsOf, lastColumn, lastByteOf, whole}
+use Rattle.host.specs.Asked.{Rows}
 
 -- ---- bits
 pub mono-bits : (f : Feed) → f .bytes ≡ 0 → bitsOf f ≡ 1

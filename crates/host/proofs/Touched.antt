@@ -5,7 +5,7 @@ use mathlib.Core.Logic.{⊎-elim}
 use mathlib.Core.Bool.{Bool, true, false, cond}
 use mathlib.Core.List.{List, [], _∷_, List·Memᴰ, List·Memᴰ·head, List·Memᴰ·tail, List·Memᴰ·not-nil, List·Memᴰ·cases-cons}
 use Prim.Native.Nat.{ℕ, _+_, _<_}
-use Rattle.surface.specs.Place.{OnColour}
+use Rattle.surface.specs.Asked.{OnColour}
 use Rattle.surface.specs.Pixels.{Px}
 use Rattle.ink.specs.declared.Ink.{Ink}
 use Rattle.paint.specs.declared.Clip.{Clip}
@@ -13,8 +13,9 @@ use Rattle.paint.specs.Paint.{Touch}
 use Rattle.paint.specs.Mix.{placed}
 use Rattle.paint.specs.Clip.{inClip, pixelAt}
 use Rattle.host.specs.declared.Feed.{Feed}
-use Rattle.host.specs.Host.{Pixel, byWord, Rows}
-use Rattle.host.specs.Draw.{hostSource, hostTouches, Opened}
+use Rattle.host.specs.Host.{Pixel, byWord}
+use Rattle.host.specs.Asked.{Rows, Opened}
+use Rattle.host.specs.Draw.{hostSource, hostTouches}
 use Rattle.host.proofs.Finished.{Has, finished-by}
 
 -- p is the target pixel of pixel (i, j) of the rectangle, at a position inside the clip

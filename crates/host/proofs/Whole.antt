@@ -13,7 +13,8 @@ use lib.Arith.{digits-div, digits-mod}
 use lib.Dec.{ltb}
 use Rattle.formats.specs.Step.{rowLength, dataBytes, dataWords}
 use Rattle.host.specs.declared.Feed.{Feed}
-use Rattle.host.specs.Host.{lastByteOf, wordsOf, Pixel, pixel, valueOf, whole, run, byByte, byBytes, byWord, Rows}
+use Rattle.host.specs.Host.{lastByteOf, wordsOf, Pixel, pixel, valueOf, whole, run, byByte, byBytes, byWord}
+use Rattle.host.specs.Asked.{Rows}
 use Rattle.host.specs.Stream.{valueAt, rowFrom, rows, before, byWords}
 use Rattle.host.proofs.Places.{whole-none, whole-all, whole-more, column-of, step-some}
 use Rattle.host.proofs.Finished.{Has, finished-by}

@@ -3,9 +3,9 @@
 -- Assumes nothing.
 use mathlib.Core.Bool.{cond}
 use mathlib.Core.List.{List, [], _∷_, _++_}
-use Prim.Native.Nat.{ℕ, zero, suc, _+_, _-_, _*_, _/_, _%_, _^_, _<_, _≤_, min}
+use Prim.Native.Nat.{ℕ, zero, suc, _+_, _-_, _*_, _/_, _%_, _^_, min}
 use lib.Dec.{eqb, ltb}
-use Rattle.formats.specs.Step.{bitsPer, rowLength, dataWords}
+use Rattle.formats.specs.Step.{bitsPer, dataWords}
 use Rattle.host.specs.declared.Feed.{Feed}
 
 -- ---- places in the data
@@ -70,18 +70,3 @@ byBytes f last word o (suc n) = byByte f last word o ++ byBytes f last word (o +
 -- by word number k; `last` is the word before it
 unfoldable pub byWord : Feed → ℕ → ℕ → ℕ → List Pixel
 byWord f last word k = byBytes f last word (4 * k) 4
-
--- ---- what functions ask for
-
--- a source as registers can name one
-pub record Sizes (f : Feed) : Type 0 where
-  pub bytes : f .bytes < 5
-  pub step : f .step < 2 ^ 17
-  pub width : f .width < 2 ^ 13
-  pub height : f .height < 2 ^ 13
-
--- the same, with pixels in a row, which the step holds
-pub record Rows (f : Feed) : Type 0 where
-  pub sizes : Sizes f
-  pub held : rowLength (f .bytes) (f .width) ≤ f .step
-  pub some : 0 < rowLength (f .bytes) (f .width)

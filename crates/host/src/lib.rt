@@ -9,8 +9,9 @@ ghost use lib.ListN.{length};
 ghost use Rattle.formats.specs.Step.{bitsPer, dataWords};
 ghost use Rattle.paint.specs.Paint.{state, paint};
 ghost use Rattle.paint.specs.Mix.{source};
-ghost use Rattle.host.specs.Host.{pixel, valueOf, whole, byByte, byWord, Sizes};
-ghost use Rattle.host.specs.Draw.{hostSource, hostTouches, drawn, Opened, Waits};
+ghost use Rattle.host.specs.Host.{pixel, valueOf, whole, byByte, byWord};
+ghost use Rattle.host.specs.Asked.{Sizes, Opened, Waits};
+ghost use Rattle.host.specs.Draw.{hostSource, hostTouches, drawn};
 
 // The source (its step, its size in pixels, its bytes per pixel with 0 for mono), and the target position of its upper left pixel, counted from
 // 16384.

@@ -10,7 +10,8 @@ use lib.ListN.{length, getD, set}
 use lib.Seq.{getD-set-same, getD-set-other}
 use Rattle.surface.proofs.Lists.{by-cases}
 use Rattle.surface.specs.Place.{readBytes}
-use Rattle.ink.specs.Pattern.{patternPixel, Cell}
+use Rattle.ink.specs.Pattern.{patternPixel}
+use Rattle.ink.specs.Asked.{Cell}
 
 pub in-pattern : {bytes column row : ℕ} → Cell bytes column row → (row * 8 + column) * bytes + bytes < 257
 in-pattern {bytes} {column} {row} c =

@@ -34,14 +34,7 @@ patternIn ink pattern column row =
 abbrev pub patternValue : Ink → List ℕ → ℕ → ℕ → ℕ
 patternValue ink pattern x y = patternIn ink pattern (patternColumn ink x) (patternRow ink y)
 
--- ---- what functions ask for and give
-
--- a place of the pattern, for pixels of 1 to 4 bytes
-pub record Cell (bytes column row : ℕ) : Type 0 where
-  pub some : 0 < bytes
-  pub four : bytes < 5
-  pub column8 : column < 8
-  pub row8 : row < 8
+-- ---- what functions give
 
 -- the eight values of a row of the pattern
 pub record RowOf (ink : Ink) (pattern : List ℕ) (row : ℕ) (values : List ℕ) : Type 0 where

@@ -3,8 +3,9 @@ use surface::Surface;
 ghost use mathlib.Core.Path.{_≡_};
 ghost use Prim.Native.Nat.{_+_, _-_, _*_, _/_, _%_, _^_, _<_};
 ghost use lib.ListN.{getD};
-ghost use Rattle.surface.specs.Place.{Colour};
-ghost use Rattle.ink.specs.Pattern.{patternColumn, patternRow, patternBit, patternPixel, patternIn, patternValue, Cell, RowOf};
+ghost use Rattle.surface.specs.Asked.{Colour};
+ghost use Rattle.ink.specs.Pattern.{patternColumn, patternRow, patternBit, patternPixel, patternIn, patternValue, RowOf};
+ghost use Rattle.ink.specs.Asked.{Cell};
 
 // What does not change within a command: the target, the colours, the four raster operations, the two keys, and how the pattern lies.
 pub struct Ink {

@@ -8,7 +8,7 @@ use Prim.Native.Nat.{ℕ, zero, suc, _+_, _-_, _<_, _≤_, min, max}
 use native.Mathlib.Omega.{arith}
 use Rattle.surface.specs.declared.Surface.{Surface}
 use Rattle.surface.specs.Place.{onSurface, readPx}
-use Rattle.surface.specs.Pixels.{Px, rect}
+use Rattle.surface.specs.Pixels.{Px, rect, origin}
 use Rattle.spans.specs.Span.{allOn}
 use Rattle.surface.proofs.OnLaws.{and-left, and-right}
 use Rattle.surface.proofs.Lists.{In}
@@ -19,7 +19,7 @@ use Rattle.ink.specs.declared.Ink.{Ink}
 use Rattle.paint.specs.Paint.{State, state, dab, Touch, paint}
 use Rattle.ink.specs.Pattern.{patternValue}
 use Rattle.paint.specs.Mix.{bitSource, mixed}
-use Rattle.paint.specs.Clip.{origin, inClip, pixelAt}
+use Rattle.paint.specs.Clip.{inClip, pixelAt}
 use Rattle.paint.proofs.ClipLaws.{in-clip}
 use Rattle.line.specs.declared.Point.{Point}
 use Rattle.line.specs.declared.Line.{Line}

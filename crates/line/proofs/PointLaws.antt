@@ -12,7 +12,8 @@ use lib.Dec.{leb}
 use lib.ListN.{length}
 use Rattle.line.specs.declared.Point.{Point}
 use Rattle.line.specs.declared.Line.{Line}
-use Rattle.line.specs.Line.{point, far, towards, xMajor, longer, shorter, place, pointAt, pointsFrom, pointCount, points, Within, Placed}
+use Rattle.line.specs.Line.{point, far, towards, xMajor, longer, shorter, place, pointAt, pointsFrom, pointCount, points}
+use Rattle.line.specs.Asked.{Within, Placed}
 use Rattle.line.proofs.Sides.{either, longer-x, longer-y, shorter-x, shorter-y, shorter-le, count-le, aside-first, aside-last, aside-le}
 
 -- ---- by the major axis

@@ -8,7 +8,8 @@ use native.Mathlib.Omega.{arith}
 use borrow.Author.Tests.{leb-true, leb-false}
 use lib.Arith.{digits-div}
 use Rattle.line.specs.declared.Line.{Line}
-use Rattle.line.specs.Line.{dx, dy, far, xMajor, longer, shorter, aside, pointCount, Within, Placed}
+use Rattle.line.specs.Line.{dx, dy, far, xMajor, longer, shorter, aside, pointCount}
+use Rattle.line.specs.Asked.{Within, Placed}
 
 -- what follows from a test that holds, and from one that does not
 pub either : {A : Type 0} (t : Bool) → (t ≡ true → A) → (t ≡ false → A) → A

@@ -1,22 +1,18 @@
 -- The pixels that a line covers, what is put there, and when one of them is off the surface.
 -- Assumes nothing.
-use mathlib.Core.Path.{_≡_}
-use mathlib.Core.Bool.{Bool, true, cond, not}
+use mathlib.Core.Bool.{Bool, cond, not}
 use mathlib.Core.List.{List, [], _∷_}
-use Prim.Native.Nat.{ℕ, _+_, _^_, _<_}
+use Prim.Native.Nat.{ℕ}
 use Rattle.surface.specs.declared.Surface.{Surface}
-use Rattle.surface.specs.Place.{Small, Colour}
 use Rattle.surface.specs.Pixels.{Px}
 use Rattle.spans.specs.Span.{allOn}
 use Rattle.paint.specs.declared.Clip.{Clip}
 use Rattle.ink.specs.declared.Ink.{Ink}
 use Rattle.paint.specs.Paint.{Touch}
 use Rattle.paint.specs.Mix.{bitSource, placed}
-use Rattle.paint.specs.Clip.{inClip, pixelAt, Bits12}
+use Rattle.paint.specs.Clip.{inClip, pixelAt}
 use Rattle.line.specs.declared.Point.{Point}
-use Rattle.line.specs.declared.Line.{Line}
 use Rattle.line.specs.declared.Pen.{Pen}
-use Rattle.line.specs.Line.{points, Placed}
 use Rattle.line.specs.Stipple.{stippleBit, after}
 
 -- the points inside the clip, as pixels
@@ -36,25 +32,3 @@ lineTouches ink pattern c pen style (p ∷ ps) =
 -- a covered point is off the surface, in a memory of len bytes
 unfoldable pub lineOff : Surface → ℕ → Clip → List Point → Bool
 lineOff s len c ps = not (allOn s len (coveredPoints c ps))
-
--- ---- what functions ask for
-
--- a line that can be tested against a surface
-pub record Testable (s : Surface) (c : Clip) (l : Line) : Type 0 where
-  pub surface : Small s
-  pub clip : Bits12 c
-  pub line : Placed l
-
--- a line that can be drawn, in a memory of len bytes: no covered point is off the surface
-pub record Drawable (s : Surface) (len : ℕ) (c : Clip) (l : Line) : Type 0 where
-  pub surface : Colour s
-  pub clip : Bits12 c
-  pub line : Placed l
-  pub on : allOn s len (coveredPoints c (points l)) ≡ true
-
--- the same of a single point, where n pixels were written before it
-pub record DrawablePoint (s : Surface) (len : ℕ) (c : Clip) (p : Point) (n : ℕ) : Type 0 where
-  pub surface : Colour s
-  pub clip : Bits12 c
-  pub on : allOn s len (coveredPoints c (p ∷ [])) ≡ true
-  pub room : n + 1 < 2 ^ 32

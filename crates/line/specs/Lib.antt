@@ -1,3 +1,4 @@
+pub mod Asked
 pub mod Line
 pub mod Stipple
 pub mod Draw

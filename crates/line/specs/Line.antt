@@ -2,9 +2,9 @@
 -- Assumes nothing.
 use mathlib.Core.Bool.{Bool, false, cond}
 use mathlib.Core.List.{List, [], _∷_}
-use Prim.Native.Nat.{ℕ, zero, suc, _+_, _-_, _*_, _/_, _<_, _≤_}
+use Prim.Native.Nat.{ℕ, zero, suc, _+_, _-_, _*_, _/_}
 use lib.Dec.{leb}
-use Rattle.paint.specs.Clip.{origin}
+use Rattle.surface.specs.Pixels.{origin}
 use Rattle.line.specs.declared.Point.{Point}
 use Rattle.line.specs.declared.Line.{Line}
 
@@ -61,19 +61,6 @@ pointCount l = cond (l .poly) (longer l) (longer l + 1)
 
 unfoldable pub points : Line → List Point
 points l = pointsFrom l 0 (pointCount l)
-
--- ---- what functions ask for
-
--- a position within 13 signed bits
-pub record Within (p : ℕ) : Type 0 where
-  pub low : 12288 ≤ p
-  pub high : p < 20480
-
-pub record Placed (l : Line) : Type 0 where
-  pub x0 : Within (l .x0)
-  pub y0 : Within (l .y0)
-  pub x1 : Within (l .x1)
-  pub y1 : Within (l .y1)
 
 -- ---- for the sample sheet
 

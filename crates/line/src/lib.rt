@@ -5,11 +5,12 @@ ghost use mathlib.Core.Path.{_≡_};
 ghost use mathlib.Core.Bool.{true};
 ghost use mathlib.Core.List.{[], _∷_};
 ghost use Prim.Native.Nat.{_+_, _-_, _%_, _^_, _<_, _≤_, min, max};
-ghost use Rattle.surface.specs.Place.{Small};
-ghost use Rattle.paint.specs.Clip.{Bits12};
-ghost use Rattle.line.specs.Line.{far, towards, xMajor, longer, shorter, aside, place, pointAt, pointCount, points, Within, Placed};
+ghost use Rattle.surface.specs.Asked.{Small};
+ghost use Rattle.paint.specs.Asked.{Bits12};
+ghost use Rattle.line.specs.Line.{far, towards, xMajor, longer, shorter, aside, place, pointAt, pointCount, points};
+ghost use Rattle.line.specs.Asked.{Within, Placed, Testable};
 ghost use Rattle.line.specs.Stipple.{stepped, stippleBit, after};
-ghost use Rattle.line.specs.Draw.{lineOff, Testable};
+ghost use Rattle.line.specs.Draw.{lineOff};
 
 pub struct Point {
     pub x: u32,

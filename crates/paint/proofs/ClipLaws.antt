@@ -6,8 +6,9 @@ use Prim.Native.Nat.{ℕ, _+_, _<_, _≤_}
 use lib.Dec.{leb, ltb}
 use borrow.Author.Tests.{leb-true, ltb-true, le-leb, lt-ltb}
 use Rattle.surface.proofs.OnLaws.{and-left, and-right}
+use Rattle.surface.specs.Pixels.{origin}
 use Rattle.paint.specs.declared.Clip.{Clip}
-use Rattle.paint.specs.Clip.{origin, inClip}
+use Rattle.paint.specs.Clip.{inClip}
 
 pub record Covered (c : Clip) (x y : ℕ) : Type 0 where
   pub left : origin + c .left ≤ x

@@ -1,3 +1,4 @@
+pub mod Asked
 pub mod Paint
 pub mod Mix
 pub mod Clip

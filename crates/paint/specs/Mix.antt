@@ -3,12 +3,12 @@
 use mathlib.Core.Bool.{Bool, false, cond, not, _&&_}
 use mathlib.Core.List.{List}
 use mathlib.Core.Option.{Option, none, some}
-use Prim.Native.Nat.{ℕ, _+_, _^_, _<_}
+use Prim.Native.Nat.{ℕ}
 use lib.Dec.{eqb}
 use Rattle.colour.specs.Convert.{converted}
 use Rattle.raster.specs.Rop.{ropBits, patternFree}
 use Rattle.keys.specs.Key.{keyMatch}
-use Rattle.surface.specs.Place.{readPx, OnColour}
+use Rattle.surface.specs.Place.{readPx}
 use Rattle.surface.specs.Pixels.{Px}
 use Rattle.ink.specs.declared.Ink.{Ink}
 use Rattle.paint.specs.declared.Source.{Source}
@@ -62,8 +62,3 @@ direct ink = eqb (ink .rop0) 0xcc && not (ink .dstKey)
 abbrev pub placed : Ink → List ℕ → Px → Source → Touch
 placed ink pattern p s =
     touch p (λ m. mixed ink (patternValue ink pattern (p .x) (p .y)) s (readPx m (ink .target) (p .x) (p .y)))
-
--- a pixel that is on the target, where n were written before it
-pub record Ready (ink : Ink) (len x y n : ℕ) : Type 0 where
-  pub on : OnColour (ink .target) len x y
-  pub room : n + 1 < 2 ^ 32

@@ -7,8 +7,9 @@ ghost use lib.ListN.{length};
 ghost use Rattle.surface.specs.Place.{readPx};
 ghost use Rattle.surface.specs.Pixels.{px};
 ghost use Rattle.paint.specs.Paint.{state, dab, nth};
-ghost use Rattle.paint.specs.Mix.{source, colourSource, bitSource, chosen, targetMatch, mixed, Ready, direct, patternless};
-ghost use Rattle.paint.specs.Clip.{inClip, Bits12};
+ghost use Rattle.paint.specs.Mix.{source, colourSource, bitSource, chosen, targetMatch, mixed, direct, patternless};
+ghost use Rattle.paint.specs.Asked.{Ready, Bits12};
+ghost use Rattle.paint.specs.Clip.{inClip};
 
 // A pixel's source: its value in the target's format, whether it matches the source key, and whether the pixel is left unwritten.
 pub struct Source {

@@ -6,7 +6,8 @@ ghost use Prim.Native.Nat.{_+_, _≤_};
 ghost use lib.ListN.{length};
 ghost use Rattle.surface.specs.Pixels.{px, across, rect};
 ghost use Rattle.paint.specs.Paint.{state, paint};
-ghost use Rattle.sweep.specs.Copy.{sourceBy, inTurn, HasSource, RowReady, CanPaint};
+ghost use Rattle.sweep.specs.Copy.{sourceBy, inTurn};
+ghost use Rattle.sweep.specs.Asked.{HasSource, RowReady, CanPaint};
 ghost use Rattle.patch.specs.Row.{inRow};
 
 // The source of pixel (x, y); `bit` is the bit of a mono pattern there.

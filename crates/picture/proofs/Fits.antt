@@ -12,7 +12,8 @@ use lib.ListN.{length, take, set, length-append, length-set}
 use lib.Seq.{take-suc-set}
 use borrow.Author.Tests.{lt-ltb}
 use Rattle.surface.specs.declared.Surface.{Surface}
-use Rattle.surface.specs.Place.{readPx, Colour}
+use Rattle.surface.specs.Place.{readPx}
+use Rattle.surface.specs.Asked.{Colour}
 use Rattle.surface.specs.Pixels.{Px, rect}
 use Rattle.spans.specs.Span.{allOn}
 use Rattle.surface.proofs.Rows.{byteAt-area}

@@ -8,12 +8,12 @@ use Prim.Native.Nat.{ℕ, zero, suc, _+_, _-_, _*_, _/_, _%_, _^_, _<_, _≤_}
 use native.Mathlib.Omega.{arith}
 use lib.Dec.{eqb}
 use borrow.Author.Tests.{eq-eqb}
-use Rattle.surface.specs.Pixels.{Px, px, across}
+use Rattle.surface.specs.Pixels.{Px, px, across, origin}
 use Rattle.surface.proofs.Rects.{same-px}
 use Rattle.paint.specs.declared.Clip.{Clip}
 use Rattle.paint.specs.Paint.{State, dab, paint}
 use Rattle.paint.specs.Mix.{bitSource, mixed}
-use Rattle.paint.specs.Clip.{origin, inClip, pixelAt}
+use Rattle.paint.specs.Clip.{inClip, pixelAt}
 use Rattle.paint.proofs.ClipLaws.{in-clip, clip-in}
 use Rattle.paint.proofs.MixLaws.{direct-mixed}
 use Rattle.bits.specs.declared.Plain.{Plain}

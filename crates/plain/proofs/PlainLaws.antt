@@ -7,19 +7,21 @@ use mathlib.Core.List.{List, [], _∷_}
 use Prim.Native.Nat.{ℕ, _+_, _-_, _^_, _<_}
 use lib.Dec.{eqb}
 use Rattle.surface.specs.declared.Surface.{Surface}
-use Rattle.surface.specs.Place.{writePx, Colour, OnColour}
-use Rattle.surface.specs.Pixels.{Px}
+use Rattle.surface.specs.Place.{writePx}
+use Rattle.surface.specs.Asked.{Colour, OnColour}
+use Rattle.surface.specs.Pixels.{Px, origin}
 use Rattle.ink.specs.declared.Ink.{Ink}
 use Rattle.paint.specs.declared.Clip.{Clip}
 use Rattle.paint.specs.declared.Source.{Source}
 use Rattle.paint.specs.Paint.{State, state, dab, Touch, touch, paint}
 use Rattle.paint.specs.Mix.{source, bitSource, colourSource, mixed, direct}
-use Rattle.paint.specs.Clip.{origin, inClip, pixelAt}
+use Rattle.paint.specs.Clip.{inClip, pixelAt}
 use Rattle.paint.proofs.MixLaws.{direct-low, direct-mixed}
 use Rattle.host.specs.declared.Feed.{Feed}
 use Rattle.bits.specs.declared.Plain.{Plain}
 use Rattle.host.specs.Host.{Pixel, pixel}
-use Rattle.host.specs.Draw.{hostSource, hostTouches, drawn, Waits}
+use Rattle.host.specs.Draw.{hostSource, hostTouches, drawn}
+use Rattle.host.specs.Asked.{Waits}
 use Rattle.plain.specs.Plain.{plainInk, Plainly}
 
 -- ---- the plain ink

@@ -9,7 +9,8 @@ use borrow.Author.Tests.{lt-ltb, le-ltb}
 use lib.Arith.{digits-div, digits-mod}
 use Rattle.host.specs.declared.Feed.{Feed}
 use Rattle.host.specs.Host.{lastByteOf, Pixel, pixel, valueOf, whole, run, byByte, byBytes}
-use Rattle.plain.specs.Plain.{stretch, Part, Within}
+use Rattle.plain.specs.Plain.{stretch}
+use Rattle.plain.specs.Asked.{Part, Within}
 use Rattle.host.proofs.Places.{whole-width, whole-more, whole-rises, column-in, column-of}
 
 module _ (f : Feed) (last word : ℕ) where

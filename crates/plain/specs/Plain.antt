@@ -4,12 +4,12 @@
 use mathlib.Core.Path.{_≡_}
 use mathlib.Core.Bool.{true, false}
 use mathlib.Core.List.{List, [], _∷_}
-use Prim.Native.Nat.{ℕ, zero, suc, _+_, _-_, _*_, _%_, _^_, _<_, _≤_}
+use Prim.Native.Nat.{ℕ, zero, suc, _+_, _%_}
 use Rattle.ink.specs.declared.Ink.{Ink}
 use Rattle.paint.specs.Mix.{direct}
 use Rattle.host.specs.declared.Feed.{Feed}
 use Rattle.bits.specs.declared.Plain.{Plain}
-use Rattle.host.specs.Host.{lastColumn, lastByteOf, Pixel, pixel, valueOf}
+use Rattle.host.specs.Host.{lastByteOf, Pixel, pixel, valueOf}
 
 -- the ink with raster operation CC and no keys
 unfoldable pub plainInk : Plain → Ink
@@ -47,22 +47,3 @@ pub record Plainly (ink : Ink) (p : Plain) : Type 0 where
 unfoldable pub stretch : Feed → ℕ → ℕ → ℕ → ℕ → ℕ → List Pixel
 stretch f last word j i zero = []
 stretch f last word j i (suc n) = pixel i j (valueOf f last word (lastByteOf f i j % 4) i) ∷ stretch f last word j (i + 1) n
-
--- ---- what functions ask for
-
--- m bytes of row j from byte `column` on are those of a word from its byte t on
-pub record Part (f : Feed) (t j column m : ℕ) : Type 0 where
-  pub place : (j * f .step + column) % 4 ≡ t
-  pub inside : t + m ≤ 4
-  pub held : column + m ≤ f .step
-  pub row : j < f .height
-
--- the pixels of row j from start up to end have their last bytes in a word whose byte t is byte `column` of the row; n were written before
-pub record Within (f : Feed) (t j column start end n : ℕ) : Type 0 where
-  pub row : j < f .height
-  pub first : start ≤ f .width
-  pub past : end ≤ f .width
-  pub room : n + (end - start) < 2 ^ 16
-  pub low : (i : ℕ) → start ≤ i → i < end → column ≤ lastColumn f i
-  pub high : (i : ℕ) → start ≤ i → i < end → t + lastColumn f i - column < 4
-  pub byte : (i : ℕ) → start ≤ i → i < end → t + lastColumn f i - column ≡ lastByteOf f i j % 4

@@ -12,8 +12,10 @@ ghost use lib.ListN.{length};
 ghost use Rattle.paint.specs.Paint.{state};
 ghost use Rattle.paint.specs.Mix.{source};
 ghost use Rattle.host.specs.Host.{lastColumn, pixel, byBytes, byWord};
-ghost use Rattle.host.specs.Draw.{hostSource, drawn, Opened, Waits};
-ghost use Rattle.plain.specs.Plain.{plainInk, stretch, Part, Within};
+ghost use Rattle.host.specs.Draw.{hostSource, drawn};
+ghost use Rattle.host.specs.Asked.{Opened, Waits};
+ghost use Rattle.plain.specs.Plain.{plainInk, stretch};
+ghost use Rattle.plain.specs.Asked.{Part, Within};
 
 fn plain_bit(p: Plain, feed: Feed, v: u32) -> Source
     requires { ⌜ feed .bytes ≡ 0 ⌝ }

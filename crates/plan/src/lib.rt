@@ -9,7 +9,7 @@ ghost use mathlib.Core.Option.{none, some};
 ghost use Prim.Native.Nat.{_+_, _≤_, _<_, _^_};
 ghost use lib.ListN.{length};
 ghost use Rattle.keys.specs.Range.{rangeOf, inRange};
-ghost use Rattle.surface.specs.Place.{OnColour};
+ghost use Rattle.surface.specs.Asked.{OnColour};
 ghost use Rattle.surface.specs.Pixels.{px};
 ghost use Rattle.paint.specs.Paint.{state, dab};
 ghost use Rattle.paint.specs.Mix.{colourSource};

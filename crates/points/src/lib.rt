@@ -10,14 +10,17 @@ ghost use mathlib.Core.Path.{_≡_};
 ghost use mathlib.Core.List.{[], _∷_};
 ghost use Prim.Native.Nat.{_+_, _-_, _^_, _<_, _≤_};
 ghost use lib.ListN.{length};
-ghost use Rattle.surface.specs.Place.{readPx, OnColour};
+ghost use Rattle.surface.specs.Place.{readPx};
+ghost use Rattle.surface.specs.Asked.{OnColour};
 ghost use Rattle.surface.specs.Pixels.{px};
 ghost use Rattle.paint.specs.Paint.{state, dab, paint};
 ghost use Rattle.ink.specs.Pattern.{patternValue};
-ghost use Rattle.paint.specs.Mix.{bitSource, mixed, Ready, sourced};
+ghost use Rattle.paint.specs.Mix.{bitSource, mixed, sourced};
+ghost use Rattle.paint.specs.Asked.{Ready};
 ghost use Rattle.line.specs.Line.{pointCount, points};
 ghost use Rattle.line.specs.Stipple.{after, styleAfter};
-ghost use Rattle.line.specs.Draw.{lineTouches, Drawable, DrawablePoint};
+ghost use Rattle.line.specs.Draw.{lineTouches};
+ghost use Rattle.line.specs.Asked.{Drawable, DrawablePoint};
 
 // What a line leaves: the word lineStyle, and how many pixels it wrote.
 pub struct LineDone {

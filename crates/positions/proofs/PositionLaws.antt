@@ -12,8 +12,9 @@ use lib.Signed.{_≤ℤ_, leZ-yes}
 use mir.Syntax.{w32}
 use mir.Val.{toZ, SFits}
 use mir.Facts.{toZ-pos}
+use Rattle.surface.specs.Pixels.{origin}
 use Rattle.registers.specs.Kept.{kept}
-use Rattle.positions.specs.Position.{signedOf, origin, placed, moved, stepped, steppedXY}
+use Rattle.positions.specs.Position.{signedOf, placed, moved, stepped, steppedXY}
 
 -- ---- 13 bits in an `i32`
 

@@ -9,10 +9,6 @@ use lib.IntN.{ℤ, pos, _-ℤ_}
 unfoldable pub signedOf : ℕ → ℤ
 signedOf raw = cond (ltb (raw % 8192) 4096) (pos (raw % 8192)) (pos (raw % 8192) -ℤ pos 8192)
 
--- where position 0 stands among the naturals
-abbrev pub origin : ℕ
-origin = 16384
-
 -- the same position as a natural: from origin - 4096 up to origin + 4095
 abbrev pub placed : ℕ → ℕ
 placed raw = (raw % 8192 + 4096) % 8192 + 12288

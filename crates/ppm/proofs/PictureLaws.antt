@@ -9,7 +9,8 @@ use lib.Dec.{ltb}
 use lib.ListN.{length}
 use borrow.Author.Tests.{ltb-true}
 use Rattle.surface.specs.declared.Surface.{Surface}
-use Rattle.surface.specs.Place.{readPx, onSurface, OnColour}
+use Rattle.surface.specs.Place.{readPx, onSurface}
+use Rattle.surface.specs.Asked.{OnColour}
 use Rattle.surface.specs.Pixels.{Px, across, rect}
 use Rattle.spans.specs.Span.{allOn}
 use Rattle.formats.specs.Format.{targetNamed}
@@ -17,7 +18,8 @@ use Rattle.surface.proofs.OnLaws.{and-left, and-right}
 use Rattle.formats.proofs.FormatLaws.{target-colour}
 use Rattle.registers.specs.declared.Regs.{Regs}
 use Rattle.ppm.specs.Text.{Page, each, put, said}
-use Rattle.ppm.specs.Picture.{shade, line, lines, header, noPicture, left, top, right, bottom, target, pixels, shows, picture, RowOn, RectOn}
+use Rattle.ppm.specs.Picture.{shade, line, lines, header, noPicture, left, top, right, bottom, target, pixels, shows, picture}
+use Rattle.ppm.specs.Asked.{RowOn, RectOn}
 use Rattle.ppm.proofs.TextLaws.{each-append}
 
 module _ (s : Surface) where

@@ -1,15 +1,14 @@
 -- Clip0's rectangle of the target surface as the text of a plain PPM, or the line `no picture`.
 -- Assumes nothing.
-use mathlib.Core.Path.{_≡_}
-use mathlib.Core.Bool.{Bool, true, false, cond, _&&_}
+use mathlib.Core.Bool.{Bool, false, cond, _&&_}
 use mathlib.Core.List.{List, [], _∷_, _++_}
 use Prim.Native.Nat.{ℕ, _-_, _*_, _/_, _%_, _^_}
 use lib.Dec.{eqb, ltb}
 use lib.ListN.{length}
 use Rattle.colour.specs.Convert.{converted}
 use Rattle.surface.specs.declared.Surface.{Surface}
-use Rattle.surface.specs.Place.{readPx, Colour}
-use Rattle.surface.specs.Pixels.{Px, across, rect}
+use Rattle.surface.specs.Place.{readPx}
+use Rattle.surface.specs.Pixels.{Px, rect}
 use Rattle.spans.specs.Span.{allOn}
 use Rattle.formats.specs.Format.{targetNamed, targetOf}
 use Rattle.registers.specs.declared.Regs.{Regs}
@@ -68,12 +67,3 @@ picture r m =
     cond (shows r (length m))
     (header (right r - left r) (bottom r - top r) ++ lines (target r) m (pixels r))
     noPicture
-
--- ---- what functions ask for
-pub record RowOn (s : Surface) (len x w y : ℕ) : Type 0 where
-  pub colour : Colour s
-  pub on : allOn s len (across false x w y) ≡ true
-
-pub record RectOn (s : Surface) (len x y w h : ℕ) : Type 0 where
-  pub colour : Colour s
-  pub on : allOn s len (rect false false x y w h) ≡ true

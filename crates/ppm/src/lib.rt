@@ -5,10 +5,12 @@ ghost use mathlib.Core.Path.{_≡_};
 ghost use mathlib.Core.Bool.{false};
 ghost use Prim.Native.Nat.{_+_, _/_, _%_, _^_, _<_};
 ghost use lib.ListN.{length};
-ghost use Rattle.surface.specs.Place.{readPx, OnColour};
+ghost use Rattle.surface.specs.Place.{readPx};
+ghost use Rattle.surface.specs.Asked.{OnColour};
 ghost use Rattle.surface.specs.Pixels.{across, rect};
 ghost use Rattle.ppm.specs.Text.{page, put as Text·put, said, digit, numeral};
-ghost use Rattle.ppm.specs.Picture.{shade as Picture·shade, line, lines, header, noPicture, shows, picture, RowOn, RectOn};
+ghost use Rattle.ppm.specs.Picture.{shade as Picture·shade, line, lines, header, noPicture, shows, picture};
+ghost use Rattle.ppm.specs.Asked.{RowOn, RectOn};
 
 // One byte more, where there is room.
 fn put(out: &mut [u8], at: usize, b: u8) -> usize

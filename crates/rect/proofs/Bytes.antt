@@ -8,7 +8,8 @@ use native.Mathlib.Nat.{mod-lt, add-mul, div-add-mod'}
 use native.Mathlib.Omega.{arith}
 use lib.ListN.{getD}
 use Rattle.surface.specs.declared.Surface.{Surface}
-use Rattle.surface.specs.Place.{rowBytes, byteAt, byteOf, OnColour}
+use Rattle.surface.specs.Place.{rowBytes, byteAt, byteOf}
+use Rattle.surface.specs.Asked.{OnColour}
 use Rattle.surface.specs.Pixels.{Px, px, Inside}
 use Rattle.spans.proofs.Spans.{IsByte}
 use Rattle.paint.proofs.Owners.{byte-of}
@@ -19,10 +20,12 @@ use Rattle.runs.specs.Runs.{Given}
 use Rattle.rect.proofs.Order.{shared, touching-read}
 use Rattle.rect.proofs.Plain.{PlainCopy, plainly-plain}
 use Rattle.blocks.specs.declared.Way.{Way}
-use Rattle.blocks.specs.Blocks.{Put, origin, originByte, Goes}
+use Rattle.blocks.specs.Blocks.{Put, origin, originByte}
+use Rattle.blocks.specs.Asked.{Goes}
 use Rattle.blocks.proofs.Blocks.{way}
 use Rattle.blocks.proofs.Pixels.{pixel-of, put-given, byte-held, bytes-wide}
-use Rattle.rect.specs.Fast.{sourceByte, Apart}
+use Rattle.rect.specs.Fast.{sourceByte}
+use Rattle.rect.specs.Asked.{Apart}
 
 module _ {t : Task} {w h len : ℕ} (apart : Apart t w h len) where
   abbrev target : Surface

@@ -23,10 +23,13 @@ use Rattle.ink.specs.Pattern.{patternColumn, patternRow, patternBit, patternVal
 use Rattle.paint.proofs.MixLaws.{direct-mixed}
 use Rattle.paint.proofs.Owners.{byte-of}
 use Rattle.bits.proofs.BitLaws.{bit-given}
-use Rattle.bits.specs.Bits.{coloured, monoGiving, CanMono}
+use Rattle.bits.specs.Bits.{coloured, monoGiving}
+use Rattle.bits.specs.Asked.{CanMono}
 use Rattle.sweep.specs.declared.Task.{Task}
-use Rattle.sweep.specs.Copy.{sourcePlace, giving, asBefore, inTurn, CanPaint, Orderly}
-use Rattle.rect.specs.Fast.{bitwise, monoOf, Flat}
+use Rattle.sweep.specs.Copy.{sourcePlace, giving, asBefore, inTurn}
+use Rattle.sweep.specs.Asked.{CanPaint, Orderly}
+use Rattle.rect.specs.Fast.{bitwise, monoOf}
+use Rattle.rect.specs.Asked.{Flat}
 use Rattle.sweep.proofs.TaskLaws.{can-number}
 use Rattle.rect.proofs.Sources.{mono-source}
 use Rattle.rect.proofs.Order.{between, as-before}

@@ -10,7 +10,8 @@ use Rattle.surface.specs.Pixels.{rect}
 use Rattle.paint.specs.Paint.{state, paint}
 use Rattle.paint.proofs.Frame.{Bytes}
 use Rattle.sweep.specs.declared.Task.{Task}
-use Rattle.sweep.specs.Copy.{inTurn, CanPaint, Orderly}
+use Rattle.sweep.specs.Copy.{inTurn}
+use Rattle.sweep.specs.Asked.{CanPaint, Orderly}
 use Rattle.runs.specs.Runs.{Given}
 use Rattle.runs.proofs.Runs.{given-once}
 use Rattle.rect.specs.Fast.{plainly, sourceByte, late}

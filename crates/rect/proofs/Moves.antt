@@ -9,7 +9,8 @@ use native.Mathlib.Nat.{mod-lt, div-add-mod', div-mul-le-self, le-div-iff-mul-le
 use native.Mathlib.Omega.{arith}
 use native.Mathlib.Decide.{ℕ-discrete}
 use lib.ListN.{getD}
-use Rattle.surface.specs.Place.{byteOf, Colour, OnColour}
+use Rattle.surface.specs.Place.{byteOf}
+use Rattle.surface.specs.Asked.{Colour, OnColour}
 use Rattle.surface.specs.Pixels.{Px, px, Inside}
 use Rattle.surface.proofs.Lists.{by-cases}
 use Rattle.surface.proofs.OnLaws.{colour-byte, on-column}
@@ -19,7 +20,8 @@ use Rattle.spans.proofs.Spans.{IsByte}
 use Rattle.sweep.specs.declared.Task.{Task}
 use Rattle.sweep.specs.Copy.{sourcePlace}
 use Rattle.paint.specs.Paint.{nth}
-use Rattle.rect.specs.Fast.{sourceByte, toRow, fromRow, RowMoves, Moves}
+use Rattle.rect.specs.Fast.{sourceByte, toRow, fromRow}
+use Rattle.rect.specs.Asked.{RowMoves, Moves}
 use Rattle.runs.specs.Runs.{Shifted, Given}
 use Rattle.paint.proofs.Owners.{byte-of}
 use Rattle.sweep.proofs.TaskLaws.{can-pixel}

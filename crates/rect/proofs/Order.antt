@@ -24,7 +24,8 @@ use Rattle.paint.specs.declared.Source.{Source}
 use Rattle.paint.specs.Paint.{state, paint}
 use Rattle.paint.specs.Mix.{mixed, bitSource, colourSource, fillSource}
 use Rattle.ink.specs.Pattern.{patternColumn, patternRow, patternBit, patternValue}
-use Rattle.sweep.specs.Copy.{sourcePlace, sourceBy, giving, asBefore, inTurn, CanPaint, Orderly}
+use Rattle.sweep.specs.Copy.{sourcePlace, sourceBy, giving, asBefore, inTurn}
+use Rattle.sweep.specs.Asked.{CanPaint, Orderly}
 use Rattle.rect.specs.Fast.{behind, overlap, touching, late}
 use Rattle.paint.proofs.Owners.{byte-of, one-owner, read-px, read-bit}
 use Rattle.paint.proofs.Settle.{Local, in-place, any-order}

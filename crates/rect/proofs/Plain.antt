@@ -17,7 +17,8 @@ use Rattle.colour.proofs.ConvertLaws.{converted-same}
 use Rattle.colour.specs.Convert.{converted}
 use Rattle.keys.specs.Key.{keyMatch}
 use Rattle.surface.specs.declared.Surface.{Surface}
-use Rattle.surface.specs.Place.{byteOf, readBytes, writeBytes, readPx, writePx, OnColour}
+use Rattle.surface.specs.Place.{byteOf, readBytes, writeBytes, readPx, writePx}
+use Rattle.surface.specs.Asked.{OnColour}
 use Rattle.surface.specs.Pixels.{Px, rect}
 use Rattle.surface.proofs.Bytes.{written-other}
 use Rattle.surface.proofs.OnLaws.{and-left, and-right, colour-byte, on-column}
@@ -29,7 +30,8 @@ use Rattle.paint.specs.Paint.{State, state, dab, paint}
 use Rattle.paint.specs.declared.Source.{Source}
 use Rattle.paint.specs.Mix.{source, mixed, colourSource, direct}
 use Rattle.ink.specs.Pattern.{patternColumn, patternRow, patternBit, patternValue}
-use Rattle.sweep.specs.Copy.{sourcePlace, sourceBy, giving, asBefore, CanPaint}
+use Rattle.sweep.specs.Copy.{sourcePlace, sourceBy, giving, asBefore}
+use Rattle.sweep.specs.Asked.{CanPaint}
 use Rattle.rect.specs.Fast.{sourceByte, plainly}
 use Rattle.runs.specs.Runs.{Given}
 use Rattle.paint.proofs.Owners.{byte-of, of-byte}

@@ -11,7 +11,8 @@ use native.Mathlib.Omega.{arith}
 use native.Mathlib.Decide.{ℕ-discrete}
 use lib.ListN.{length}
 use Rattle.surface.specs.declared.Surface.{Surface}
-use Rattle.surface.specs.Place.{readPx, rowPixels, onSurface, OnColour}
+use Rattle.surface.specs.Place.{readPx, rowPixels, onSurface}
+use Rattle.surface.specs.Asked.{OnColour}
 use Rattle.surface.specs.Pixels.{Px, px, across, rect, Inside}
 use Rattle.surface.proofs.OnLaws.{on-column}
 use Rattle.surface.proofs.Pixels.{write-read, read-small}
@@ -21,7 +22,8 @@ use Rattle.paint.specs.Paint.{State, state, touch, dab, paint}
 use Rattle.paint.proofs.Owners.{one-owner, read-px, dab-length}
 use Rattle.paint.proofs.Frame.{Bytes, frame, pixels-of, paint-length, paint-bytes}
 use Rattle.sweep.specs.declared.Task.{Task}
-use Rattle.sweep.specs.Copy.{sourcePlace, giving, inTurn, CanPaint}
+use Rattle.sweep.specs.Copy.{sourcePlace, giving, inTurn}
+use Rattle.sweep.specs.Asked.{CanPaint}
 use Rattle.sweep.proofs.TaskLaws.{can-pixel}
 use Rattle.rect.proofs.Plain.{PlainCopy, plain-gives}
 

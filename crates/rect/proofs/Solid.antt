@@ -16,9 +16,11 @@ use Rattle.sweep.specs.declared.Task.{Task}
 use Rattle.paint.specs.Paint.{State, state, paint}
 use Rattle.paint.specs.Mix.{mixed, chosen, fillSource}
 use Rattle.ink.specs.Pattern.{patternColumn, patternRow, patternBit, patternIn, patternValue}
-use Rattle.sweep.specs.Copy.{sourceBy, giving, inTurn, CanPaint}
+use Rattle.sweep.specs.Copy.{sourceBy, giving, inTurn}
+use Rattle.sweep.specs.Asked.{CanPaint}
 use Rattle.sweep.proofs.TaskLaws.{can-pixel}
-use Rattle.runs.specs.Runs.{evenly, RectOn}
+use Rattle.runs.specs.Runs.{evenly}
+use Rattle.runs.specs.Asked.{RectOn}
 use Rattle.tint.specs.Tint.{filling, fillings}
 use Rattle.rect.specs.Fast.{solid}
 use Rattle.paint.proofs.MixLaws.{not-true}

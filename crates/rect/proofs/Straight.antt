@@ -11,7 +11,8 @@ use Rattle.colour.specs.Convert.{converted}
 use Rattle.keys.specs.Key.{keyMatch}
 use Rattle.raster.specs.Rop.{ropBits}
 use Rattle.raster.proofs.RopLaws.{leaves}
-use Rattle.surface.specs.Place.{readPx, Colour}
+use Rattle.surface.specs.Place.{readPx}
+use Rattle.surface.specs.Asked.{Colour}
 use Rattle.surface.specs.Pixels.{Px}
 use Rattle.surface.proofs.OnLaws.{and-left, and-right, pos-of-ne}
 use Rattle.ink.specs.declared.Ink.{Ink}
@@ -19,10 +20,13 @@ use Rattle.paint.specs.declared.Source.{Source}
 use Rattle.paint.specs.Mix.{source, colourSource, chosen, mixed, direct}
 use Rattle.ink.specs.Pattern.{patternColumn, patternRow, patternBit, patternValue}
 use Rattle.paint.proofs.MixLaws.{not-true, direct-low}
-use Rattle.straight.specs.Straight.{straightGiving, CanCopy}
+use Rattle.straight.specs.Straight.{straightGiving}
+use Rattle.straight.specs.Asked.{CanCopy}
 use Rattle.sweep.specs.declared.Task.{Task}
-use Rattle.sweep.specs.Copy.{sourcePlace, giving, CanPaint}
-use Rattle.rect.specs.Fast.{straight, straightOf, Flat}
+use Rattle.sweep.specs.Copy.{sourcePlace, giving}
+use Rattle.sweep.specs.Asked.{CanPaint}
+use Rattle.rect.specs.Fast.{straight, straightOf}
+use Rattle.rect.specs.Asked.{Flat}
 use Rattle.sweep.proofs.TaskLaws.{can-number}
 use Rattle.rect.proofs.Sources.{colour-source}
 

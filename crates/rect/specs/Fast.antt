@@ -1,19 +1,17 @@
 -- Rectangles that need no general pixel: the one value of a solid fill, the bits of a mono copy, and the runs of bytes that a plain copy moves.
 -- Assumes nothing.
-use mathlib.Core.Path.{_≡_}
 use mathlib.Core.Bool.{Bool, true, false, not, _&&_, _||_}
 use mathlib.Core.List.{List}
-use Prim.Native.Nat.{ℕ, _+_, _-_, _^_, _<_, _≤_}
+use Prim.Native.Nat.{ℕ, _+_, _-_}
 use lib.Dec.{eqb, ltb}
 use lib.ListN.{getD}
-use Rattle.surface.specs.Place.{sameSurface, byteOf, Colour}
+use Rattle.surface.specs.Place.{sameSurface, byteOf}
 use Rattle.surface.specs.Pixels.{Px}
 use Rattle.sweep.specs.declared.Task.{Task}
 use Rattle.paint.specs.Mix.{direct}
-use Rattle.runs.specs.Runs.{Run, Up, Down}
 use Rattle.bits.specs.declared.Mono.{Mono}
 use Rattle.straight.specs.declared.Straight.{Straight}
-use Rattle.sweep.specs.Copy.{sourcePlace, CanPaint, Orderly}
+use Rattle.sweep.specs.Copy.{sourcePlace}
 
 -- a fill that gives each pixel colorFore: raster operation CC, no target key, nothing left unwritten
 abbrev pub solid : Task → Bool
@@ -88,42 +86,3 @@ toRow t y = byteOf (t .ink .target) (t .x) y 0
 
 abbrev pub fromRow : Task → ℕ → ℕ
 fromRow t y = byteOf (t .from) (t .sx) (t .sy + (y - t .y)) 0
-
--- ---- what functions ask for
-
--- both surfaces are in rows
-pub record Flat (t : Task) : Type 0 where
-  pub target : t .ink .target .tiled ≡ false
-  pub from : t .from .tiled ≡ false
-
--- row y of a rectangle can be moved as a run of n bytes
-pub record RowMoves (t : Task) (n y len : ℕ) (toLeft : Bool) : Type 0 where
-  pub target : Colour (t .ink .target)
-  pub source : Colour (t .from)
-  pub first : t .y ≤ y
-  pub small : t .sy + (y - t .y) < 2 ^ 32
-  pub run : Run (toRow t y) (fromRow t y) n len
-  pub up : toLeft ≡ false → Up (toRow t y) (fromRow t y) n
-  pub down : toLeft ≡ true → Down (toRow t y) (fromRow t y) n
-
--- a rectangle can be moved, from the corner that the two flags name
-pub record Moves (t : Task) (w h len : ℕ) (toLeft toTop : Bool) : Type 0 where
-  pub flat : Flat t
-  pub plain : plainly t ≡ true
-  pub can : CanPaint t w h len
-  pub orderly : Orderly t w h
-  pub early : late toLeft toTop t w h ≡ false
-
--- a plain copy shares no pixel with its source, and covers some
-pub record Apart (t : Task) (w h len : ℕ) : Type 0 where
-  pub plain : plainly t ≡ true
-  pub can : CanPaint t w h len
-  pub orderly : Orderly t w h
-  pub none : touching t w h ≡ false
-  pub wide : 0 < w
-  pub high : 0 < h
-
--- a fill goes from the upper left corner, and a copy from the one that the two flags name
-pub record Cornered (t : Task) (w h : ℕ) (toLeft toTop : Bool) : Type 0 where
-  pub fills : t .copies ≡ false → (toLeft ≡ false) × (toTop ≡ false)
-  pub copies : t .copies ≡ true → Orderly t w h

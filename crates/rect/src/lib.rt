@@ -11,8 +11,10 @@ ghost use lib.ListN.{length};
 ghost use Rattle.surface.specs.Pixels.{rect};
 ghost use Rattle.paint.specs.Paint.{state, paint};
 ghost use Rattle.paint.specs.Mix.{source};
-ghost use Rattle.sweep.specs.Copy.{inTurn, CanPaint, Orderly};
-ghost use Rattle.rect.specs.Fast.{solid, plainly, straight, straightOf, bitwise, monoOf, sourceByte, behind, overlap, touching, late, toRow, fromRow, RowMoves, Moves, Apart, Cornered};
+ghost use Rattle.sweep.specs.Copy.{inTurn};
+ghost use Rattle.sweep.specs.Asked.{CanPaint, Orderly};
+ghost use Rattle.rect.specs.Fast.{solid, plainly, straight, straightOf, bitwise, monoOf, sourceByte, behind, overlap, touching, late, toRow, fromRow};
+ghost use Rattle.rect.specs.Asked.{RowMoves, Moves, Apart, Cornered};
 ghost use Rattle.runs.specs.Runs.{Shifted, Given};
 
 // Row y of a plain copy, as a run of n bytes.

@@ -6,12 +6,12 @@ use mathlib.Core.List.{List, List·Memᴰ, Memᴰ·map}
 use Prim.Native.Nat.{ℕ, _+_, _-_, _<_, _≤_}
 use native.Mathlib.Omega.{arith}
 use lib.ListN.{length, getD}
-use Rattle.surface.specs.Pixels.{Px, px, rect}
+use Rattle.surface.specs.Pixels.{Px, px, rect, origin}
 use Rattle.spans.specs.Span.{allOn}
 use Rattle.surface.proofs.Lists.{In}
 use Rattle.surface.proofs.Rects.{same-px, rect-in}
 use Rattle.spans.proofs.Spans.{IsByte, addresses-in}
-use Rattle.paint.specs.Clip.{origin, pixelAt}
+use Rattle.paint.specs.Clip.{pixelAt}
 use Rattle.cuts.specs.declared.Cut.{Cut}
 use Rattle.cuts.specs.Cut.{needed}
 use Rattle.table.specs.Table.{allOnAt, pixels}

@@ -12,14 +12,13 @@ use borrow.Author.Tests.{lt-ltb}
 use Rattle.surface.specs.declared.Surface.{Surface}
 use Rattle.spans.specs.declared.Span.{Span}
 use Rattle.surface.specs.Place.{byteOf, rowPixels}
-use Rattle.surface.specs.Pixels.{Px, px, rect}
+use Rattle.surface.specs.Pixels.{Px, px, rect, origin}
 use Rattle.spans.specs.Span.{spanOf, meet}
 use Rattle.surface.proofs.Lists.{In}
 use Rattle.surface.proofs.Rects.{in-rect, rect-in}
 use Rattle.spans.proofs.Corner.{all-each}
 use Rattle.surface.proofs.OnLaws.{on-column}
 use Rattle.spans.proofs.Spans.{IsByte, span-holds}
-use Rattle.paint.specs.Clip.{origin}
 use Rattle.paint.proofs.Owners.{byte-of, of-byte, one-owner, owner}
 use Rattle.table.specs.Table.{allOnAt, pixels}
 use Rattle.restore.specs.Rectangles.{Rectangle, positions, Apart}

@@ -9,14 +9,13 @@ use native.Mathlib.Omega.{arith}
 use native.Mathlib.Decide.{decLt}
 use lib.ListN.{length, getD}
 use Rattle.surface.specs.Place.{sameSurface, byteOf}
-use Rattle.surface.specs.Pixels.{Px, px, Inside}
+use Rattle.surface.specs.Pixels.{Px, px, Inside, origin}
 use Rattle.spans.specs.Span.{allOn, spanOf, meet}
 use Rattle.surface.proofs.Same.{same-surface}
 use Rattle.surface.proofs.Lists.{by-cases}
 use Rattle.spans.proofs.Corner.{rect-none}
 use Rattle.spans.proofs.Spans.{IsByte}
 use Rattle.paint.specs.declared.Clip.{Clip}
-use Rattle.paint.specs.Clip.{origin}
 use Rattle.paint.specs.Paint.{State, state, paint}
 use Rattle.sweep.specs.Copy.{sourcePlace, asBefore}
 use Rattle.rect.specs.Fast.{sourceByte}

@@ -8,8 +8,8 @@ use Prim.Native.Nat.{ℕ, _+_}
 use native.Mathlib.Decide.{ℕ-discrete}
 use Rattle.surface.specs.declared.Surface.{Surface}
 use Rattle.surface.proofs.Lists.{In, by-cases}
+use Rattle.surface.specs.Pixels.{origin}
 use Rattle.spans.proofs.Spans.{IsByte}
-use Rattle.paint.specs.Clip.{origin}
 use Rattle.paint.proofs.Frame.{Bytes}
 use Rattle.registers.specs.declared.Regs.{Regs}
 use Rattle.registers.specs.declared.Place.{Place}

@@ -11,7 +11,8 @@ use lib.ListN.{length, getD, set}
 use lib.Seq.{getD-set-same, lt-length-set}
 use native.Mathlib.Omega.{arith}
 use Rattle.surface.specs.declared.Surface.{Surface}
-use Rattle.surface.specs.Place.{byteOf, writeBytes, writePx, OnColour}
+use Rattle.surface.specs.Place.{byteOf, writeBytes, writePx}
+use Rattle.surface.specs.Asked.{OnColour}
 use Rattle.surface.specs.Pixels.{Px, across, rect, Inside}
 use Rattle.surface.proofs.Bytes.{written-other}
 use Rattle.surface.proofs.OnLaws.{colour-byte, on-column}
@@ -19,7 +20,8 @@ use Rattle.surface.proofs.Pixels.{same-byte}
 use Rattle.surface.proofs.Lists.{by-cases}
 use Rattle.surface.proofs.Rects.{in-rect, rect-in, rect-distinct, rect-length}
 use Rattle.paint.specs.Paint.{State, state, touch, dab, paint}
-use Rattle.runs.specs.Runs.{Given, RectOn, evenly}
+use Rattle.runs.specs.Runs.{Given, evenly}
+use Rattle.runs.specs.Asked.{RectOn}
 use Rattle.paint.proofs.Owners.{byte-of, of-byte}
 use Rattle.paint.proofs.Settle.{Settled, settled, tally, counted}
 use Rattle.paint.proofs.Turns.{row-left, row-whole, row-again, row-ends}

@@ -9,13 +9,15 @@ use native.Mathlib.Nat.{mod-lt}
 use native.Mathlib.Omega.{arith}
 use lib.ListN.{length, getD}
 use Rattle.surface.specs.declared.Surface.{Surface}
-use Rattle.surface.specs.Place.{byteOf, rowPixels, OnColour}
+use Rattle.surface.specs.Place.{byteOf, rowPixels}
+use Rattle.surface.specs.Asked.{OnColour}
 use Rattle.surface.specs.Pixels.{Px, px, across, rect}
 use Rattle.surface.proofs.OnLaws.{colour-byte, on-column}
 use Rattle.surface.proofs.Pixels.{same-byte}
 use Rattle.surface.proofs.Run.{run-byte}
 use Rattle.paint.specs.Paint.{State, state, paint}
-use Rattle.runs.specs.Runs.{Shifted, Given, evenly, RectOn, Run, Up}
+use Rattle.runs.specs.Runs.{Shifted, Given, evenly}
+use Rattle.runs.specs.Asked.{RectOn, Run, Up}
 use Rattle.runs.proofs.Even.{byteNumber, even-given, even-counts}
 use Rattle.runs.proofs.Runs.{run-column, run-place, given-row, given-once}
 

@@ -6,7 +6,8 @@ ghost use Prim.Native.Nat.{_+_, _-_, _*_, _/_, _<_, _≤_};
 ghost use lib.ListN.{length};
 ghost use Rattle.surface.specs.Pixels.{across, rect};
 ghost use Rattle.paint.specs.Paint.{state, paint};
-ghost use Rattle.runs.specs.Runs.{evenly, Shifted, RowOn, RectOn, Run, Up, Down};
+ghost use Rattle.runs.specs.Runs.{evenly, Shifted};
+ghost use Rattle.runs.specs.Asked.{RowOn, RectOn, Run, Up, Down};
 
 // The w pixels of row y from x0 on, each of value v, after n that were written.
 fn solid_row(mem: &mut [u8], s: Surface, v: u32, x0: u32, w: u32, y: u32, n: u32) -> u32

@@ -8,11 +8,12 @@ use Rattle.colour.specs.Convert.{repeated, narrowed}
 use Rattle.raster.specs.Rop.{ropBits}
 use Rattle.surface.specs.declared.Surface.{Surface}
 use Rattle.surface.specs.Place.{surface, byteAt, byteOf, rowPixels, monoBit}
+use Rattle.surface.specs.Pixels.{origin}
 use Rattle.formats.specs.Step.{stepOf, dataWords}
 use Rattle.views.specs.View.{viewAnswer}
 use Rattle.line.specs.Line.{lineFrom, flat, points}
 use Rattle.line.specs.Stipple.{styleAfter}
-use Rattle.positions.specs.Position.{origin, placed, steppedXY}
+use Rattle.positions.specs.Position.{placed, steppedXY}
 use Rattle.scale.specs.declared.Scale.{Scale}
 use Rattle.scale.specs.Scale.{scaled}
 use Rattle.engine.specs.declared.Engine.{Engine}

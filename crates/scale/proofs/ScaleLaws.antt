@@ -10,7 +10,8 @@ use Rattle.surface.proofs.Bytes.{product-lt}
 use Rattle.surface.proofs.Lists.{by-cases}
 use Rattle.scale.specs.declared.Scale.{Scale}
 use Rattle.scale.specs.declared.Walk.{Walk}
-use Rattle.scale.specs.Scale.{scaled, walkAt, OnScale, Steps}
+use Rattle.scale.specs.Scale.{scaled, walkAt, OnScale}
+use Rattle.scale.specs.Asked.{Steps}
 
 -- ---- a step: what is divided grows by sourceSize
 module _ (i n z : ℕ) where

@@ -19,7 +19,7 @@ walkAt s place = record {
   size = s .size;
 }
 
--- ---- what functions ask for, and what a step gives
+-- ---- what functions give
 
 -- a place of the target, or the one past its last; the sizes and positions are those that registers can name
 pub record OnScale (s : Scale) (place : ℕ) : Type 0 where
@@ -29,11 +29,6 @@ pub record OnScale (s : Scale) (place : ℕ) : Type 0 where
   pub size : s .size < 2 ^ 13
   pub sourceSize : s .sourceSize < 2 ^ 13
   pub from : s .from < 20480
-
--- a step fits its words
-pub record Steps (w : Walk) : Type 0 where
-  pub at : w .at + w .whole + 1 < 2 ^ 32
-  pub rest : w .rest + w .over < 2 ^ 32
 
 -- a walk at a place goes to the next one
 abbrev pub Next : Walk → Walk → Type 0

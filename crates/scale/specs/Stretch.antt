@@ -1,19 +1,16 @@
 -- A stretch copy: each target pixel is given what a screen copy of this one pixel, from the source pixel that it takes, would give it.
 -- Assumes nothing.
-use mathlib.Core.Path.{_≡_}
-use mathlib.Core.Bool.{true, false}
+use mathlib.Core.Bool.{true}
 use mathlib.Core.List.{List, map}
 use mathlib.Core.Option.{Option}
-use Prim.Native.Nat.{ℕ, _+_, _^_, _<_, _≤_}
-use Rattle.surface.specs.Place.{onSurface, Small, Colour}
-use Rattle.surface.specs.Pixels.{Px, px, rect, Inside}
-use Rattle.spans.specs.Span.{allOn, spanOf, meet}
-use Rattle.paint.specs.Clip.{origin, pixelAt}
+use Prim.Native.Nat.{ℕ, _+_}
+use Rattle.surface.specs.Pixels.{Px, px, origin}
+use Rattle.paint.specs.Clip.{pixelAt}
 use Rattle.paint.specs.Paint.{Touch, touch}
 use Rattle.sweep.specs.declared.Task.{Task}
 use Rattle.sweep.specs.Copy.{giving}
 use Rattle.scale.specs.declared.Stretch.{Stretch}
-use Rattle.scale.specs.Scale.{scaled, OnScale}
+use Rattle.scale.specs.Scale.{scaled}
 
 -- the position of the source pixel that pixel p takes, counted from 16384
 unfoldable pub takenAt : Stretch → Px → Px
@@ -49,19 +46,3 @@ turnTouch t pattern p = touch p (λ now. stretchGiving t pattern now now p)
 
 abbrev pub stretchedInTurn : Stretch → List ℕ → List Px → List Touch
 stretchedInTurn t pattern ps = map (turnTouch t pattern) ps
-
--- ---- what functions ask for
-
--- w by h pixels from (x, y) that can be stretched to, in a memory of len bytes: on their target, the source pixels that they take on their surface, and
--- the spans of the two apart
-pub record CanStretch (t : Stretch) (x y w h len : ℕ) : Type 0 where
-  pub colour : Colour (t .ink .target)
-  pub small : Small (t .from)
-  pub wide : x + w ≤ 2 ^ 13
-  pub high : y + h ≤ 2 ^ 13
-  pub columns : 0 < w → 0 < h → OnScale (t .columns) (origin + x) × OnScale (t .columns) (origin + (x + w))
-  pub rows : 0 < w → 0 < h → OnScale (t .rows) (origin + y) × OnScale (t .rows) (origin + (y + h))
-  pub target : allOn (t .ink .target) len (rect false false x y w h) ≡ true
-  pub source : (p : Px) → Inside x y w h p
-      → (origin ≤ takenAt t p .x) × (origin ≤ takenAt t p .y) × (onSurface (t .from) len (taken t p .x) (taken t p .y) ≡ true)
-  pub apart : meet (spanOf (t .ink .target) (rect false false x y w h)) (spanOf (t .from) (map (taken t) (rect false false x y w h))) ≡ false

@@ -3,7 +3,8 @@ use ink::Ink;
 use surface::Surface;
 ghost use mathlib.Core.Path.{_≡_};
 ghost use Prim.Native.Nat.{_^_, _<_};
-ghost use Rattle.scale.specs.Scale.{scaled, walkAt, Next, OnScale, Steps};
+ghost use Rattle.scale.specs.Scale.{scaled, walkAt, Next, OnScale};
+ghost use Rattle.scale.specs.Asked.{Steps};
 
 // One axis: where the target and the source begin, counted from 16384, and how many pixels each has.
 pub struct Scale {

@@ -2,11 +2,11 @@
 -- Assumes nothing.
 use mathlib.Core.Bool.{Bool, true, _&&_}
 use mathlib.Core.List.{List, [], _∷_, _++_}
-use Prim.Native.Nat.{ℕ, zero, suc, _+_, _-_, _<_, min, max}
+use Prim.Native.Nat.{ℕ, zero, suc, _+_, min, max}
 use lib.Dec.{ltb}
 use Rattle.surface.specs.declared.Surface.{Surface}
 use Rattle.spans.specs.declared.Span.{Span}
-use Rattle.surface.specs.Place.{byteAt, firstByte, byteCount, rowPixels, onSurface, Small}
+use Rattle.surface.specs.Place.{byteAt, firstByte, byteCount, onSurface}
 use Rattle.surface.specs.Pixels.{Px}
 
 -- every pixel of the list is on the surface
@@ -45,8 +45,3 @@ spanOf s ps = spanned (addresses s ps)
 -- two spans have an address in common; an empty one meets nothing
 abbrev pub meet : Span → Span → Bool
 meet a b = ltb (a .low) (b .past) && ltb (b .low) (a .past)
-
--- the last column of a rectangle is one of the row's
-pub record InRow (s : Surface) (x w : ℕ) : Type 0 where
-  pub small : Small s
-  pub column : 0 < w → x + (w - 1) < rowPixels s

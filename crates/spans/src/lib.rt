@@ -4,9 +4,10 @@ ghost use mathlib.Core.Path.{_≡_};
 ghost use mathlib.Core.Bool.{false};
 ghost use Prim.Native.Nat.{_+_, _-_, _^_, _<_};
 ghost use Rattle.surface.specs.Place.{rowPixels, firstByte, byteCount, onSurface};
-ghost use Rattle.surface.specs.Place.{Small};
+ghost use Rattle.surface.specs.Asked.{Small};
 ghost use Rattle.surface.specs.Pixels.{rect};
-ghost use Rattle.spans.specs.Span.{allOn, spanOf, meet, InRow};
+ghost use Rattle.spans.specs.Span.{allOn, spanOf, meet};
+ghost use Rattle.spans.specs.Asked.{InRow};
 
 // The addresses from low up to, and without, past.
 pub struct Span {

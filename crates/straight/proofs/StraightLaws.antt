@@ -9,7 +9,8 @@ use native.Mathlib.Omega.{arith}
 use lib.ListN.{length, getD}
 use lib.Seq.{set-getD}
 use Rattle.colour.specs.Convert.{converted}
-use Rattle.surface.specs.Place.{byteOf, readBytes, writeBytes, readPx, writePx, Held}
+use Rattle.surface.specs.Place.{byteOf, readBytes, writeBytes, readPx, writePx}
+use Rattle.surface.specs.Asked.{Held}
 use Rattle.surface.specs.Pixels.{Px, px, across}
 use Rattle.surface.proofs.Bytes.{read-fits}
 use Rattle.surface.proofs.Run.{in-rows, pixel-held, run-pixel, read-run, write-run}
@@ -17,7 +18,8 @@ use Rattle.paint.specs.Paint.{state, touch, dab, paint, nth}
 use Rattle.paint.proofs.Frame.{Bytes}
 use Rattle.paint.proofs.Turns.{row-left, row-whole, row-again, row-ends}
 use Rattle.straight.specs.declared.Straight.{Straight}
-use Rattle.straight.specs.Straight.{keyed, straightValue, straightGiving, straightly, copied, CanCopy, RowCopies, Formats, PixelCopies, RunAt, RowCopied}
+use Rattle.straight.specs.Straight.{keyed, straightValue, straightGiving, straightly, copied, RowCopied}
+use Rattle.straight.specs.Asked.{CanCopy, RowCopies, Formats, PixelCopies, RunAt}
 
 -- ---- bytes that are given what they have
 given-again : (at : ℕ → ℕ) (k n : ℕ) (m : List ℕ) → Bytes m → writeBytes at k n (readBytes m at k n) m ≡ m

@@ -6,7 +6,8 @@ ghost use Prim.Native.Nat.{_+_, _*_, _^_, _<_};
 ghost use lib.ListN.{length};
 ghost use Rattle.surface.specs.Pixels.{rect};
 ghost use Rattle.paint.specs.Paint.{state, paint};
-ghost use Rattle.straight.specs.Straight.{keyed, straightly, copied, CanCopy, RowCopies, RunAt, PixelCopies, RowCopied};
+ghost use Rattle.straight.specs.Straight.{keyed, straightly, copied, RowCopied};
+ghost use Rattle.straight.specs.Asked.{CanCopy, RowCopies, RunAt, PixelCopies};
 
 // What a straight copy needs: the two surfaces, the source key if there is one, and the first pixel of the target and of the source.
 pub struct Straight {

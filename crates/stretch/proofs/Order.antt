@@ -18,7 +18,8 @@ use Rattle.straight.specs.Straight.{straightGiving}
 use Rattle.rect.proofs.Order.{giving-local}
 use Rattle.rect.proofs.Straight.{straight-gives}
 use Rattle.scale.specs.declared.Stretch.{Stretch}
-use Rattle.scale.specs.Stretch.{taken, pixelTask, stretchGiving, stretched, stretchedInTurn, CanStretch}
+use Rattle.scale.specs.Stretch.{taken, pixelTask, stretchGiving, stretched, stretchedInTurn}
+use Rattle.scale.specs.Asked.{CanStretch}
 use Rattle.stretch.specs.Row.{openTask, straightly}
 
 -- the copy of one pixel takes its source from the place that the stretch says

@@ -7,20 +7,23 @@ use Prim.Native.Nat.{ℕ, _+_, _-_, _*_, _<_, _≤_}
 use native.Mathlib.Omega.{arith}
 use lib.ListN.{length}
 use borrow.Author.Tests.{not-true}
-use Rattle.surface.specs.Place.{byteOf, Held, OnColour}
-use Rattle.surface.specs.Pixels.{px}
+use Rattle.surface.specs.Place.{byteOf}
+use Rattle.surface.specs.Asked.{Held, OnColour}
+use Rattle.surface.specs.Pixels.{px, origin}
 use Rattle.surface.proofs.OnLaws.{and-left, and-right}
 use Rattle.surface.proofs.Run.{in-rows, pixel-held, run-pixel}
-use Rattle.paint.specs.Clip.{origin}
 use Rattle.paint.specs.Paint.{state, dab}
-use Rattle.straight.specs.Straight.{straightGiving, copied, PixelCopies}
+use Rattle.straight.specs.Straight.{straightGiving, copied}
+use Rattle.straight.specs.Asked.{PixelCopies}
 use Rattle.straight.proofs.StraightLaws.{copied-px}
-use Rattle.rect.specs.Fast.{straightOf, Flat}
+use Rattle.rect.specs.Fast.{straightOf}
+use Rattle.rect.specs.Asked.{Flat}
 use Rattle.scale.specs.declared.Stretch.{Stretch}
 use Rattle.scale.specs.declared.Walk.{Walk}
 use Rattle.scale.specs.Scale.{scaled, walkAt}
 use Rattle.scale.specs.Stretch.{takenAt, pixelTask}
-use Rattle.stretch.specs.Row.{openTask, straightTouch, rowOf, RowTakes, RunAt, RowTaken}
+use Rattle.stretch.specs.Row.{openTask, straightTouch, RowTaken}
+use Rattle.stretch.specs.Asked.{rowOf, RowTakes, RunAt}
 use Rattle.stretch.proofs.Taken.{walk-place, RowLeft, row-goes-on, row-ended}
 
 -- the test: both surfaces in rows, and r

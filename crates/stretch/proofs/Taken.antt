@@ -6,19 +6,19 @@ use mathlib.Core.Bool.{false}
 use Prim.Native.Nat.{ℕ, _+_, _*_, _^_, _<_, _≤_}
 use native.Mathlib.Omega.{arith}
 use lib.ListN.{length}
-use Rattle.surface.specs.Pixels.{Px, px, across, rect, Inside}
+use Rattle.surface.specs.Pixels.{Px, px, across, rect, Inside, origin}
 use Rattle.surface.proofs.Rects.{rect-in}
 use Rattle.spans.proofs.Corner.{all-each}
-use Rattle.paint.specs.Clip.{origin}
 use Rattle.paint.specs.Paint.{state, Touch, dab, paint}
 use Rattle.paint.proofs.Turns.{row-left, row-whole, row-again, row-ends, rows-left, rows-whole, rows-again, rows-end}
 use Rattle.scale.specs.declared.Scale.{Scale}
 use Rattle.scale.specs.declared.Stretch.{Stretch}
 use Rattle.scale.specs.declared.Walk.{Walk}
-use Rattle.scale.specs.Scale.{scaled, walkAt, Next, OnScale, Steps}
-use Rattle.scale.specs.Stretch.{takenAt, CanStretch}
+use Rattle.scale.specs.Scale.{scaled, walkAt, Next, OnScale}
+use Rattle.scale.specs.Asked.{Steps, CanStretch}
+use Rattle.scale.specs.Stretch.{takenAt}
 use Rattle.scale.proofs.ScaleLaws.{walk-steps}
-use Rattle.stretch.specs.Row.{TakesFrom, RowTakes}
+use Rattle.stretch.specs.Asked.{TakesFrom, RowTakes}
 
 -- a place between two
 pub on-between : {s : Scale} {a b : ℕ} → OnScale s a → OnScale s b → (c : ℕ) → a ≤ c → c ≤ b → OnScale s c

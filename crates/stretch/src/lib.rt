@@ -11,11 +11,15 @@ ghost use lib.ListN.{length};
 ghost use Rattle.surface.specs.Pixels.{px, across, rect};
 ghost use Rattle.paint.specs.Paint.{state, paint};
 ghost use Rattle.sweep.specs.Copy.{sourceFrom};
-ghost use Rattle.sweep.specs.Row.{SourceKey, TargetKey, Laid};
-ghost use Rattle.scale.specs.Stretch.{stretched, stretchedInTurn, CanStretch};
-ghost use Rattle.straight.specs.Straight.{copied, PixelCopies};
-ghost use Rattle.rect.specs.Fast.{straightOf, Flat};
-ghost use Rattle.stretch.specs.Row.{openTask, inRow, straightly, rowOf, RowTakes, ColumnsAt, RunAt, OnSource, Begins, RowTaken};
+ghost use Rattle.sweep.specs.Asked.{SourceKey, TargetKey, Laid};
+ghost use Rattle.scale.specs.Stretch.{stretched, stretchedInTurn};
+ghost use Rattle.scale.specs.Asked.{CanStretch};
+ghost use Rattle.straight.specs.Straight.{copied};
+ghost use Rattle.straight.specs.Asked.{PixelCopies};
+ghost use Rattle.rect.specs.Fast.{straightOf};
+ghost use Rattle.rect.specs.Asked.{Flat};
+ghost use Rattle.stretch.specs.Row.{openTask, inRow, straightly, RowTaken};
+ghost use Rattle.stretch.specs.Asked.{rowOf, RowTakes, ColumnsAt, RunAt, OnSource, Begins};
 
 // The copy of a pixel, with its places left open.
 fn task_of(t: Stretch) -> Task

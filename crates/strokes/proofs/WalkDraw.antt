@@ -9,7 +9,7 @@ use native.Mathlib.Omega.{arith}
 use borrow.Author.Tests.{not-true}
 use Rattle.surface.specs.declared.Surface.{Surface}
 use Rattle.surface.specs.Place.{readPx, onSurface}
-use Rattle.surface.specs.Pixels.{Px}
+use Rattle.surface.specs.Pixels.{Px, origin}
 use Rattle.spans.specs.Span.{allOn}
 use Rattle.surface.proofs.OnLaws.{and-left, and-right}
 use Rattle.surface.proofs.Lists.{by-cases}
@@ -18,14 +18,16 @@ use Rattle.ink.specs.declared.Ink.{Ink}
 use Rattle.paint.specs.Paint.{State, dab, Touch, touch, paint}
 use Rattle.ink.specs.Pattern.{patternValue}
 use Rattle.paint.specs.Mix.{bitSource, placed, direct, sourced}
-use Rattle.paint.specs.Clip.{origin, inClip, pixelAt}
+use Rattle.paint.specs.Clip.{inClip, pixelAt}
 use Rattle.paint.proofs.ClipLaws.{in-clip, clip-in}
 use Rattle.line.specs.declared.Line.{Line}
 use Rattle.line.specs.declared.Pen.{Pen}
 use Rattle.line.specs.Line.{longer, pointAt, pointsFrom, pointCount, points}
 use Rattle.line.specs.Stipple.{stippleBit, after}
-use Rattle.line.specs.Draw.{coveredPoints, lineTouches, Drawable}
-use Rattle.strokes.specs.Walk.{walkTouches, whole, walks, Walkable}
+use Rattle.line.specs.Draw.{coveredPoints, lineTouches}
+use Rattle.line.specs.Asked.{Drawable}
+use Rattle.strokes.specs.Walk.{walkTouches, whole, walks}
+use Rattle.strokes.specs.Asked.{Walkable}
 use Rattle.line.proofs.Sides.{count-le}
 use Rattle.line.proofs.PointLaws.{point-box, from-cons, from-none}
 use Rattle.line.proofs.DrawLaws.{point-on, on-turn}

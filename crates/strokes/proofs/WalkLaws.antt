@@ -9,15 +9,18 @@ use borrow.Author.Tests.{ltb-true, ltb-false, leb-false}
 use lib.Arith.{digits-div, digits-mod}
 use lib.Dec.{leb, ltb}
 use Rattle.surface.specs.declared.Surface.{Surface}
-use Rattle.surface.specs.Place.{byteOf, Small}
+use Rattle.surface.specs.Place.{byteOf}
+use Rattle.surface.specs.Asked.{Small}
 use Rattle.surface.proofs.Rows.{byteAt-flat, byteAt-small}
 use Rattle.surface.proofs.Run.{run-pixel}
-use Rattle.paint.specs.Clip.{origin}
+use Rattle.surface.specs.Pixels.{origin}
 use Rattle.line.specs.declared.Point.{Point}
 use Rattle.line.specs.declared.Line.{Line}
 use Rattle.strokes.specs.declared.Walk.{Walk}
-use Rattle.line.specs.Line.{far, towards, xMajor, longer, shorter, aside, pointAt, Placed}
-use Rattle.strokes.specs.Walk.{shift, across, down, stepsOf, walk, walkedOn, AtPoint, Ahead}
+use Rattle.line.specs.Line.{far, towards, xMajor, longer, shorter, aside, pointAt}
+use Rattle.line.specs.Asked.{Placed}
+use Rattle.strokes.specs.Walk.{shift, across, down, stepsOf, walk, walkedOn, AtPoint}
+use Rattle.strokes.specs.Asked.{Ahead}
 use Rattle.line.proofs.Sides.{either, longer-x, longer-y, shorter-x, shorter-y, shorter-le, longer-lt, aside-le}
 use Rattle.line.proofs.PointLaws.{place-x, place-y, point-box, first}
 

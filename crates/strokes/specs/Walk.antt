@@ -2,24 +2,25 @@
 -- remainder that says when it goes along the minor axis too. The stipple's word is kept as its four numbers.
 -- Assumes nothing.
 use mathlib.Core.Path.{_≡_}
-use mathlib.Core.Bool.{Bool, true, false, cond, not, _&&_}
+use mathlib.Core.Bool.{Bool, cond, not, _&&_}
 use mathlib.Core.List.{List, [], _∷_}
-use Prim.Native.Nat.{ℕ, _+_, _-_, _*_, _%_, _^_, _<_, _≤_}
+use Prim.Native.Nat.{ℕ, _+_, _-_, _*_, _%_, _^_, _<_}
 use lib.Dec.{eqb, leb, ltb}
 use Rattle.surface.specs.declared.Surface.{Surface}
-use Rattle.surface.specs.Place.{byteOf, onSurface, Colour, Held}
+use Rattle.surface.specs.Place.{byteOf}
+use Rattle.surface.specs.Pixels.{origin}
 use Rattle.paint.specs.declared.Clip.{Clip}
 use Rattle.ink.specs.declared.Ink.{Ink}
 use Rattle.paint.specs.Paint.{Touch, touch}
 use Rattle.paint.specs.Mix.{sourced, bitSource, direct}
-use Rattle.paint.specs.Clip.{origin, inClip, pixelAt}
+use Rattle.paint.specs.Clip.{inClip, pixelAt}
 use Rattle.line.specs.declared.Point.{Point}
 use Rattle.line.specs.declared.Line.{Line}
 use Rattle.line.specs.declared.Pen.{Pen}
 use Rattle.strokes.specs.declared.Walk.{Walk}
 use Rattle.strokes.specs.declared.Steps.{Steps}
 use Rattle.strokes.specs.declared.Phase.{Phase}
-use Rattle.line.specs.Line.{xMajor, longer, shorter, pointAt, pointCount, Placed}
+use Rattle.line.specs.Line.{xMajor, longer, shorter, pointAt}
 use Rattle.line.specs.Stipple.{repeatCount, size, position, bitNumber, styleOf, stippleBit, after}
 
 -- ---- the steps
@@ -78,29 +79,8 @@ pub record Fields (p : Phase) : Type 0 where
   pub position : p .position < 256
   pub bit : p .bit < 32
 
--- ---- what functions ask for
+-- ---- what functions give
 
 -- both ends are inside the clip, each point gets its source, and the target is in rows
 abbrev pub walks : Ink → Clip → Line → ℕ → Bool
 walks ink c l style = (((direct ink && whole style) && inClip c (l .x0) (l .y0)) && inClip c (l .x1) (l .y1)) && not (ink .target .tiled)
-
--- n bytes from an address on, in a memory of len bytes, after k pixels that were written
-pub record Spot (at n len k : ℕ) : Type 0 where
-  pub held : Held at n len
-  pub room : k + 1 < 2 ^ 32
-
--- the ends of a line are at the origin or after it
-pub record Ahead (l : Line) : Type 0 where
-  pub line : Placed l
-  pub left : origin ≤ l .x0
-  pub top : origin ≤ l .y0
-  pub right : origin ≤ l .x1
-  pub bottom : origin ≤ l .y1
-
--- a line that can be walked, in a memory of len bytes
-pub record Walkable (s : Surface) (len : ℕ) (l : Line) (style : ℕ) : Type 0 where
-  pub flat : s .tiled ≡ false
-  pub surface : Colour s
-  pub ahead : Ahead l
-  pub fields : whole style ≡ true
-  pub on : (i : ℕ) → i < pointCount l → onSurface s len (pointAt l i .x - origin) (pointAt l i .y - origin) ≡ true

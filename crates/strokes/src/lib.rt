@@ -12,11 +12,13 @@ ghost use Prim.Native.Nat.{_+_, _-_, _%_, _^_, _<_, _≤_};
 ghost use lib.ListN.{length};
 ghost use Rattle.paint.specs.Paint.{state, paint, dabAt};
 ghost use Rattle.paint.specs.Mix.{sourced};
-ghost use Rattle.paint.specs.Clip.{Bits12};
-ghost use Rattle.line.specs.Line.{pointCount, points, Placed};
+ghost use Rattle.paint.specs.Asked.{Bits12};
+ghost use Rattle.line.specs.Line.{pointCount, points};
+ghost use Rattle.line.specs.Asked.{Placed, Drawable};
 ghost use Rattle.line.specs.Stipple.{stippleBit, after, styleAfter};
-ghost use Rattle.line.specs.Draw.{lineTouches, Drawable};
-ghost use Rattle.strokes.specs.Walk.{shift, stepsOf, walkedOn, walkTouches, wordOf, whole, Fields, walks, Spot, Walkable};
+ghost use Rattle.line.specs.Draw.{lineTouches};
+ghost use Rattle.strokes.specs.Walk.{shift, stepsOf, walkedOn, walkTouches, wordOf, whole, Fields, walks};
+ghost use Rattle.strokes.specs.Asked.{Spot, Walkable};
 
 // Where a walk along a line is: the address of a point's first byte, and the remainder of its steps along the minor axis.
 pub struct Walk {

@@ -9,7 +9,8 @@ use lib.Arith.{digits-lt}
 use lib.Dec.{eqb, ltb}
 use borrow.Author.Tests.{lt-ltb, eq-eqb, ne-eqb, ltb-true, eqb-false}
 use Rattle.surface.specs.declared.Surface.{Surface}
-use Rattle.surface.specs.Place.{rowBytes, byteAt, byteOf, rowPixels, firstByte, byteCount, inMemory, onSurface, HasByte, OnColour, OnMono}
+use Rattle.surface.specs.Place.{rowBytes, byteAt, byteOf, rowPixels, firstByte, byteCount, inMemory, onSurface}
+use Rattle.surface.specs.Asked.{HasByte, OnColour, OnMono}
 use Rattle.surface.proofs.Rows.{byteAt-mono}
 
 -- ---- tests

@@ -6,7 +6,8 @@ use Prim.Native.Nat.{ℕ, _+_, _*_, _%_, _^_, _<_}
 use native.Mathlib.Omega.{arith}
 use lib.ListN.{length, getD}
 use Rattle.surface.specs.declared.Surface.{Surface}
-use Rattle.surface.specs.Place.{rowBytes, byteOf, readPx, writePx, rowPixels, OnColour}
+use Rattle.surface.specs.Place.{rowBytes, byteOf, readPx, writePx, rowPixels}
+use Rattle.surface.specs.Asked.{OnColour}
 use Rattle.surface.proofs.Tiles.{digits-same}
 use Rattle.surface.proofs.Rows.{byteAt-inj}
 use Rattle.surface.proofs.Bytes.{length-written, written-other, read-written, read-alike, read-fits}

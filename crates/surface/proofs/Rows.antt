@@ -7,7 +7,8 @@ use Prim.Native.Nat.{ℕ, _+_, _*_, _^_, _<_, _≤_}
 use native.Mathlib.Nat.{mul-le-mul-right, mul-le-mul-left}
 use native.Mathlib.Omega.{arith}
 use Rattle.surface.specs.declared.Surface.{Surface}
-use Rattle.surface.specs.Place.{rowBytes, byteAt, Near}
+use Rattle.surface.specs.Place.{rowBytes, byteAt}
+use Rattle.surface.specs.Asked.{Near}
 use Rattle.surface.proofs.Bytes.{product-lt}
 use Rattle.surface.proofs.Tiles.{digits-same, tileAt, tile-mono, tile-inj, tile-small, tile-area}
 

@@ -10,7 +10,8 @@ use native.Mathlib.Omega.{arith}
 use native.Mathlib.Decide.{ℕ-discrete}
 use lib.ListN.{getD, set}
 use Rattle.surface.specs.declared.Surface.{Surface}
-use Rattle.surface.specs.Place.{byteAt, byteOf, readBytes, writeBytes, readPx, writePx, Colour, OnColour, Held}
+use Rattle.surface.specs.Place.{byteAt, byteOf, readBytes, writeBytes, readPx, writePx}
+use Rattle.surface.specs.Asked.{Colour, OnColour, Held}
 use Rattle.surface.proofs.Tiles.{tile-run}
 use Rattle.surface.proofs.Rows.{by-layout, byteAt-tiled, byteAt-run}
 use Rattle.surface.proofs.Bytes.{read-there, write-there}

@@ -11,6 +11,10 @@ pub record Px : Type 0 where
 abbrev pub px : ℕ → ℕ → Px
 px x y = record { x = x; y = y }
 
+-- a position may be negative: it stands as a natural number, and this one is position 0
+abbrev pub origin : ℕ
+origin = 16384
+
 -- w pixels of row y from column x: from the left, or from the right
 unfoldable pub across : Bool → ℕ → ℕ → ℕ → List Px
 across toLeft x zero y = []

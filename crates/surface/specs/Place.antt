@@ -2,10 +2,9 @@
 -- A surface is its base, its stride, its bytes per pixel and whether it is tiled; 0 bytes per pixel is mono, one bit a pixel.
 -- In rows the stride is the bytes from row to row. In tiles of 128 bytes by 32 rows, each laid row by row, it is the tiles from one row of tiles to the next.
 -- Assumes nothing.
-use mathlib.Core.Path.{_≡_}
 use mathlib.Core.Bool.{Bool, true, false, cond, not, _&&_, _||_}
 use mathlib.Core.List.{List}
-use Prim.Native.Nat.{ℕ, zero, suc, _+_, _*_, _/_, _%_, _-_, _^_, _<_, _≤_}
+use Prim.Native.Nat.{ℕ, zero, suc, _+_, _*_, _/_, _%_, _-_, _^_}
 use lib.Dec.{eqb, ltb}
 use lib.ListN.{getD, set}
 use Rattle.surface.specs.declared.Surface.{Surface}
@@ -81,44 +80,3 @@ inMemory s len column (suc n) y = ltb (byteAt s column y) len && inMemory s len 
 -- the row has pixel x, and all its bytes are in memory
 unfoldable pub onSurface : Surface → ℕ → ℕ → ℕ → Bool
 onSurface s len x y = ltb x (rowPixels s) && inMemory s len (firstByte s x) (byteCount s) y
-
--- ---- what functions ask for
-
--- a surface as registers can name one
-pub record Small (s : Surface) : Type 0 where
-  pub base : s .base < 2 ^ 24
-  pub stride : s .stride < 2 ^ 17
-  pub bytes : s .bytes < 5
-
--- the same, and not mono
-pub record Colour (s : Surface) : Type 0 where
-  pub small : Small s
-  pub some : 0 < s .bytes
-
--- a byte whose address can be worked out
-pub record Near (s : Surface) (column y : ℕ) : Type 0 where
-  pub small : Small s
-  pub across : column < 2 ^ 40
-  pub down : y < 2 ^ 34
-
--- byte k of a colour pixel, in a memory of len bytes
-pub record HasByte (s : Surface) (len x y k : ℕ) : Type 0 where
-  pub colour : Colour s
-  pub low : k < s .bytes
-  pub inside : byteOf s x y k < len
-
--- n bytes from an address on, in a memory of len bytes
-pub record Held (at n len : ℕ) : Type 0 where
-  pub some : 0 < n
-  pub few : n < 5
-  pub inside : at + n ≤ len
-
--- a pixel that is on its colour surface, and one that is on its mono surface
-pub record OnColour (s : Surface) (len x y : ℕ) : Type 0 where
-  pub colour : Colour s
-  pub on : onSurface s len x y ≡ true
-
-pub record OnMono (s : Surface) (len x y : ℕ) : Type 0 where
-  pub small : Small s
-  pub mono : s .bytes ≡ 0
-  pub on : onSurface s len x y ≡ true

@@ -4,7 +4,7 @@ ghost use mathlib.Core.Bool.{false};
 ghost use Prim.Native.Nat.{_+_, _-_, _/_, _%_, _^_, _<_};
 ghost use lib.ListN.{length, getD, set};
 ghost use Rattle.surface.specs.Place.{sameSurface, rowBytes, byteAt, byteOf, readBytes, writeBytes, readPx, writePx, monoBit};
-ghost use Rattle.surface.specs.Place.{Small, Colour, Near, Held, OnColour, OnMono};
+ghost use Rattle.surface.specs.Asked.{Small, Colour, Near, Held, OnColour, OnMono};
 
 pub struct Surface {
     pub base: u32,

@@ -7,7 +7,8 @@ use mathlib.Core.Option.{none, some}
 use Prim.Native.Nat.{ℕ, _+_, _-_, _/_, _%_, _^_, _<_, _≤_}
 use native.Mathlib.Omega.{arith}
 use lib.ListN.{getD}
-use Rattle.surface.specs.Place.{readPx, onSurface, OnColour}
+use Rattle.surface.specs.Place.{readPx, onSurface}
+use Rattle.surface.specs.Asked.{OnColour}
 use Rattle.surface.specs.Pixels.{Px, px, rect, Inside}
 use Rattle.surface.proofs.Rects.{rect-in}
 use Rattle.spans.proofs.Corner.{all-each}
@@ -16,7 +17,8 @@ use Rattle.ink.specs.Pattern.{patternColumn, patternRow, patternBit, patternVal
 use Rattle.paint.specs.declared.Source.{Source}
 use Rattle.paint.specs.Mix.{patternless, mixed}
 use Rattle.paint.proofs.MixLaws.{pattern-unread}
-use Rattle.sweep.specs.Copy.{sourceBy, giving, HasSource, RowReady, CanPaint}
+use Rattle.sweep.specs.Copy.{sourceBy, giving}
+use Rattle.sweep.specs.Asked.{HasSource, RowReady, CanPaint}
 use Rattle.plan.specs.Plan.{MasksOf, QuadsFrom, quadAt, mergedAt, quadMixed}
 use Rattle.plan.proofs.PlanLaws.{quad-mixed, quads-are}
 use Rattle.sweep.specs.Row.{rowGiving}

@@ -1,17 +1,13 @@
 -- What does not change within a row, worked out before its pixels: the raster operations at the pattern's row, and the ranges of the keys.
 -- Assumes nothing.
-use mathlib.Core.Path.{_≡_}
 use mathlib.Core.List.{List, map}
 use mathlib.Core.Option.{Option}
 use Prim.Native.Nat.{ℕ, _-_, _/_, _%_, _^_}
-use lib.ListN.{replicate}
-use Rattle.keys.specs.declared.Range.{Range}
-use Rattle.keys.specs.Range.{rangeOf}
 use Rattle.surface.specs.Place.{readPx}
 use Rattle.surface.specs.Pixels.{Px}
 use Rattle.paint.specs.Paint.{Touch, touch}
 use Rattle.ink.specs.Pattern.{patternColumn}
-use Rattle.plan.specs.Plan.{MasksOf, QuadsFrom, quadMixed}
+use Rattle.plan.specs.Plan.{quadMixed}
 use Rattle.sweep.specs.declared.Task.{Task}
 use Rattle.sweep.specs.Copy.{sourceBy}
 
@@ -23,17 +19,3 @@ rowGiving t quads bits now p =
 
 abbrev pub inRow : Task → List ℕ → ℕ → List Px → List Touch
 inRow t quads bits ps = map (λ p. touch p (λ now. rowGiving t quads bits now p)) ps
-
--- ---- what functions ask for
-
--- the ranges of the two keys
-abbrev pub SourceKey : Task → Range → Type 0
-SourceKey t range = range ≡ rangeOf (t .from .bytes) (t .ink .srcMin) (t .ink .srcMax)
-
-abbrev pub TargetKey : Task → Range → Type 0
-TargetKey t range = range ≡ rangeOf (t .ink .target .bytes) (t .ink .dstMin) (t .ink .dstMax)
-
--- the bits of the raster operations, and what they are without a pattern
-pub record Laid (t : Task) (masks blank : List ℕ) : Type 0 where
-  pub bits : MasksOf (t .ink) masks
-  pub unread : QuadsFrom masks (replicate 8 0) blank

@@ -10,8 +10,9 @@ ghost use lib.ListN.{length};
 ghost use Rattle.surface.specs.Pixels.{px, across, rect};
 ghost use Rattle.paint.specs.Paint.{state, paint};
 ghost use Rattle.paint.specs.Mix.{source, fillSource};
-ghost use Rattle.sweep.specs.Copy.{sourceBy, inTurn, HasSource, RowReady, CanPaint, Rowwise};
-ghost use Rattle.sweep.specs.Row.{inRow, SourceKey, TargetKey, Laid};
+ghost use Rattle.sweep.specs.Copy.{sourceBy, inTurn};
+ghost use Rattle.sweep.specs.Asked.{HasSource, RowReady, CanPaint, Rowwise, SourceKey, TargetKey, Laid};
+ghost use Rattle.sweep.specs.Row.{inRow};
 
 // A rectangle's work: the ink; where it is copied from, if it is; and the first pixel of the source and of the target.
 pub struct Task {

@@ -10,7 +10,7 @@ use lib.Dec.{leb, ltb}
 use borrow.Author.Tests.{le-leb, le-ltb, leb-true}
 use Rattle.surface.specs.declared.Surface.{Surface}
 use Rattle.surface.specs.Place.{onSurface}
-use Rattle.surface.specs.Pixels.{Px, px, rect}
+use Rattle.surface.specs.Pixels.{Px, px, rect, origin}
 use Rattle.spans.specs.declared.Span.{Span}
 use Rattle.spans.specs.Span.{allOn, spanOf, meet}
 use Rattle.surface.proofs.OnLaws.{and-left, and-right, same-test, corner}
@@ -18,7 +18,7 @@ use Rattle.surface.proofs.Lists.{In}
 use Rattle.surface.proofs.Rects.{same-px}
 use Rattle.spans.proofs.Corner.{Corners, corners-on, corners-map, rect-corners}
 use Rattle.spans.proofs.Spans.{rect-empty}
-use Rattle.paint.specs.Clip.{origin, pixelAt}
+use Rattle.paint.specs.Clip.{pixelAt}
 use Rattle.cuts.specs.declared.Cut.{Cut}
 use Rattle.cuts.specs.Cut.{covered, needed}
 use Rattle.table.specs.Table.{onAt, allOnAt, pixels}

@@ -9,10 +9,11 @@ use Rattle.surface.specs.declared.Surface.{Surface}
 use Rattle.spans.specs.Span.{allOn, spanOf, meet}
 use Rattle.surface.proofs.OnLaws.{on-column}
 use Rattle.surface.proofs.Rects.{rect-in}
+use Rattle.surface.specs.Pixels.{origin}
 use Rattle.spans.proofs.Corner.{Corners, corners-map, rect-corners, rect-none}
 use Rattle.spans.proofs.Spans.{corners-span}
 use Rattle.formats.proofs.FormatLaws.{target-colour, target-small, source-small}
-use Rattle.paint.specs.Clip.{origin, pixelAt}
+use Rattle.paint.specs.Clip.{pixelAt}
 use Rattle.registers.specs.declared.Regs.{Regs}
 use Rattle.cuts.specs.declared.Cut.{Cut}
 use Rattle.cuts.specs.Cut.{low13, clipOf, cutLow, cutSize, cutAt, fillCut, covered, needed}
@@ -20,10 +21,12 @@ use Rattle.cuts.proofs.CutLaws.{clip-bits, none-left}
 use Rattle.scale.specs.declared.Scale.{Scale}
 use Rattle.scale.specs.declared.Stretch.{Stretch}
 use Rattle.scale.specs.Scale.{scaled}
-use Rattle.scale.specs.Stretch.{takenAt, CanStretch}
+use Rattle.scale.specs.Stretch.{takenAt}
+use Rattle.scale.specs.Asked.{CanStretch}
 use Rattle.scale.proofs.ScaleLaws.{scaled-mono}
 use Rattle.command.specs.Decode.{target, stretchOrigins, inkOf, stretchOf}
-use Rattle.table.specs.Table.{bothFine, allOnAt, pixels, stretchNeeded, stretchFault, reachOf, takenCut, sourceRows, stretchRows, stretchVerdict, Reaches, OnScales}
+use Rattle.table.specs.Table.{bothFine, allOnAt, pixels, stretchNeeded, stretchFault, reachOf, takenCut, sourceRows, stretchRows, stretchVerdict}
+use Rattle.table.specs.Asked.{Reaches, OnScales}
 use Rattle.table.proofs.Sources.{each-at, not-negative, corners-at, pixel-corners, needed-corners, no-clash}
 use Rattle.table.proofs.Rows.{same-rows}
 use Rattle.table.proofs.Verdicts.{passed, spared, neither, target-named, fill-bounded}

@@ -9,8 +9,9 @@ use native.Mathlib.Omega.{arith}
 use lib.Dec.{eqb, ltb}
 use borrow.Author.Tests.{ltb-false, eqb-false, not-true, not-false}
 use Rattle.surface.specs.declared.Surface.{Surface}
-use Rattle.surface.specs.Place.{sameSurface, rowPixels, Small}
-use Rattle.surface.specs.Pixels.{rect, Inside}
+use Rattle.surface.specs.Place.{sameSurface, rowPixels}
+use Rattle.surface.specs.Asked.{Small}
+use Rattle.surface.specs.Pixels.{rect, Inside, origin}
 use Rattle.spans.specs.Span.{allOn, spanOf, meet}
 use Rattle.formats.specs.Step.{packingOf, rowLength, stepOf, dataBytes, dataWords}
 use Rattle.formats.specs.Format.{sourceOf, sourceCode, bytesOf}
@@ -22,21 +23,24 @@ use Rattle.surface.proofs.Lists.{by-cases}
 use native.Mathlib.Decide.{decLt}
 use Rattle.formats.proofs.FormatLaws.{target-colour, source-small}
 use Rattle.paint.specs.declared.Clip.{Clip}
-use Rattle.paint.specs.Clip.{origin, inClip, pixelAt}
+use Rattle.paint.specs.Clip.{inClip, pixelAt}
 use Rattle.paint.proofs.ClipLaws.{in-clip}
-use Rattle.sweep.specs.Copy.{CanPaint, Orderly}
-use Rattle.line.specs.Line.{points, Within, Placed}
-use Rattle.line.specs.Draw.{coveredPoints, lineOff, Drawable}
-use Rattle.host.specs.Host.{Sizes, wordsOf}
-use Rattle.host.specs.Draw.{Opened}
+use Rattle.sweep.specs.Asked.{CanPaint, Orderly}
+use Rattle.line.specs.Line.{points}
+use Rattle.line.specs.Asked.{Within, Placed, Drawable}
+use Rattle.line.specs.Draw.{coveredPoints, lineOff}
+use Rattle.host.specs.Host.{wordsOf}
+use Rattle.host.specs.Asked.{Sizes, Opened}
 use Rattle.plain.specs.Plain.{Plainly}
 use Rattle.host.proofs.Needed.{data-small}
 use Rattle.registers.specs.declared.Regs.{Regs}
 use Rattle.positions.specs.Position.{placed}
 use Rattle.cuts.specs.declared.Cut.{Cut}
 use Rattle.command.specs.Decode.{target, origins, inkOf, plainBlit, plainOf, fillTask, copyTask, lineOf, feedOf}
-use Rattle.cuts.specs.Cut.{bit, width, height, clipOf, firstOf, cutAt, fillCut, copyCut, covered, needed, CutRange}
-use Rattle.table.specs.Table.{targetFine, bothFine, hostFine, allOnAt, pixels, hostFault, fillVerdict, copyVerdict, hostVerdict, lineVerdict, InRows}
+use Rattle.cuts.specs.Cut.{bit, width, height, clipOf, firstOf, cutAt, fillCut, copyCut, covered, needed}
+use Rattle.cuts.specs.Asked.{CutRange}
+use Rattle.table.specs.Table.{targetFine, bothFine, hostFine, allOnAt, pixels, hostFault, fillVerdict, copyVerdict, hostVerdict, lineVerdict}
+use Rattle.table.specs.Asked.{InRows}
 use Rattle.cuts.proofs.CutLaws.{clip-bits, Bounded, cut-bounded}
 use Rattle.table.proofs.Sources.{needed-first, needed-as-pixels, needed-pixels, no-clash}
 

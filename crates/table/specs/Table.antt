@@ -2,16 +2,16 @@
 -- Assumes nothing.
 use mathlib.Core.Bool.{Bool, true, false, cond, not, _&&_, _||_}
 use mathlib.Core.List.{List, [], _∷_, map}
-use Prim.Native.Nat.{ℕ, _+_, _-_, _/_, _%_, _^_, _<_, _≤_}
+use Prim.Native.Nat.{ℕ, _+_, _-_, _/_, _%_, _^_}
 use lib.Dec.{eqb, leb, ltb}
 use Rattle.colour.specs.Convert.{allowed}
 use Rattle.surface.specs.declared.Surface.{Surface}
-use Rattle.surface.specs.Place.{sameSurface, onSurface, rowPixels, Small}
-use Rattle.surface.specs.Pixels.{Px}
+use Rattle.surface.specs.Place.{sameSurface, onSurface}
+use Rattle.surface.specs.Pixels.{Px, origin}
 use Rattle.spans.specs.Span.{allOn, spanOf, meet}
 use Rattle.formats.specs.Format.{targetNamed, sourceNamed, hostNamed}
 use Rattle.formats.specs.Step.{packingOf, rowLength}
-use Rattle.paint.specs.Clip.{origin, pixelAt}
+use Rattle.paint.specs.Clip.{pixelAt}
 use Rattle.line.specs.Line.{points}
 use Rattle.line.specs.Draw.{lineOff}
 use Rattle.registers.specs.declared.Regs.{Regs}
@@ -19,7 +19,7 @@ use Rattle.cuts.specs.declared.Cut.{Cut}
 use Rattle.table.specs.declared.Reach.{Reach}
 use Rattle.scale.specs.declared.Scale.{Scale}
 use Rattle.scale.specs.declared.Stretch.{Stretch}
-use Rattle.scale.specs.Scale.{scaled, OnScale}
+use Rattle.scale.specs.Scale.{scaled}
 use Rattle.scale.specs.Stretch.{takenAt}
 use Rattle.command.specs.Decode.{target, origins, stretchOrigins, stretchOf, lineOf}
 use Rattle.cuts.specs.Cut.{low13, high13, width, height, clipOf, fillCut, copyCut, covered, needed}
@@ -114,27 +114,3 @@ takenCut t c =
     let across = reachOf (t .columns) (c .x) (c .w) in
     let down = reachOf (t .rows) (c .y) (c .h) in
     record { x = 0; y = 0; w = across .n; h = down .n; sx = across .at; sy = down .at }
-
--- ---- what functions ask for
-
--- the target's rectangle and the source's, which is that of cut b, are in the rows of their surfaces, where there are pixels to paint
-pub record InRows (t s : Surface) (c b : Cut) : Type 0 where
-  pub target : Small t
-  pub source : Small s
-  pub columns : 0 < c .w → 0 < c .h → (c .x + (c .w - 1) < rowPixels t) × (b .sx - origin + (b .w - 1) < rowPixels s)
-  pub left : 0 < c .w → 0 < c .h → origin ≤ b .sx
-  pub top : 0 < c .w → 0 < c .h → origin ≤ b .sy
-
--- there are n target places from `at` on, on one axis of a stretch
-pub record Reaches (s : Scale) (at n : ℕ) : Type 0 where
-  pub some : 0 < n
-  pub small : at + n ≤ 2 ^ 13
-  pub first : OnScale s (origin + at)
-  pub past : OnScale s (origin + (at + n))
-
--- the pixels of a cut are places of the stretch's target
-pub record OnScales (t : Stretch) (c : Cut) : Type 0 where
-  pub target : Small (t .ink .target)
-  pub source : Small (t .from)
-  pub columns : 0 < c .w → 0 < c .h → Reaches (t .columns) (c .x) (c .w)
-  pub rows : 0 < c .w → 0 < c .h → Reaches (t .rows) (c .y) (c .h)

@@ -6,10 +6,11 @@ use scale::Stretch;
 use surface::Surface;
 ghost use mathlib.Core.Path.{_≡_};
 ghost use Prim.Native.Nat.{_-_, _<_};
-ghost use Rattle.surface.specs.Place.{Small};
+ghost use Rattle.surface.specs.Asked.{Small};
 ghost use Rattle.spans.specs.Span.{spanOf, meet};
 ghost use Rattle.cuts.specs.Cut.{covered, needed};
-ghost use Rattle.table.specs.Table.{fineWith, bothFine, hostFine, allOnAt, pixels, reachOf, takenCut, sourceRows, stretchRows, stretchFault, hostFault, InRows, Reaches, OnScales, fillVerdict, copyVerdict, stretchVerdict, hostVerdict, lineVerdict};
+ghost use Rattle.table.specs.Table.{fineWith, bothFine, hostFine, allOnAt, pixels, reachOf, takenCut, sourceRows, stretchRows, stretchFault, hostFault, fillVerdict, copyVerdict, stretchVerdict, hostVerdict, lineVerdict};
+ghost use Rattle.table.specs.Asked.{InRows, Reaches, OnScales};
 
 fn fine_with(named: bool, r: Regs) -> bool
     ensures { λ b. ⌜ b ≡ fineWith named r ⌝ }

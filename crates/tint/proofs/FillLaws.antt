@@ -23,7 +23,8 @@ use Rattle.paint.proofs.Turns.{paint-same}
 use Rattle.tint.specs.declared.Mask.{Mask}
 use Rattle.tint.specs.declared.Masks.{Masks}
 use Rattle.tint.specs.Tint.{filling, fillings}
-use Rattle.tint.specs.Masking.{ones, masked, byMask, maskBy, becomes, maskOf, maskIn, maskRows, tinting, tintings, downTint, downTints, MasksOf, Sound}
+use Rattle.tint.specs.Masking.{ones, masked, byMask, maskBy, becomes, maskOf, maskIn, maskRows, tinting, tintings, downTint, downTints, MasksOf}
+use Rattle.tint.specs.Asked.{Sound}
 use Rattle.tint.proofs.MaskLaws.{mask-rop}
 use Rattle.tint.proofs.ByteLaws.{put-low}
 

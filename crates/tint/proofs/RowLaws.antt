@@ -9,7 +9,8 @@ use native.Mathlib.Nat.{mod-lt, add-zero, add-comm, add-mul, zero-mul, one-mul, 
 use native.Mathlib.Omega.{arith}
 use lib.ListN.{getD}
 use Rattle.surface.specs.declared.Surface.{Surface}
-use Rattle.surface.specs.Place.{byteOf, readBytes, writeBytes, readPx, writePx, OnColour}
+use Rattle.surface.specs.Place.{byteOf, readBytes, writeBytes, readPx, writePx}
+use Rattle.surface.specs.Asked.{OnColour}
 use Rattle.surface.specs.Pixels.{Px, px, across}
 use Rattle.surface.proofs.Bytes.{read-fits}
 use Rattle.surface.proofs.Run.{in-rows, run-pixel, read-run, write-run}
@@ -19,7 +20,8 @@ use Rattle.paint.specs.Paint.{State, state, Touch, touch, dab, paint}
 use Rattle.paint.proofs.Turns.{paint-append, paint-same}
 use Rattle.paint.proofs.Frame.{Bytes, paint-bytes}
 use Rattle.runs.proofs.Runs.{run-column, run-place}
-use Rattle.tint.specs.Masking.{ones, masked, byMask, maskIn, tinting, tintings, blended, Sound, CanTint}
+use Rattle.tint.specs.Masking.{ones, masked, byMask, maskIn, tinting, tintings, blended}
+use Rattle.tint.specs.Asked.{Sound, CanTint}
 use Rattle.tint.proofs.MaskLaws.{mask-keeps}
 use Rattle.tint.proofs.ByteLaws.{put-back, put-low, blended-append, pixel-blended}
 

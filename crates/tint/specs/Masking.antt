@@ -4,19 +4,18 @@ use mathlib.Core.Path.{_≡_}
 use mathlib.Core.Bool.{Bool, true, false, cond}
 use mathlib.Core.List.{List, map}
 use mathlib.Core.Option.{Option, none, some}
-use Prim.Native.Nat.{ℕ, zero, suc, _+_, _-_, _*_, _/_, _%_, _^_, _<_, _≤_}
+use Prim.Native.Nat.{ℕ, zero, suc, _+_, _-_, _*_, _/_, _%_, _^_, _<_}
 use lib.Dec.{eqb, ltb}
 use lib.Bits.{bitAnd, bitXor}
 use lib.ListN.{length, getD, set}
 use Rattle.raster.specs.Rop.{ropBits}
 use Rattle.surface.specs.declared.Surface.{Surface}
-use Rattle.surface.specs.Place.{readBytes, readPx, Colour}
+use Rattle.surface.specs.Place.{readBytes, readPx}
 use Rattle.surface.specs.Pixels.{Px}
 use Rattle.ink.specs.declared.Ink.{Ink}
 use Rattle.paint.specs.Paint.{Touch, touch}
 use Rattle.paint.specs.Mix.{fillSource}
 use Rattle.ink.specs.Pattern.{patternColumn, patternRow, patternBit, patternIn}
-use Rattle.runs.specs.Runs.{RowOn}
 use Rattle.tint.specs.declared.Mask.{Mask}
 use Rattle.tint.specs.declared.Masks.{Masks}
 
@@ -82,7 +81,7 @@ blended keep flip from at (suc n) m = blended keep flip (from + 1) (at + 1) n (s
 unfoldable pub maskRows : ℕ → ℕ
 maskRows h = cond (ltb h 8) h 8
 
--- ---- what functions ask for and give
+-- ---- what functions give
 
 -- the mask of pixel (x + k % 8, y + k / 8)
 abbrev pub maskHere : Ink → List ℕ → ℕ → ℕ → ℕ → Mask
@@ -95,23 +94,3 @@ pub record MasksOf (ink : Ink) (pattern : List ℕ) (x y rows : ℕ) (m : Masks)
   pub adds : (k : ℕ) → k < rows * 8 → getD (m .adds) k 0 ≡ maskHere ink pattern x y k .adds
   pub keeps : length (m .keep) ≡ 256
   pub flips : length (m .flip) ≡ 256
-
--- a mask for n bytes that counts a pixel, or leaves it
-pub record Sound (n keep flip adds : ℕ) : Type 0 where
-  pub few : adds ≤ 1
-  pub left : adds ≡ 0 → (keep ≡ ones % 256 ^ n) × (flip ≡ 0 % 256 ^ n)
-
--- those that h rows of pixels want are
-pub record RowsSound (s : Surface) (keep flip adds : List ℕ) (h : ℕ) : Type 0 where
-  pub sound : (j : ℕ) → j < h → (i : ℕ) → i < 8
-      → Sound (s .bytes) (maskIn (s .bytes) keep (j % 8 * 8 + i)) (maskIn (s .bytes) flip (j % 8 * 8 + i)) (getD adds (j % 8 * 8 + i) 0)
-
--- w pixels of row y from x on can be tinted, after n that were written
-pub record CanTint (s : Surface) (keep flip adds : List ℕ) (first len x w y n : ℕ) : Type 0 where
-  pub flat : s .tiled ≡ false
-  pub colour : Colour s
-  pub on : RowOn s len x w y n
-  pub eight : first ≤ 56
-  pub keeps : length keep ≡ 256
-  pub flips : length flip ≡ 256
-  pub sound : (i : ℕ) → i < 8 → Sound (s .bytes) (maskIn (s .bytes) keep (first + i)) (maskIn (s .bytes) flip (first + i)) (getD adds (first + i) 0)

@@ -5,12 +5,14 @@ ghost use mathlib.Core.Path.{_≡_};
 ghost use mathlib.Core.Bool.{false};
 ghost use Prim.Native.Nat.{ℕ, _+_, _*_, _%_, _^_, _<_, _≤_};
 ghost use lib.ListN.{length};
-ghost use Rattle.surface.specs.Place.{Colour};
+ghost use Rattle.surface.specs.Asked.{Colour};
 ghost use Rattle.surface.specs.Pixels.{across, rect};
 ghost use Rattle.paint.specs.Paint.{state, paint};
-ghost use Rattle.ink.specs.Pattern.{patternBit, patternIn, Cell};
-ghost use Rattle.runs.specs.Runs.{RectOn};
-ghost use Rattle.tint.specs.Masking.{blended, maskOf, maskRows, tintings, downTints, MasksOf, RowsSound, CanTint};
+ghost use Rattle.ink.specs.Pattern.{patternBit, patternIn};
+ghost use Rattle.ink.specs.Asked.{Cell};
+ghost use Rattle.runs.specs.Asked.{RectOn};
+ghost use Rattle.tint.specs.Masking.{blended, maskOf, maskRows, tintings, downTints, MasksOf};
+ghost use Rattle.tint.specs.Asked.{RowsSound, CanTint};
 
 // The bits of a pixel that are kept, those that are then turned over, and 1 if the pixel is written.
 pub struct Mask {

@@ -10,7 +10,8 @@ use lib.Dec.{eqb, ltb}
 use lib.ListN.{length, take, drop, length-take, length-drop}
 use borrow.Author.Tests.{eq-eqb, ne-eqb, eqb-false, ltb-false}
 use Rattle.surface.specs.declared.Surface.{Surface}
-use Rattle.surface.specs.Place.{byteAt, byteOf, OnColour}
+use Rattle.surface.specs.Place.{byteAt, byteOf}
+use Rattle.surface.specs.Asked.{OnColour}
 use Rattle.surface.specs.Pixels.{across, rect}
 use Rattle.spans.specs.Span.{allOn}
 use Rattle.formats.specs.Format.{viewNamed, targetOf}

@@ -11,9 +11,11 @@ use Rattle.surface.specs.Place.{rowBytes, byteAt}
 use Rattle.surface.specs.Pixels.{Px, px, Inside}
 use Rattle.surface.proofs.Rows.{byteAt-inj}
 use Rattle.tint.specs.Masking.{masked, blended}
-use Rattle.blocks.specs.Blocks.{Put, Columns, Rows}
+use Rattle.blocks.specs.Blocks.{Put}
+use Rattle.blocks.specs.Asked.{Columns, Rows}
 use Rattle.blocks.proofs.Blocks.{block-at, put-beside, put-below}
-use Rattle.wash.specs.Wash.{washed, inRow, inRows, Again, Period}
+use Rattle.wash.specs.Wash.{washed, inRow, inRows}
+use Rattle.wash.specs.Asked.{Again, Period}
 use Rattle.wash.proofs.Blend.{blended-length, blended-other, blended-byte}
 
 -- ---- a piece

@@ -10,7 +10,8 @@ use native.Mathlib.Omega.{arith}
 use lib.Arith.{digits-mod, digits-lt}
 use lib.ListN.{length, getD}
 use Rattle.surface.specs.declared.Surface.{Surface}
-use Rattle.surface.specs.Place.{byteAt, byteOf, readPx, writePx, OnColour}
+use Rattle.surface.specs.Place.{byteAt, byteOf, readPx, writePx}
+use Rattle.surface.specs.Asked.{OnColour}
 use Rattle.surface.specs.Pixels.{Px, px, rect, Inside}
 use Rattle.surface.proofs.OnLaws.{colour-byte, on-column}
 use Rattle.surface.proofs.Pixels.{same-byte}
@@ -19,9 +20,11 @@ use Rattle.paint.specs.Paint.{State, state, paint}
 use Rattle.paint.proofs.Frame.{Bytes}
 use Rattle.paint.proofs.Owners.{byte-of, of-byte, read-px}
 use Rattle.paint.proofs.Settle.{Settled, settled, counted}
-use Rattle.runs.specs.Runs.{Given, RectOn}
+use Rattle.runs.specs.Runs.{Given}
+use Rattle.runs.specs.Asked.{RectOn}
 use Rattle.runs.proofs.Runs.{given-once}
-use Rattle.tint.specs.Masking.{masked, byMask, maskIn, tinting, downTint, downTints, Sound}
+use Rattle.tint.specs.Masking.{masked, byMask, maskIn, tinting, downTint, downTints}
+use Rattle.tint.specs.Asked.{Sound}
 use Rattle.tint.proofs.RowLaws.{step}
 use Rattle.blocks.specs.Blocks.{Put}
 use Rattle.blocks.proofs.Pixels.{put-given}

@@ -10,7 +10,8 @@ use native.Mathlib.Decide.{ℕ-discrete}
 use lib.ListN.{length, getD, set}
 use lib.Seq.{getD-set-same, getD-set-other}
 use Rattle.surface.proofs.Lists.{by-cases}
-use Rattle.wash.specs.Wash.{Spread, Widened, Period}
+use Rattle.wash.specs.Wash.{Spread, Widened}
+use Rattle.wash.specs.Asked.{Period}
 
 -- ---- the place in a period, one byte on
 module _ (i p period : ℕ) (here : p ≡ i % period) where

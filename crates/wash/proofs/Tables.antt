@@ -7,13 +7,15 @@ use native.Mathlib.Nat.{mod-lt, mod-le, mod-mod}
 use native.Mathlib.Omega.{arith}
 use lib.ListN.{getD}
 use Rattle.surface.specs.declared.Surface.{Surface}
-use Rattle.surface.specs.Place.{byteAt, Colour}
+use Rattle.surface.specs.Place.{byteAt}
+use Rattle.surface.specs.Asked.{Colour}
 use Rattle.surface.specs.Pixels.{px}
-use Rattle.runs.specs.Runs.{RectOn}
+use Rattle.runs.specs.Asked.{RectOn}
 use Rattle.tint.specs.Masking.{masked}
 use Rattle.blocks.specs.Blocks.{Put}
 use Rattle.blocks.proofs.Pixels.{byte-held, bytes-wide}
-use Rattle.wash.specs.Wash.{washed, inRows, Widened, Again, Period, CanWash}
+use Rattle.wash.specs.Wash.{washed, inRows, Widened}
+use Rattle.wash.specs.Asked.{Again, Period, CanWash}
 
 pub period-of : {s : Surface} → Colour s → Period (8 * s .bytes)
 period-of colour = record { some = omega (arith, colour .some); few = omega (arith, colour .small .bytes) }

@@ -1,7 +1,7 @@
 -- How many pixels masks count: eight for a row, again and again, and eight rows of them, again and again.
 -- Assumes nothing.
 use mathlib.Core.List.{List}
-use Prim.Native.Nat.{ℕ, zero, suc, _+_, _*_, _%_, _<_, _≤_}
+use Prim.Native.Nat.{ℕ, zero, suc, _+_, _*_, _%_}
 use lib.ListN.{getD}
 
 -- of w pixels of a row, from pixel number i on; the row's masks from number `first` on
@@ -13,8 +13,3 @@ counting adds first i (suc w) = getD adds (first + i % 8) 0 + counting adds firs
 unfoldable pub countings : List ℕ → ℕ → ℕ → ℕ → ℕ
 countings adds w j zero = 0
 countings adds w j (suc h) = counting adds (j % 8 * 8) 0 w + countings adds w (j + 1) h
-
--- eight masks that count one pixel at most
-pub record Ones (adds : List ℕ) (first : ℕ) : Type 0 where
-  pub eight : first ≤ 56
-  pub one : (i : ℕ) → i < 8 → getD adds (first + i) 0 ≤ 1

@@ -8,11 +8,12 @@ ghost use lib.ListN.{length};
 ghost use Rattle.surface.specs.Place.{rowBytes};
 ghost use Rattle.surface.specs.Pixels.{rect};
 ghost use Rattle.paint.specs.Paint.{state, paint};
-ghost use Rattle.runs.specs.Runs.{RectOn};
+ghost use Rattle.runs.specs.Asked.{RectOn};
 ghost use Rattle.blocks.specs.Blocks.{Put};
 ghost use Rattle.tint.specs.Tint.{fillings};
-ghost use Rattle.wash.specs.Wash.{washed, inRow, inRows, Spread, Widened, Period, CanWash};
-ghost use Rattle.wash.specs.Count.{counting, countings, Ones};
+ghost use Rattle.wash.specs.Wash.{washed, inRow, inRows, Spread, Widened};
+ghost use Rattle.wash.specs.Asked.{Period, CanWash, Ones};
+ghost use Rattle.wash.specs.Count.{counting, countings};
 
 // How many of n bytes, from column `at` on, come before the next edge of a tile.
 fn to_edge(at: usize, n: usize) -> usize

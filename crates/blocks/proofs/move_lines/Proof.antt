@@ -9,8 +9,9 @@ use borrow.Author.Tests.{eqb-true}
 use lib.Dec.{eqb}
 use Rattle.surface.proofs.Bytes.{product-lt}
 use Rattle.surface.proofs.OnLaws.{and-left, and-right}
-use Rattle.runs.specs.Runs.{Run, Up}
-use Rattle.blocks.specs.Blocks.{Laid, Lines}
+use Rattle.runs.specs.Asked.{Run, Up}
+use Rattle.blocks.specs.Blocks.{Laid}
+use Rattle.blocks.specs.Asked.{Lines}
 use Rattle.blocks.proofs.Laying.{line-of, laid-run, laid-none, laid-next}
 use Rattle.blocks.proofs.move_lines.Statement.{statement}
 use Rattle.blocks.proofs.move_lines.Tie as tie

@@ -7,11 +7,11 @@ use mathlib.Core.Option.{Option}
 use Prim.Native.Nat.{ℕ, _+_, _-_, _≤_}
 use lib.ListN.{length}
 use borrow.Author.Needs.{needs}
-use Rattle.surface.specs.Place.{OnColour}
+use Rattle.surface.specs.Asked.{OnColour}
 use Rattle.surface.specs.Pixels.{Px, px, across}
 use Rattle.paint.specs.Paint.{state, touch, dab, paint}
 use Rattle.paint.proofs.Turns.{row-left, row-whole, row-again, row-ends, nth-in}
-use Rattle.sweep.specs.Copy.{HasSource}
+use Rattle.sweep.specs.Asked.{HasSource}
 use Rattle.patch.specs.Row.{rowGiving, inRow}
 use Rattle.patch.proofs.RowLaws.{pixel-given}
 use Rattle.patch.proofs.paint_across.Statement.{statement}

@@ -8,7 +8,8 @@ use Prim.Native.Nat.{_+_, _^_, _<_}
 use lib.ListN.{length}
 use Rattle.surface.specs.Pixels.{across}
 use Rattle.ppm.specs.Text.{page, said}
-use Rattle.ppm.specs.Picture.{lines, RowOn}
+use Rattle.ppm.specs.Picture.{lines}
+use Rattle.ppm.specs.Asked.{RowOn}
 use Rattle.ppm.proofs.PictureLaws.{row-first, row-rest, row-again, row-ends}
 use Rattle.ppm.proofs.say_row.Statement.{statement}
 use Rattle.ppm.proofs.say_row.Tie as tie

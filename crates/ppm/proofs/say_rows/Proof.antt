@@ -8,7 +8,8 @@ use Prim.Native.Nat.{_+_, _^_, _<_}
 use lib.ListN.{length}
 use Rattle.surface.specs.Pixels.{rect}
 use Rattle.ppm.specs.Text.{page, said}
-use Rattle.ppm.specs.Picture.{lines, RectOn}
+use Rattle.ppm.specs.Picture.{lines}
+use Rattle.ppm.specs.Asked.{RectOn}
 use Rattle.ppm.proofs.PictureLaws.{rect-first, rect-rest, rows-again, rows-end}
 use Rattle.ppm.proofs.say_rows.Statement.{statement}
 use Rattle.ppm.proofs.say_rows.Tie as tie

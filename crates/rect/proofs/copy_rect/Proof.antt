@@ -13,11 +13,14 @@ use Rattle.surface.proofs.OnLaws.{and-left, and-right}
 use Rattle.paint.specs.Paint.{state, paint}
 use Rattle.sweep.specs.declared.Task.{Task}
 use Rattle.sweep.specs.Copy.{giving}
-use Rattle.rect.specs.Fast.{plainly, monoOf, straightOf, late, Flat}
+use Rattle.rect.specs.Fast.{plainly, monoOf, straightOf, late}
+use Rattle.rect.specs.Asked.{Flat}
 use Rattle.bits.specs.declared.Mono.{Mono}
 use Rattle.straight.specs.declared.Straight.{Straight}
-use Rattle.straight.specs.Straight.{straightGiving, straightly, CanCopy}
-use Rattle.bits.specs.Bits.{monoGiving, monoly, CanMono}
+use Rattle.straight.specs.Straight.{straightGiving, straightly}
+use Rattle.straight.specs.Asked.{CanCopy}
+use Rattle.bits.specs.Bits.{monoGiving, monoly}
+use Rattle.bits.specs.Asked.{CanMono}
 use Rattle.rect.proofs.Straight.{straight-gives, can-straight}
 use Rattle.rect.proofs.Mono.{is-mono, mono-gives, mono-corner, can-mono}
 use Rattle.paint.proofs.Turns.{paint-same}

@@ -11,8 +11,9 @@ use lib.ListN.{length}
 use Rattle.surface.proofs.Bytes.{product-lt}
 use Rattle.surface.proofs.OnLaws.{and-left, and-right}
 use Rattle.sweep.specs.declared.Task.{Task}
-use Rattle.sweep.specs.Copy.{CanPaint}
-use Rattle.rect.specs.Fast.{plainly, touching, Apart, Cornered}
+use Rattle.sweep.specs.Asked.{CanPaint}
+use Rattle.rect.specs.Fast.{plainly, touching}
+use Rattle.rect.specs.Asked.{Apart, Cornered}
 use Rattle.rect.proofs.Order.{apart-early}
 use Rattle.rect.proofs.Plain.{plainly-plain}
 use Rattle.rect.proofs.Moved.{moved}

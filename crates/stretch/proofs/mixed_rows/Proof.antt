@@ -4,7 +4,7 @@ use borrow.Author.Needs.{needs}
 use native.Mathlib.Omega.{arith}
 use mathlib.Core.Path.{refl}
 use Prim.Native.Nat.{_-_}
-use Rattle.sweep.specs.Row.{Laid}
+use Rattle.sweep.specs.Asked.{Laid}
 use Rattle.scale.specs.Stretch.{turnTouch}
 use Rattle.stretch.specs.Row.{openTask}
 use Rattle.stretch.proofs.Taken.{can-step, steps-on, walk-place, can-take, can-row, RowsLeft, left-whole, left-again, left-none}

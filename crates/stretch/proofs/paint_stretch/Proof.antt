@@ -9,7 +9,8 @@ use Rattle.surface.specs.Pixels.{rect}
 use Rattle.surface.proofs.OnLaws.{pos-of-ne}
 use Rattle.rect.specs.Fast.{straight}
 use Rattle.rect.proofs.Straight.{coloured}
-use Rattle.stretch.specs.Row.{openTask, Begins}
+use Rattle.stretch.specs.Row.{openTask}
+use Rattle.stretch.specs.Asked.{Begins}
 use Rattle.stretch.proofs.Straight.{straight-only}
 use Rattle.stretch.proofs.Order.{nothing-left, in-turn, straight-turn}
 use Rattle.stretch.proofs.paint_stretch.Statement.{statement}

@@ -5,7 +5,8 @@ use mathlib.Core.Path.{_≡_, sym, ap, subst⁻¹, _∙_}
 use mathlib.Core.Bool.{false}
 use lib.ListN.{length}
 use Rattle.straight.specs.declared.Straight.{Straight}
-use Rattle.straight.specs.Straight.{copied, PixelCopies}
+use Rattle.straight.specs.Straight.{copied}
+use Rattle.straight.specs.Asked.{PixelCopies}
 use Rattle.rect.specs.Fast.{straightOf}
 use Rattle.stretch.proofs.straight_pixel.Statement.{statement}
 use Rattle.stretch.proofs.straight_pixel.Tie as tie

@@ -9,7 +9,7 @@ use lib.ListN.{getD}
 use mir.Val.{Fits}
 use mir.Syntax.{w8}
 use Rattle.paint.specs.Paint.{state}
-use Rattle.tint.specs.Masking.{RowsSound}
+use Rattle.tint.specs.Asked.{RowsSound}
 use Rattle.tint.proofs.FillLaws.{rows-fit, row-sound, rect-fills}
 use Rattle.wash.proofs.Settling.{washed-whole}
 use Rattle.wash.proofs.wash_rows.Statement.{statement}
