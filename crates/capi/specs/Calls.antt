@@ -5,9 +5,7 @@ use mathlib.Core.List.{List}
 use Prim.Native.Nat.{ℕ, _+_, _*_, _^_}
 use lib.Dec.{eqb, ltb}
 use lib.ListN.{length}
-use Rattle.surface.specs.Place.{byteOf}
-use Rattle.formats.specs.Format.{targetOf}
-use Rattle.views.specs.View.{viewAnswer}
+use Rattle.views.specs.View.{viewAnswer, viewStart, viewCount}
 use Rattle.bank.specs.declared.Reading.{Reading}
 use Rattle.bank.specs.Bank.{readNumber, readValue}
 use Rattle.engine.specs.declared.Answer.{Answer}
@@ -69,9 +67,7 @@ part a s n = record { answer = a; start = s; count = n }
 
 unfoldable pub partOf : List ℕ → ℕ → ℕ → ℕ → ℕ → ℕ → Part
 partOf m base format x y width =
-    cond (eqb (viewAnswer (length m) base format x y width) 0)
-    (part 0 (byteOf (targetOf base format) x y 0) (width * targetOf base format .bytes))
-    (part (viewAnswer (length m) base format x y width) 0 0)
+    part (viewAnswer (length m) base format x y width) (viewStart (length m) base format x y width) (viewCount (length m) base format x y width)
 
 -- ---- what the code does on the way
 

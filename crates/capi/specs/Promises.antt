@@ -7,7 +7,7 @@ use mathlib.Core.List.{List}
 use Prim.Native.Nat.{ℕ, _^_, _<_}
 use lib.ListN.{length, take, drop}
 use Rattle.registers.specs.Regs.{getReg}
-use Rattle.views.specs.View.{viewAnswer, viewed}
+use Rattle.views.specs.View.{viewAnswer, viewStart, viewed}
 use Rattle.engine.specs.declared.Engine.{Engine}
 use Rattle.state.specs.Layout.{stateSize, encoded, decoded, isState, Bytes}
 use Rattle.capi.specs.Calls.{Call, writtenTo, Opening, openedTo, readOf, Part, partOf}
@@ -32,11 +32,12 @@ EngineBack = (e : Engine) → Fits e → decoded (encoded e) ≡ e
 abbrev pub StaysState : Type 0
 StaysState = (e : Engine) → isState (encoded e) ≡ true
 
--- ---- Views. The part that a view names is what the row view hands back
+-- ---- Views. The part that a view names is the part of memory that the row view hands back
 abbrev pub PartViewed : Type 0
 PartViewed = (m : List ℕ) (base format x y width : ℕ)
     → (partOf m base format x y width .answer ≡ viewAnswer (length m) base format x y width)
-    × (take (partOf m base format x y width .count) (drop (partOf m base format x y width .start) m) ≡ viewed m base format x y width)
+    × ((partOf m base format x y width .start ≡ viewStart (length m) base format x y width)
+    × (take (partOf m base format x y width .count) (drop (partOf m base format x y width .start) m) ≡ viewed m base format x y width))
 
 -- ---- One. Each contract allows one outcome
 

@@ -1,7 +1,8 @@
 -- Each contract says what the outcome equals, and so allows one.
 -- Assumes nothing.
 use mathlib.Core.Path.{_≡_, sym, _∙_}
-use Rattle.views.specs.View.{viewAnswer, viewed}
+use lib.ListN.{length}
+use Rattle.views.specs.View.{viewAnswer, viewStart, viewed, further}
 use Rattle.engine.specs.Step.{freshEngine, readFrom, written}
 use Rattle.engine.specs.Promises.{OneOutcome, OneFresh, OneReading, OneView, OneViewAnswer}
 
@@ -18,7 +19,8 @@ pub one-reading : OneReading
 one-reading e o x y = settled (readFrom e o) x y
 
 pub one-view : OneView
-one-view m base format px py width x y = settled (viewed m base format px py width) x y
+one-view m place base format px py width x y at to p q =
+    (settled (viewed m base format px py width) x y (p .0) (q .0), settled (further place (viewStart (length m) base format px py width)) at to (p .1) (q .1))
 
 pub one-view-answer : OneViewAnswer
 one-view-answer len base format px py width x y = settled (viewAnswer len base format px py width) x y

@@ -12,7 +12,7 @@ use Rattle.surface.specs.declared.Surface.{Surface}
 use Rattle.surface.specs.Place.{sameSurface, byteAt, byteOf, readPx, rowPixels, firstByte, byteCount, onSurface}
 use Rattle.surface.specs.Pixels.{Px, NotBefore, origin}
 use Rattle.spans.specs.Span.{allOn, addresses, spanOf, meet}
-use Rattle.views.specs.View.{viewAnswer, viewed}
+use Rattle.views.specs.View.{viewAnswer, viewStart, viewed, further}
 use Rattle.paint.specs.Clip.{inClip}
 use Rattle.paint.specs.Paint.{state, Touch, dab, paint}
 use Rattle.sweep.specs.Copy.{asBefore}
@@ -46,9 +46,12 @@ OneFresh = (len : ℕ) (x y : Engine) → x ≡ freshEngine len → y ≡ freshE
 abbrev pub OneReading : Type 0
 OneReading = (e : Engine) (o : ℕ) (x y : Reading) → x ≡ readFrom e o → y ≡ readFrom e o → x ≡ y
 
--- the two functions of the row view
+-- the two functions of the row view: its bytes and its place, in a memory that begins at `place`
 abbrev pub OneView : Type 0
-OneView = (m : List ℕ) (base format px py width : ℕ) (x y : List ℕ) → x ≡ viewed m base format px py width → y ≡ viewed m base format px py width → x ≡ y
+OneView = (m : List ℕ) (place : ℕ × ℕ) (base format px py width : ℕ) (x y : List ℕ) (at to : ℕ × ℕ)
+    → (x ≡ viewed m base format px py width) × (at ≡ further place (viewStart (length m) base format px py width))
+    → (y ≡ viewed m base format px py width) × (to ≡ further place (viewStart (length m) base format px py width))
+    → (x ≡ y) × (at ≡ to)
 
 abbrev pub OneViewAnswer : Type 0
 OneViewAnswer = (len base format px py width x y : ℕ) → x ≡ viewAnswer len base format px py width → y ≡ viewAnswer len base format px py width → x ≡ y

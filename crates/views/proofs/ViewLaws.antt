@@ -4,7 +4,7 @@ use mathlib.Core.Path.{_≡_, refl, sym, ap, subst, _∙_}
 use mathlib.Core.Bool.{Bool, true, false, cond, not, _||_}
 use mathlib.Core.List.{List, [], append-nil}
 use Prim.Native.Nat.{ℕ, _+_, _*_, _-_, _^_, _<_, _≤_}
-use native.Mathlib.Nat.{add-mul, add-zero, one-mul, mul-pos}
+use native.Mathlib.Nat.{add-mul, add-zero, add-comm, one-mul, mul-pos}
 use native.Mathlib.Omega.{arith}
 use lib.Dec.{eqb, ltb}
 use lib.ListN.{length, take, drop, length-take, length-drop}
@@ -15,7 +15,7 @@ use Rattle.surface.specs.Asked.{OnColour}
 use Rattle.surface.specs.Pixels.{across, rect}
 use Rattle.spans.specs.Span.{allOn}
 use Rattle.formats.specs.Format.{viewNamed, targetOf}
-use Rattle.views.specs.View.{viewAnswer, viewed}
+use Rattle.views.specs.View.{viewAnswer, viewStart, viewCount, viewed, further}
 use Rattle.surface.proofs.Rows.{byteAt-run}
 use Rattle.surface.proofs.OnLaws.{colour-first, colour-count, on-last, lastByte, pos-of-ne}
 use Rattle.spans.proofs.Corner.{across-corner}
@@ -76,22 +76,38 @@ view-fits {len} {base} {format} {x} {y} {width} g =
     omega (arith, byteAt-run s (view-flat base format (g .named)) (x * b + 0) (width * b - 1) y, mul-pos w some)
 
 -- ---- what is handed back
-pub view-given : (m : List ℕ) (base format x y width : ℕ) → viewAnswer (length m) base format x y width ≡ 0
-    → viewed m base format x y width ≡ take (width * targetOf base format .bytes) (drop (byteOf (targetOf base format) x y 0) m)
-unfolding viewed
-view-given m base format x y width e = rw (eq-eqb _ _ e)
+module _ (len base format x y width : ℕ) where
+  -- of a view that is given, and of one that is refused
+  pub start-given : viewAnswer len base format x y width ≡ 0 → viewStart len base format x y width ≡ byteOf (targetOf base format) x y 0
+  unfolding viewStart
+  start-given e = rw (eq-eqb _ _ e)
+
+  pub count-given : viewAnswer len base format x y width ≡ 0 → viewCount len base format x y width ≡ width * targetOf base format .bytes
+  unfolding viewCount
+  count-given e = rw (eq-eqb _ _ e)
+
+  pub start-refused : (viewAnswer len base format x y width ≡ 0 → ⊥) → viewStart len base format x y width ≡ 0
+  unfolding viewStart
+  start-refused e = rw (ne-eqb _ _ e)
+
+  pub count-refused : (viewAnswer len base format x y width ≡ 0 → ⊥) → viewCount len base format x y width ≡ 0
+  unfolding viewCount
+  count-refused e = rw (ne-eqb _ _ e)
 
 -- a refused view is empty
 pub view-refused : (m : List ℕ) (base format x y width : ℕ) → (viewAnswer (length m) base format x y width ≡ 0 → ⊥) → viewed m base format x y width ≡ []
-unfolding viewed
-view-refused m base format x y width e = rw (ne-eqb _ _ e)
+view-refused m base format x y width e = rw (count-refused (length m) base format x y width e)
+
+pub place-refused : (place : ℕ × ℕ) (len base format x y width : ℕ) → (viewAnswer len base format x y width ≡ 0 → ⊥)
+    → place ≡ further place (viewStart len base format x y width)
+place-refused place len base format x y width e = rw (start-refused len base format x y width e, add-zero)
 
 -- a given one has width times bytes
 pub view-length : (m : List ℕ) (base format x y width : ℕ) → viewAnswer (length m) base format x y width ≡ 0
     → length (viewed m base format x y width) ≡ width * targetOf base format .bytes
 view-length m base format x y width e =
     let fits = view-fits (given-zero (length m) base format x y width e) in
-    ap length (view-given m base format x y width e) ∙ simp (length-take, length-drop) (omega arith)
+    rw (start-given (length m) base format x y width e, count-given (length m) base format x y width e) (simp (length-take, length-drop) (omega arith))
 
 -- and so at least one
 pub view-some : (m : List ℕ) (base format x y width : ℕ) → viewAnswer (length m) base format x y width ≡ 0 → 0 < length (viewed m base format x y width)
@@ -105,7 +121,10 @@ module _ (m : List ℕ) (base format x y width : ℕ) (zero : viewAnswer (length
   pub part-fits : start + w * b ≤ length m
   part-fits = rw (at, as-wide, as-deep) (view-fits (given-zero (length m) base format x y width zero))
 
+  pub part-place : (place : ℕ × ℕ) → (place .0, start + place .1) ≡ further place (viewStart (length m) base format x y width)
+  part-place place = rw (start-given (length m) base format x y width zero, at, add-comm (place .1) (byteOf (targetOf base format) x y 0))
+
   pub part-given : take (start + w * b - start) (drop start m) ≡ viewed m base format x y width
   part-given =
       let e : start + w * b - start ≡ w * b = omega arith in
-      rw (e, at, as-wide, as-deep) (sym (view-given m base format x y width zero))
+      rw (e, start-given (length m) base format x y width zero, count-given (length m) base format x y width zero, at, as-wide, as-deep)

@@ -1,8 +1,8 @@
 -- The view of some pixels of a row: the answer by number, and the part of memory that is handed back.
 -- Assumes nothing.
 use mathlib.Core.Bool.{false, cond, not, _||_}
-use mathlib.Core.List.{List, []}
-use Prim.Native.Nat.{ℕ, _*_, _^_}
+use mathlib.Core.List.{List}
+use Prim.Native.Nat.{ℕ, _+_, _*_, _^_}
 use lib.Dec.{eqb, ltb}
 use lib.ListN.{length, take, drop}
 use Rattle.surface.specs.Place.{byteOf}
@@ -18,9 +18,17 @@ viewAnswer len base format x y width =
     (cond (eqb width 0 || not (allOn (targetOf base format) len (across false x width y))) 7
     0))
 
--- the bytes of the row's pixels, none where the view is refused
-unfoldable pub viewed : List ℕ → ℕ → ℕ → ℕ → ℕ → ℕ → List ℕ
-viewed m base format x y width =
-    cond (eqb (viewAnswer (length m) base format x y width) 0)
-    (take (width * targetOf base format .bytes) (drop (byteOf (targetOf base format) x y 0) m))
-    []
+-- where the part begins, counted from the first byte of a memory of len bytes, and how many bytes it has: those of the row's pixels; none where the view is refused
+unfoldable pub viewStart : ℕ → ℕ → ℕ → ℕ → ℕ → ℕ → ℕ
+viewStart len base format x y width = cond (eqb (viewAnswer len base format x y width) 0) (byteOf (targetOf base format) x y 0) 0
+
+unfoldable pub viewCount : ℕ → ℕ → ℕ → ℕ → ℕ → ℕ → ℕ
+viewCount len base format x y width = cond (eqb (viewAnswer len base format x y width) 0) (width * targetOf base format .bytes) 0
+
+-- its bytes
+abbrev pub viewed : List ℕ → ℕ → ℕ → ℕ → ℕ → ℕ → List ℕ
+viewed m base format x y width = take (viewCount (length m) base format x y width) (drop (viewStart (length m) base format x y width) m)
+
+-- the place so many bytes further on: a place is a block of memory, and a number of bytes in it
+abbrev pub further : ℕ × ℕ → ℕ → ℕ × ℕ
+further place n = (place .0, place .1 + n)

@@ -1,7 +1,8 @@
 // The view of some pixels of a row.
 ghost use mathlib.Core.Path.{_≡_};
 ghost use Prim.Native.Nat.{_+_, _-_, _<_};
-ghost use Rattle.views.specs.View.{viewAnswer, viewed};
+ghost use lib.ListN.{length};
+ghost use Rattle.views.specs.View.{viewAnswer, viewStart, viewed, further};
 
 // The answer to a view of some pixels of a row: 0, or the number of the refusal.
 pub fn view_answer(len: usize, base: u32, format: u32, x: u32, y: u32, width: u32) -> u32
@@ -23,9 +24,9 @@ pub fn view_answer(len: usize, base: u32, format: u32, x: u32, y: u32, width: u3
     7
 }
 
-// The bytes of some pixels of a row, as a part of the memory; none where the view is refused.
+// The bytes of some pixels of a row, as a part of the lent memory itself; none where the view is refused.
 pub fn row_view(mem: &[u8], base: u32, format: u32, x: u32, y: u32, width: u32) -> &[u8]
-    ensures { λ r. ⌜ now r ≡ viewed (now (mem .entry)) base format x y width ⌝ }
+    ensures { λ r. ⌜ (now r ≡ viewed (now (mem .entry)) base format x y width) × (r .ptr ≡ further (mem .entry .ptr) (viewStart (length (now (mem .entry))) base format x y width)) ⌝ }
 {
     let answer = view_answer(mem.len(), base, format, x, y, width);
     if answer != 0 {

@@ -5,9 +5,8 @@ use native.Mathlib.Omega.{arith}
 use mathlib.Core.Path.{sym, ap, _∙_}
 use lib.ListN.{length}
 use Rattle.surface.specs.declared.Surface.{Surface}
-use Rattle.views.proofs.ViewLaws.{part-fits, part-given}
+use Rattle.views.proofs.ViewLaws.{given-zero, view-refused, place-refused, part-fits, part-place, part-given}
 use Rattle.surface.specs.Place.{byteOf}
-use Rattle.views.proofs.ViewLaws.{given-zero, view-refused}
 use Rattle.views.proofs.row_view.Statement.{statement}
 use Rattle.views.proofs.row_view.Tie as tie
 
@@ -18,7 +17,10 @@ slice-aggregate-result : tie.Need-slice-aggregate-result
 slice-aggregate-result c = search needs
 
 returns : tie.Need-returns
-returns c = sym (view-refused (c .before .before .before .before .args .mem .now) (c .before .before .before .before .args .base) (c .before .before .before .before .args .format) (c .before .before .before .before .args .x) (c .before .before .before .before .args .y) (c .before .before .before .before .args .width) (λ e. c .before .if1 .taken (c .before .before .view-answer .ensures ∙ e)))
+returns c = (
+  sym (view-refused (c .before .before .before .before .args .mem .now) (c .before .before .before .before .args .base) (c .before .before .before .before .args .format) (c .before .before .before .before .args .x) (c .before .before .before .before .args .y) (c .before .before .before .before .args .width) (λ e. c .before .if1 .taken (c .before .before .view-answer .ensures ∙ e))),
+  place-refused (c .before .before .before .before .args .mem .ptr) (length (c .before .before .before .before .args .mem .now)) (c .before .before .before .before .args .base) (c .before .before .before .before .args .format) (c .before .before .before .before .args .x) (c .before .before .before .before .args .y) (c .before .before .before .before .args .width) (λ e. c .before .if1 .taken (c .before .before .view-answer .ensures ∙ e)),
+)
 
 target-of-requires : tie.Need-target-of-requires
 target-of-requires c κs = search needs
@@ -59,10 +61,14 @@ part-result-end c =
     (c .wide2 .ensures ∙ ap (λ (s : Surface). s .bytes) (c .before .before .before .target-of .ensures))
 
 returns-2 : tie.Need-returns-2
-returns-2 c =
-    part-given (c .before .before .before .before .before .before .before .before .args .mem .now) (c .before .before .before .before .before .before .before .before .args .base) (c .before .before .before .before .before .before .before .before .args .format) (c .before .before .before .before .before .before .before .before .args .x) (c .before .before .before .before .before .before .before .before .args .y) (c .before .before .before .before .before .before .before .before .args .width) (sym (c .before .before .before .before .before .before .view-answer .ensures) ∙ c .before .before .before .before .before .if1 .left)
-    (c .before .before .before .byte-of .ensures ∙ ap (λ (s : Surface). byteOf s (c .before .before .before .before .before .before .before .before .args .x) (c .before .before .before .before .before .before .before .before .args .y) 0) (c .before .before .before .before .target-of .ensures)) (c .before .before .wide .ensures)
-    (c .before .wide2 .ensures ∙ ap (λ (s : Surface). s .bytes) (c .before .before .before .before .target-of .ensures))
+returns-2 c = (
+  part-given (c .before .before .before .before .before .before .before .before .args .mem .now) (c .before .before .before .before .before .before .before .before .args .base) (c .before .before .before .before .before .before .before .before .args .format) (c .before .before .before .before .before .before .before .before .args .x) (c .before .before .before .before .before .before .before .before .args .y) (c .before .before .before .before .before .before .before .before .args .width) (sym (c .before .before .before .before .before .before .view-answer .ensures) ∙ c .before .before .before .before .before .if1 .left)
+      (c .before .before .before .byte-of .ensures ∙ ap (λ (s : Surface). byteOf s (c .before .before .before .before .before .before .before .before .args .x) (c .before .before .before .before .before .before .before .before .args .y) 0) (c .before .before .before .before .target-of .ensures)) (c .before .before .wide .ensures)
+      (c .before .wide2 .ensures ∙ ap (λ (s : Surface). s .bytes) (c .before .before .before .before .target-of .ensures)),
+  part-place (c .before .before .before .before .before .before .before .before .args .mem .now) (c .before .before .before .before .before .before .before .before .args .base) (c .before .before .before .before .before .before .before .before .args .format) (c .before .before .before .before .before .before .before .before .args .x) (c .before .before .before .before .before .before .before .before .args .y) (c .before .before .before .before .before .before .before .before .args .width) (sym (c .before .before .before .before .before .before .view-answer .ensures) ∙ c .before .before .before .before .before .if1 .left)
+      (c .before .before .before .byte-of .ensures ∙ ap (λ (s : Surface). byteOf s (c .before .before .before .before .before .before .before .before .args .x) (c .before .before .before .before .before .before .before .before .args .y) 0) (c .before .before .before .before .target-of .ensures)) (c .before .before .wide .ensures)
+      (c .before .wide2 .ensures ∙ ap (λ (s : Surface). s .bytes) (c .before .before .before .before .target-of .ensures)) (c .before .before .before .before .before .before .before .before .args .mem .ptr),
+)
 
 pub row-view-spec : {M : Type 1} → statement M
 row-view-spec =
