@@ -1,3 +1,4 @@
 pub mod Step
 pub mod Orders
+pub mod Writes
 pub mod Promises

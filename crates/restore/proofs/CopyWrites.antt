@@ -36,10 +36,10 @@ use Rattle.engine.specs.declared.Answer.{Answer}
 use Rattle.engine.specs.declared.Answer.the-variants.{Taken, Waiting}
 use Rattle.engine.specs.Step.{Step, step, judging, numberOf, countOf, regs, idle, storedIn, carried, launched, commanded, toRegister, toPlace, written}
 use Rattle.engine.specs.Orders.{launching, orderAt, order}
+use Rattle.engine.specs.Writes.{Write, by, startAt, starts}
 use Rattle.engine.specs.Promises.{Copies, SharesNone}
 use Rattle.engine.proofs.Short.{copied}
 use Rattle.restore.specs.Rectangles.{sourceRect, targetRect, Apart}
-use Rattle.restore.specs.Writes.{Write, by, startAt, starts}
 use Rattle.restore.specs.Restore.{Plain}
 use Rattle.acts.proofs.Cases.{picked}
 use Rattle.engine.proofs.Orders.{launch-number, launch-copy, the-same, nothing-ordered}

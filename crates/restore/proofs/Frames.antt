@@ -19,13 +19,13 @@ use Rattle.cuts.specs.Cut.{number}
 use Rattle.engine.specs.declared.Engine.{Engine}
 use Rattle.engine.specs.Step.{Step, numberOf}
 use Rattle.engine.specs.Orders.{launching, orderAt, order}
+use Rattle.engine.specs.Writes.{Write, Run, by, played, starts}
 use Rattle.acts.proofs.Cases.{by-test}
 use Rattle.engine.proofs.Orders.{launch-host, the-same, nothing-ordered}
 use Rattle.engine.proofs.Commands.{covered-none}
 use Rattle.engine.proofs.Undone.{refused-undone}
 use Rattle.engine.proofs.Frame.{covered-inside, write-left, write-bytes}
 use Rattle.restore.specs.Rectangles.{Rectangle}
-use Rattle.restore.specs.Writes.{Write, Run, by, played, starts}
 use Rattle.restore.specs.Restore.{Framed, AllFramed}
 use Rattle.restore.proofs.Areas.{Elsewhere, elsewhere-refl, elsewhere-trans}
 use Rattle.restore.proofs.Waits.{Held, Asked, AskedAt, write-next}

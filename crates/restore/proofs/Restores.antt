@@ -15,8 +15,8 @@ use Rattle.engine.specs.declared.Engine.{Engine}
 use Rattle.engine.specs.declared.Answer.{Answer}
 use Rattle.engine.specs.declared.Answer.the-variants.{Taken}
 use Rattle.engine.specs.Step.{Step}
+use Rattle.engine.specs.Writes.{Write, Run, run, before, by, played}
 use Rattle.restore.specs.Rectangles.{Rectangle, sourceRect, targetRect, Apart}
-use Rattle.restore.specs.Writes.{Write, Run, run, before, by, played}
 use Rattle.restore.specs.Restore.{Plain, Saves, Restored, Demand}
 use Rattle.restore.proofs.Areas.{outside}
 use Rattle.restore.proofs.Waits.{not-waiting}

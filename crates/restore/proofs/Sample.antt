@@ -33,8 +33,8 @@ use Rattle.engine.specs.declared.Engine.{Engine}
 use Rattle.acts.specs.Deed.{rectEnded, carrying, starting}
 use Rattle.engine.specs.Step.{freshEngine, storedIn, carried, launched, toRegister, commanded, written}
 use Rattle.engine.specs.Orders.{launching}
+use Rattle.engine.specs.Writes.{Write, played}
 use Rattle.restore.specs.Rectangles.{sourceRect, targetRect, positions, Has}
-use Rattle.restore.specs.Writes.{Write, played}
 use Rattle.restore.specs.Restore.{Plain, Framed, Saves}
 use Rattle.engine.proofs.Orders.{the-same, nothing-ordered}
 

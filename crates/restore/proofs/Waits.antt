@@ -23,11 +23,11 @@ use Rattle.acts.specs.Deed.{Made, Deed, carrying, starting}
 use Rattle.engine.specs.declared.Engine.{Engine}
 use Rattle.engine.specs.declared.Answer.{Answer}
 use Rattle.engine.specs.Step.{Step, step, making, judging, numberOf, regs, idle, withBank, withBlit, storedIn, carried, launched, commanded, toRegister, toPattern, toPlace, written}
+use Rattle.engine.specs.Writes.{Write, by, startAt, starts}
 use Rattle.engine.proofs.Short.{afterRect, afterLine, filled, copied, stretched, lined, begun, fed}
 use Rattle.acts.proofs.Cases.{by-test, picked, by-number}
 use Rattle.engine.proofs.Orders.{launch-host}
 use Rattle.restore.specs.Rectangles.{Rectangle}
-use Rattle.restore.specs.Writes.{Write, by, startAt, starts}
 use Rattle.restore.specs.Restore.{Framed}
 
 -- a blit that waits is a host blit in the frame

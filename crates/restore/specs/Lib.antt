@@ -1,3 +1,2 @@
 pub mod Rectangles
-pub mod Writes
 pub mod Restore

@@ -16,8 +16,8 @@ use Rattle.engine.specs.declared.Engine.{Engine}
 use Rattle.engine.specs.declared.Answer.{Answer}
 use Rattle.engine.specs.declared.Answer.the-variants.{Taken}
 use Rattle.engine.specs.Step.{numberOf}
+use Rattle.engine.specs.Writes.{Write, by, Run, played, starts}
 use Rattle.restore.specs.Rectangles.{Rectangle, sourceRect, targetRect, positions, Has, addressesIn, Apart}
-use Rattle.restore.specs.Writes.{Write, by, Run, played, starts}
 
 -- ---- what is asked
 
