@@ -1,20 +1,22 @@
--- How a method's outcome is the definition's: what a command left, and whether a blit waits.
+-- How a method's outcome is the definition's: what a command left, what a refusal is, and whether a blit waits.
 -- Assumes nothing.
 use mathlib.Core.Path.{_≡_, refl, sym, ap, _∙_}
 use mathlib.Core.Bool.{Bool, true, false, cond}
 use mathlib.Core.List.{List}
-use Prim.Native.Nat.{ℕ}
+use Prim.Native.Nat.{ℕ, _<_}
+use native.Mathlib.Omega.{arith}
 use lib.Dec.{eqb}
 use Rattle.bank.specs.declared.Bank.{Bank}
 use Rattle.paint.specs.Paint.{state}
 use Rattle.acts.specs.declared.Blit.{Blit}
 use Rattle.acts.specs.declared.Act.{Act}
 use Rattle.acts.specs.Deed.{made, Deed, deed, judged}
-use Rattle.acts.proofs.Cases.{by-test}
+use Rattle.acts.proofs.Cases.{by-test, picked}
 use Rattle.engine.specs.declared.Engine.{Engine}
-use Rattle.engine.specs.declared.Answer.the-variants.{Taken}
+use Rattle.engine.specs.declared.Answer.{Answer}
+use Rattle.engine.specs.declared.Answer.the-variants.{Taken, NotBuilt, Format, Host, Off, Meet}
 use Rattle.engine.specs.declared.Outcome.{Outcome}
-use Rattle.engine.specs.Step.{Step, step, refusal, making, judging, settled}
+use Rattle.engine.specs.Step.{Step, step, numberOf, countOf, refusal, making, judging, settled}
 
 -- ---- what a command left, settled
 abbrev pub outcome : Outcome → List ℕ → Step
@@ -42,6 +44,25 @@ pub settled-as : (e : Engine) (a : Act) (left : List ℕ) (d : Deed) (b : Bank) 
     → outcome r left ≡ judging e e m d
 settled-as e a left d b k m p q =
     ap (λ (r : Outcome). outcome r left) p ∙ settled-deed e a left ∙ ap (settling e) q ∙ judged-settling e d b k m
+
+-- ---- a refusal counts nothing, and its number is not 0
+refusal-each : (P : Answer → Type 0) (n : ℕ) → P NotBuilt → P Format → P Host → P Off → P Meet → P (refusal n)
+unfolding refusal
+refusal-each P n four five six seven eight =
+    picked P (eqb n 4) _ _ (λ _. four)
+    (λ _. picked P (eqb n 5) _ _ (λ _. five) (λ _. picked P (eqb n 6) _ _ (λ _. six) (λ _. picked P (eqb n 7) _ _ (λ _. seven) (λ _. eight))))
+
+pub refused-count : (n : ℕ) → countOf (refusal n) ≡ 0
+refused-count n = refusal-each (λ a. countOf a ≡ 0) n refl refl refl refl refl
+
+refused-number : (n : ℕ) → 0 < numberOf (refusal n)
+refused-number n = refusal-each (λ a. 0 < numberOf a) n (omega arith) (omega arith) (omega arith) (omega arith) (omega arith)
+
+-- a command that is answered 0 was carried out
+pub judged-taken : (old e : Engine) (m : List ℕ) (d : Deed) → numberOf (judging old e m d .answer) ≡ 0 → judging old e m d ≡ making e (d .makes)
+judged-taken old e m d =
+    picked (λ (s : Step). numberOf (s .answer) ≡ 0 → s ≡ making e (d .makes)) (eqb (d .verdict) 0) _ _ (λ _ _. refl)
+    (λ _ z. let some = refused-number (d .verdict) in absurd (omega arith))
 
 -- ---- by whether a blit waits
 pub waits : (t : Bool) (yes′ no′ : Step) → t ≡ true → yes′ ≡ cond t yes′ no′

@@ -1,7 +1,6 @@
 -- Demand 1: a refused write leaves engine and memory as they were, and counts nothing.
 -- Assumes nothing.
 use mathlib.Core.Path.{_≡_, refl}
-use mathlib.Core.Bool.{Bool, true, false, cond}
 use mathlib.Core.List.{List}
 use Prim.Native.Nat.{ℕ, _^_}
 use lib.Dec.{eqb, ltb}
@@ -13,10 +12,11 @@ use Rattle.cuts.specs.Cut.{bit}
 use Rattle.acts.specs.Deed.{Deed, carrying, starting}
 use Rattle.engine.specs.declared.Engine.{Engine}
 use Rattle.engine.specs.declared.Answer.{Answer}
-use Rattle.engine.specs.declared.Answer.the-variants.{Taken, Memory, Offset, Waiting, NotBuilt, Format, Host, Off, Meet}
+use Rattle.engine.specs.declared.Answer.the-variants.{Taken, Memory, Offset, Waiting}
 use Rattle.engine.specs.Step.{Step, step, numberOf, countOf, refusal, idle, storedIn, judging, carried, launched, commanded, toRegister, toPattern, toPlace, written}
 use Rattle.engine.specs.Promises.{RefusedUndone}
 use Rattle.acts.proofs.Cases.{picked}
+use Rattle.engine.proofs.Laws.{refused-count}
 
 record Kept (e : Engine) (m : List ℕ) (s : Step) : Type 0 where
   undone : (numberOf (s .answer) ≡ 0 → ⊥) → (s .engine ≡ e) × (s .memory ≡ m) × (countOf (s .answer) ≡ 0)
@@ -27,17 +27,6 @@ taken k left n = record { undone = λ no′. absurd (no′ refl) }
 
 same-back : (e : Engine) (m : List ℕ) (a : Answer) → countOf a ≡ 0 → Kept e m (step e m a)
 same-back e m a z = record { undone = λ _. (refl, refl, z) }
-
-refused-count : (n : ℕ) → countOf (refusal n) ≡ 0
-unfolding refusal
-refused-count n = cases (eqb n 4) (eqb n 5) (eqb n 6) (eqb n 7)
-  where
-    cases : (a b c d : Bool) → countOf (cond a NotBuilt (cond b Format (cond c Host (cond d Off Meet)))) ≡ 0
-    cases true b c d = refl
-    cases false true c d = refl
-    cases false false true d = refl
-    cases false false false true = refl
-    cases false false false false = refl
 
 -- a command that its verdict refuses, or carries out
 judged-kept : (old e : Engine) (m : List ℕ) (d : Deed) → Kept old m (judging old e m d)

@@ -1,8 +1,8 @@
--- A host blit that waits: a fresh engine is sound, every write keeps it so, and the later words of a blit are taken.
+-- A host blit that waits: a fresh engine is sound, every write keeps it so, and so every engine is; and the later words of a blit are taken.
 -- Assumes nothing.
 use mathlib.Core.Path.{_≡_, refl, sym, ap, subst, _∙_}
 use mathlib.Core.Bool.{Bool, true, false, not, _||_, true≢false}
-use mathlib.Core.List.{List, _∷_}
+use mathlib.Core.List.{List, [], _∷_}
 use Prim.Native.Nat.{ℕ, _+_, _^_}
 use native.Mathlib.Omega.{arith}
 use lib.Dec.{eqb, ltb}
@@ -24,7 +24,8 @@ use Rattle.acts.specs.Deed.{noBlit, Made, Deed, carrying, starting}
 use Rattle.engine.specs.declared.Engine.{Engine}
 use Rattle.engine.specs.Step.{Step, making, judging, freshEngine, withBank, withBlit, regs, idle, storedIn, carried, launched, commanded, toRegister, toPattern, toPlace, written}
 use Rattle.engine.specs.Orders.{orderAt, order}
-use Rattle.engine.specs.Promises.{row1, row2, row3, Sound, SoundFresh, SoundKept, WordsTaken}
+use Rattle.engine.specs.Writes.{Lent, lentTo}
+use Rattle.engine.specs.Promises.{row1, row2, row3, Sound, SoundFresh, SoundKept, SoundAlways, WordsTaken}
 use Rattle.engine.proofs.Short.{afterRect, afterLine, filled, copied, stretched, lined, begun, fed}
 use Rattle.acts.proofs.Cases.{picked, by-number}
 use Rattle.engine.proofs.Orders.{launch-host}
@@ -120,6 +121,14 @@ unfolding written
 sound-kept e m o d s =
     picked SoundAfter (ltb (2 ^ 24) (length m)) _ _ (λ _. s)
     (λ _. picked SoundAfter (eqb (length m) (e .opened)) _ _ (λ fits. place-sound (placeOf o) e m o d s (eqb-true (length m) (e .opened) fits)) (λ _. s))
+
+still-sound : (e : Engine) (ws : List Lent) → Sound e → Sound (lentTo e ws)
+unfolding lentTo
+still-sound e [] s = s
+still-sound e (w ∷ ws) s = still-sound _ ws (sound-kept e (w .memory) (w .write .offset) (w .write .word) s)
+
+pub sound-always : SoundAlways
+sound-always len ws = still-sound (freshEngine len) ws (sound-fresh len)
 
 -- a launch write of a host blit that has passed the table
 first-host : (e : Engine) (o d len : ℕ) → number (regs e) ≡ 3 → hostVerdict (regs e) len ≡ 0

@@ -2,7 +2,7 @@
 -- engine, the memory and the answer are what it gives, for every engine, memory, offset and word. Each promise is proved in proofs/, in the file of its heading.
 -- Assumes nothing.
 use mathlib.Core.Path.{_≡_}
-use mathlib.Core.Bool.{Bool, true, false, not, _&&_, _||_}
+use mathlib.Core.Bool.{Bool, true, false, cond, not, _&&_, _||_}
 use mathlib.Core.List.{List, [], _∷_, map, List·Memᴰ}
 use mathlib.Core.Option.{Option, none, some}
 use Prim.Native.Nat.{ℕ, zero, suc, _+_, _-_, _/_, _%_, _^_, _<_, _≤_}
@@ -18,6 +18,8 @@ use Rattle.paint.specs.Paint.{state, Touch, dab, paint}
 use Rattle.sweep.specs.Copy.{asBefore}
 use Rattle.registers.specs.declared.Regs.{Regs}
 use Rattle.bank.specs.declared.Reading.{Reading}
+use Rattle.bank.specs.Bank.{readNumber, readValue}
+use Rattle.registers.specs.Kept.{kept}
 use Rattle.registers.specs.declared.Place.{Place}
 use Rattle.registers.specs.declared.Place.the-variants.{Register, Pattern, Launch, Nowhere}
 use Rattle.registers.specs.Offsets.{placeOf}
@@ -28,8 +30,10 @@ use Rattle.cuts.specs.Cut.{bit, number, clipOf, fillCut, copyCut, covered, need
 use Rattle.table.specs.Table.{targetFine, bothFine, hostFine, allOnAt, pixels, stretchNeeded, stretchFault, hostFault, hostVerdict}
 use Rattle.acts.specs.Deed.{noBlit, byNumber}
 use Rattle.engine.specs.declared.Engine.{Engine}
+use Rattle.engine.specs.declared.Answer.{Answer}
 use Rattle.engine.specs.Step.{Step, written, numberOf, countOf, regs, freshEngine, readFrom}
 use Rattle.engine.specs.Orders.{order, coveredBy, touchesOf}
+use Rattle.engine.specs.Writes.{Lent, lentTo}
 
 -- ---- Undone. Demand 1: a refused write, one whose number is not 0, leaves engine and memory as they were, and counts nothing
 abbrev pub RefusedUndone : Type 0
@@ -55,6 +59,39 @@ OneView = (m : List ℕ) (place : ℕ × ℕ) (base format px py width : ℕ) (x
 
 abbrev pub OneViewAnswer : Type 0
 OneViewAnswer = (len base format px py width x y : ℕ) → x ≡ viewAnswer len base format px py width → y ≡ viewAnswer len base format px py width → x ≡ y
+
+-- ---- Answers. An answer has one number and one count; a read is answered 0 or 2
+abbrev pub OneNumber : Type 0
+OneNumber = (a : Answer) (x y : ℕ) → x ≡ numberOf a → y ≡ numberOf a → x ≡ y
+
+abbrev pub OneCount : Type 0
+OneCount = (a : Answer) (x y : ℕ) → x ≡ countOf a → y ≡ countOf a → x ≡ y
+
+-- a launch offset, and one that names nothing, cannot be read
+abbrev pub unread : Place → Bool
+unread Register = false
+unread (Pattern i) = false
+unread Launch = true
+unread Nowhere = true
+
+-- such a read is answered 2 and gives 0, every other is answered 0
+abbrev pub ReadAnswered : Type 0
+ReadAnswered = (e : Engine) (o : ℕ) → (readNumber (readFrom e o) ≡ cond (unread (placeOf o)) 2 0) × (unread (placeOf o) ≡ true → readValue (readFrom e o) ≡ 0)
+
+-- ---- Back. What is stored reads back
+
+-- a read is answered 0 and gives v
+abbrev pub Gives : Engine → ℕ → ℕ → Type 0
+Gives e o v = (readNumber (readFrom e o) ≡ 0) × (readValue (readFrom e o) ≡ v)
+
+-- after a taken write to a register, its kept bits: to command too, with bit 8 or without
+abbrev pub RegisterBack : Type 0
+RegisterBack = (e : Engine) (m : List ℕ) (o d : ℕ) → placeOf o ≡ Register → numberOf (written e m o d .answer) ≡ 0 → Gives (written e m o d .engine) o (kept o d)
+
+-- after one to the pattern, the word, at every offset of its place
+abbrev pub PatternBack : Type 0
+PatternBack = (e : Engine) (m : List ℕ) (i o d a : ℕ) → placeOf o ≡ Pattern i → placeOf a ≡ Pattern i → length (e .bank .pattern) ≡ 256 → d < 2 ^ 32
+    → numberOf (written e m o d .answer) ≡ 0 → Gives (written e m o d .engine) a d
 
 -- ---- Table. Each number is given exactly when its row is the first that applies, and 0 when none does
 
@@ -161,6 +198,10 @@ SoundFresh = (len : ℕ) → Sound (freshEngine len)
 
 abbrev pub SoundKept : Type 0
 SoundKept = (e : Engine) (m : List ℕ) (o d : ℕ) → Sound e → Sound (written e m o d .engine)
+
+-- so every engine is, that a fresh one becomes by any writes, each with the memory lent for it, of any length
+abbrev pub SoundAlways : Type 0
+SoundAlways = (len : ℕ) (ws : List Lent) → Sound (lentTo (freshEngine len) ws)
 
 -- the later words of a blit that waits are refused by row 1 only
 abbrev pub WordsTaken : Type 0

@@ -35,7 +35,17 @@ unfoldable pub played : Engine → List ℕ → List Write → Run
 played e m [] = run e m []
 played e m (w ∷ ws) = before (by e m w) (played (by e m w .engine) (by e m w .memory) ws)
 
--- the registers of the command that a write starts, if it does. A word for a host blit that waits belongs to the command that opened it.
+-- ---- the same with a memory lent for each write
+pub record Lent : Type 0 where
+  pub memory : List ℕ
+  pub write : Write
+
+-- what an engine becomes by them
+unfoldable pub lentTo : Engine → List Lent → Engine
+lentTo e [] = e
+lentTo e (l ∷ ls) = lentTo (by e (l .memory) (l .write) .engine) ls
+
+-- ---- the registers of the command that a write starts, if it does. A word for a host blit that waits belongs to the command that opened it.
 abbrev pub startAt : Place → Engine → Write → Option Regs
 startAt Register e w = orderAt Register e (w .offset) (w .word)
 startAt (Pattern i) e w = none
