@@ -42,24 +42,32 @@ unfolding before
 before-prior ws zero l = absurd (omega arith)
 before-prior ws (suc k) l = let q : k ≡ suc k - 1 = omega arith in ap ws q
 
+-- what can be kept as the word before word k: that word, and before the first any word
+pub record Prior (ws : ℕ → ℕ) (k last : ℕ) : Type 0 where
+  pub word : 0 < k → last ≡ ws (k - 1)
+  pub small : last < 2 ^ 32
+
 module _ (ws : ℕ → ℕ) (f : Feed) (d : Data ws f) where
-  right : (i j k : ℕ) → lastByteOf f i j / 4 ≡ k → valueOf f (before ws k) (ws k) (lastByteOf f i j % 4) i ≡ valueAt ws f i j
-  right i j k e = value-right ws f i j k (before ws k) e (before-prior ws k) (before-small ws (d .words) k) (d .held .sizes .bytes)
+  its-prior : (k : ℕ) → Prior ws k (before ws k)
+  its-prior k = record { word = before-prior ws k; small = before-small ws (d .words) k }
+
+  right : (i j k last : ℕ) → Prior ws k last → lastByteOf f i j / 4 ≡ k → valueOf f last (ws k) (lastByteOf f i j % 4) i ≡ valueAt ws f i j
+  right i j k last p e = value-right ws f i j k last e (p .word) (p .small) (d .held .sizes .bytes)
 
   -- each pixel that a word finishes has the value that the data says
   pub word-values : (k : ℕ) (p : Pixel) → Has p (byWord f (before ws k) (ws k) k) → p .value ≡ valueAt ws f (p .i) (p .j)
-  word-values k p m = let r = finished-by f (before ws k) (ws k) (d .held) k p .0 m in r .ends .value ∙ right (p .i) (p .j) k (r .here)
+  word-values k p m = let r = finished-by f (before ws k) (ws k) (d .held) k p .0 m in r .ends .value ∙ right (p .i) (p .j) k (before ws k) (its-prior k) (r .here)
 
   -- ---- a row's pixels
-  run-row : (o k i n : ℕ) → o / 4 ≡ k → ((a : ℕ) → i ≤ a → a < i + n → lastByteOf f a (o / f .step) ≡ o)
-      → run f (before ws k) (ws k) o i n ≡ rowFrom ws f (o / f .step) i n
+  run-row : (o k last i n : ℕ) → Prior ws k last → o / 4 ≡ k → ((a : ℕ) → i ≤ a → a < i + n → lastByteOf f a (o / f .step) ≡ o)
+      → run f last (ws k) o i n ≡ rowFrom ws f (o / f .step) i n
   unfolding run rowFrom
-  run-row o k i zero e h = refl
-  run-row o k i (suc n) e h =
+  run-row o k last i zero p e h = refl
+  run-row o k last i (suc n) p e h =
       let q = h i (omega arith) (omega arith) in
-      let v : valueOf f (before ws k) (ws k) (o % 4) i ≡ valueAt ws f i (o / f .step) =
-      ap (λ (m : ℕ). valueOf f (before ws k) (ws k) (m % 4) i) (sym q) ∙ right i (o / f .step) k (ap (λ (m : ℕ). m / 4) q ∙ e) in
-      ap₂ (λ (u : ℕ) (t : List Pixel). pixel i (o / f .step) u ∷ t) v (run-row o k (i + 1) n e (λ a l u. h a (omega arith) (omega arith)))
+      let v : valueOf f last (ws k) (o % 4) i ≡ valueAt ws f i (o / f .step) =
+      ap (λ (m : ℕ). valueOf f last (ws k) (m % 4) i) (sym q) ∙ right i (o / f .step) k last p (ap (λ (m : ℕ). m / 4) q ∙ e) in
+      ap₂ (λ (u : ℕ) (t : List Pixel). pixel i (o / f .step) u ∷ t) v (run-row o k last (i + 1) n p e (λ a l u. h a (omega arith) (omega arith)))
 
   row-append : (j i m n : ℕ) → rowFrom ws f j i m ++ rowFrom ws f j (i + m) n ≡ rowFrom ws f j i (m + n)
   unfolding rowFrom
@@ -91,12 +99,12 @@ module _ (ws : ℕ → ℕ) (f : Feed) (d : Data ws f) where
       (λ lt. up-in o j 0 p q lt ∙ rw (whole-none f) (append-nil (rows ws f j))) (eq-or-lt-of-le l)
 
   -- ---- one byte more
-  byte-row : (o k : ℕ) → o / 4 ≡ k → o / f .step < f .height
-      → byByte f (before ws k) (ws k) o ≡ rowFrom ws f (o / f .step) (whole f (o % f .step)) (whole f (o % f .step + 1) - whole f (o % f .step))
+  byte-row : (o k last : ℕ) → Prior ws k last → o / 4 ≡ k → o / f .step < f .height
+      → byByte f last (ws k) o ≡ rowFrom ws f (o / f .step) (whole f (o % f .step)) (whole f (o % f .step + 1) - whole f (o % f .step))
   unfolding byByte lastByteOf
-  byte-row o k e l =
+  byte-row o k last p e l =
       rw (lt-ltb (o / f .step) (f .height) l)
-      (run-row o k (whole f (o % f .step)) (whole f (o % f .step + 1) - whole f (o % f .step)) e
+      (run-row o k last (whole f (o % f .step)) (whole f (o % f .step + 1) - whole f (o % f .step)) p e
       (λ a lo hi.
       let col = column-of f (o % f .step) a lo (omega (arith, whole-more f (o % f .step))) in
       omega (arith, col, div-add-mod' o (f .step))))
@@ -107,7 +115,7 @@ module _ (ws : ℕ → ℕ) (f : Feed) (d : Data ws f) where
       let j = o / f .step in
       let c = o % f .step in
       let q : whole f c + (whole f (c + 1) - whole f c) ≡ whole f (c + 1) = omega (arith, whole-more f c) in
-      ap₂ (λ (x y : List Pixel). x ++ y) (up-in o j c refl refl l) (byte-row o k e l)
+      ap₂ (λ (x y : List Pixel). x ++ y) (up-in o j c refl refl l) (byte-row o k (before ws k) (its-prior k) e l)
       ∙ append-assoc (rows ws f j) (rowFrom ws f j 0 (whole f c)) (rowFrom ws f j (whole f c) (whole f (c + 1) - whole f c))
       ∙ ap (λ (t : List Pixel). rows ws f j ++ t)
       (ap (λ (n : ℕ). rowFrom ws f j 0 (whole f c) ++ rowFrom ws f j n (whole f (c + 1) - whole f c)) (sym (zero-add (whole f c)))
@@ -166,6 +174,23 @@ module _ (ws : ℕ → ℕ) (f : Feed) (d : Data ws f) where
       let q : 4 * n + 4 ≡ 4 * suc n = omega arith in
       ap (λ (t : List Pixel). t ++ byBytes f (before ws n) (ws n) (4 * n) 4) (words-up n)
       ∙ bytes-next (4 * n) n 4 (λ t l. omega arith) ∙ ap upTo q
+
+  -- ---- what is kept before the first word counts for nothing
+  byte-any : (o k last : ℕ) → Prior ws k last → o / 4 ≡ k → byByte f last (ws k) o ≡ byByte f (before ws k) (ws k) o
+  unfolding byByte
+  byte-any o k last p e =
+      ⊎-elim (λ l. byte-row o k last p e l ∙ sym (byte-row o k (before ws k) (its-prior k) e l)) (λ l. rw (le-ltb (o / f .step) (f .height) l))
+      (lt-or-le (o / f .step) (f .height))
+
+  pub word-any : (k last : ℕ) → Prior ws k last → byWord f last (ws k) k ≡ byWord f (before ws k) (ws k) k
+  unfolding byWord byBytes
+  word-any k last p =
+      rw (
+        byte-any (4 * k) k last p (omega arith),
+        byte-any (4 * k + 1) k last p (omega arith),
+        byte-any (4 * k + 1 + 1) k last p (omega arith),
+        byte-any (4 * k + 1 + 1 + 1) k last p (omega arith),
+      )
 
   -- ---- once all bytes have come, all rows are there
   up-all : (o : ℕ) → 0 < f .height → (f .height - 1) * f .step + rowLength (f .bytes) (f .width) ≤ o → upTo o ≡ rows ws f (f .height)
