@@ -24,7 +24,9 @@ use Rattle.registers.specs.declared.Place.{Place}
 use Rattle.registers.specs.declared.Place.the-variants.{Register, Pattern, Launch, Nowhere}
 use Rattle.registers.specs.Offsets.{placeOf}
 use Rattle.host.specs.Host.{wordsOf}
-use Rattle.command.specs.Decode.{target, origins, stretchOrigins, copyTask, feedOf}
+use Rattle.host.specs.Stream.{rows}
+use Rattle.host.specs.Draw.{hostTouches}
+use Rattle.command.specs.Decode.{target, origins, stretchOrigins, inkOf, copyTask, feedOf}
 use Rattle.positions.specs.Position.{placed}
 use Rattle.cuts.specs.Cut.{bit, number, clipOf, fillCut, copyCut, covered, needed}
 use Rattle.table.specs.Table.{targetFine, bothFine, hostFine, allOnAt, pixels, stretchNeeded, stretchFault, hostFault, hostVerdict}
@@ -33,7 +35,7 @@ use Rattle.engine.specs.declared.Engine.{Engine}
 use Rattle.engine.specs.declared.Answer.{Answer}
 use Rattle.engine.specs.Step.{Step, written, numberOf, countOf, regs, freshEngine, readFrom}
 use Rattle.engine.specs.Orders.{order, coveredBy, touchesOf}
-use Rattle.engine.specs.Writes.{Lent, lentTo}
+use Rattle.engine.specs.Writes.{Run, played, counted, sent, Lent, lentTo}
 
 -- ---- Undone. Demand 1: a refused write, one whose number is not 0, leaves engine and memory as they were, and counts nothing
 abbrev pub RefusedUndone : Type 0
@@ -207,6 +209,38 @@ SoundAlways = (len : ℕ) (ws : List Lent) → Sound (lentTo (freshEngine len) w
 abbrev pub WordsTaken : Type 0
 WordsTaken = (e : Engine) (m : List ℕ) (o d : ℕ) → Sound e → e .blit .waiting ≡ true → placeOf o ≡ Launch → length m ≤ 2 ^ 24 → length m ≡ e .opened
     → numberOf (written e m o d .answer) ≡ 0
+
+-- ---- Whole. A host blit as a whole: all its words, each to any launch offset
+
+-- all pixels of its rectangle that are inside the clip, row by row from the left, each with the value that the data has
+abbrev pub dataTouches : Regs → List ℕ → (ℕ → ℕ) → List Touch
+dataTouches r pattern ws = hostTouches (inkOf r) pattern (clipOf r) (feedOf r) (rows ws (feedOf r) (feedOf r .height))
+
+-- its words are written to launch offsets, with the memory that the engine was opened for
+pub record Sends (e : Engine) (m : List ℕ) (os ws : ℕ → ℕ) : Type 0 where
+  pub sound : Sound e
+  pub limit : length m ≤ 2 ^ 24
+  pub opened : length m ≡ e .opened
+  pub places : (k : ℕ) → placeOf (os k) ≡ Launch
+  pub words : (k : ℕ) → ws k < 2 ^ 32
+
+-- every answer is 0, no blit waits then, and memory and counts are those of painting these pixels one after the other
+pub record Whole (e : Engine) (m : List ℕ) (ws : ℕ → ℕ) (after : Run) : Type 0 where
+  pub taken : (a : Answer) → List·Memᴰ a (after .answers) → numberOf a ≡ 0
+  pub ended : after .engine .blit .waiting ≡ false
+  pub painted : state (after .memory) (counted (after .answers)) ≡ paint (target (regs e)) (dataTouches (regs e) (e .bank .pattern) ws) (state m 0)
+
+abbrev pub AllWords : Engine → List ℕ → (ℕ → ℕ) → (ℕ → ℕ) → Type 0
+AllWords e m os ws = Whole e m ws (played e m (sent os ws (wordsOf (feedOf (regs e)))))
+
+-- of a blit that waits and has had no word
+abbrev pub WaitingWhole : Type 0
+WaitingWhole = (e : Engine) (m : List ℕ) (os ws : ℕ → ℕ) → Sends e m os ws → e .blit .waiting ≡ true → e .blit .taken ≡ 0 → e .blit .last < 2 ^ 32 → AllWords e m os ws
+
+-- of one that its first word opens
+abbrev pub OpenedWhole : Type 0
+OpenedWhole = (e : Engine) (m : List ℕ) (os ws : ℕ → ℕ) → Sends e m os ws → e .blit .waiting ≡ false → number (regs e) ≡ 3 → hostVerdict (regs e) (length m) ≡ 0
+    → 0 < wordsOf (feedOf (regs e)) → AllWords e m os ws
 
 -- ---- Count. The count is the number of covered pixels written
 

@@ -1,16 +1,16 @@
 -- A list of writes played in order, and the registers of the command that a write starts.
 -- Assumes nothing.
 use mathlib.Core.Bool.{cond}
-use mathlib.Core.List.{List, [], _∷_}
+use mathlib.Core.List.{List, [], _∷_, _++_}
 use mathlib.Core.Option.{Option, none}
-use Prim.Native.Nat.{ℕ}
+use Prim.Native.Nat.{ℕ, zero, suc, _+_}
 use Rattle.registers.specs.declared.Regs.{Regs}
 use Rattle.registers.specs.declared.Place.{Place}
 use Rattle.registers.specs.declared.Place.the-variants.{Register, Pattern, Launch, Nowhere}
 use Rattle.registers.specs.Offsets.{placeOf}
 use Rattle.engine.specs.declared.Engine.{Engine}
 use Rattle.engine.specs.declared.Answer.{Answer}
-use Rattle.engine.specs.Step.{Step, written}
+use Rattle.engine.specs.Step.{Step, countOf, written}
 use Rattle.engine.specs.Orders.{orderAt}
 
 pub record Write : Type 0 where
@@ -34,6 +34,16 @@ before s more = run (more .engine) (more .memory) (s .answer ∷ more .answers)
 unfoldable pub played : Engine → List ℕ → List Write → Run
 played e m [] = run e m []
 played e m (w ∷ ws) = before (by e m w) (played (by e m w .engine) (by e m w .memory) ws)
+
+-- all counts of a run together
+unfoldable pub counted : List Answer → ℕ
+counted [] = 0
+counted (a ∷ more) = countOf a + counted more
+
+-- n words of data: word k is ws k, written to the offset os k
+unfoldable pub sent : (ℕ → ℕ) → (ℕ → ℕ) → ℕ → List Write
+sent os ws zero = []
+sent os ws (suc n) = sent os ws n ++ (record { offset = os n; word = ws n } ∷ [])
 
 -- ---- the same with a memory lent for each write
 pub record Lent : Type 0 where
