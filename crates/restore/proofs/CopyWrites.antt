@@ -32,7 +32,6 @@ use Rattle.table.specs.Table.{targetFine, pixels, copyVerdict}
 use Rattle.acts.specs.Deed.{starting}
 use Rattle.acts.proofs.Numbers.{carry-copy}
 use Rattle.engine.specs.declared.Engine.{Engine}
-use Rattle.engine.specs.declared.Answer.{Answer}
 use Rattle.engine.specs.declared.Answer.the-variants.{Taken, Waiting}
 use Rattle.engine.specs.Step.{Step, step, judging, numberOf, countOf, regs, idle, storedIn, carried, launched, commanded, toRegister, toPlace, written}
 use Rattle.engine.specs.Orders.{launching, orderAt, order}
@@ -130,7 +129,8 @@ starts-order e w r = by-place (placeOf (w .offset))
 
 -- ---- a plain copy that a write has carried out
 pub record Made (e : Engine) (m : List ℕ) (r : Regs) (s : Step) : Type 0 where
-  pub answer : s .answer ≡ Taken (height r * width r)
+  pub number : numberOf (s .answer) ≡ 0
+  pub count : countOf (s .answer) ≡ height r * width r
   pub came : Came (sourceRect r) (targetRect r) m (s .memory)
   pub bytes : Bytes (s .memory)
   pub opened : s .engine .opened ≡ e .opened
@@ -138,7 +138,7 @@ pub record Made (e : Engine) (m : List ℕ) (r : Regs) (s : Step) : Type 0 where
 
 -- a copy that no row refuses is answered 0, and leaves no host blit
 record Kept (e : Engine) (s : Step) : Type 0 where
-  taken : s .answer ≡ Taken (countOf (s .answer))
+  taken : numberOf (s .answer) ≡ 0
   opened : s .engine .opened ≡ e .opened
   rests : s .engine .blit .waiting ≡ false
 
@@ -169,11 +169,12 @@ write-made e m w r limit opened bytes h plain apart =
     let k = issues e m w r (plain .copy) limit opened h in
     let fine = subst⁻¹ (λ (q : Regs). copyVerdict q (length m) ≡ 0) (k .holds) (taken (length m) r plain apart) in
     let kept = subst⁻¹ (Kept e) (k .carries) (copied-kept e (k .next) m (k .opened) (k .rests) fine) in
-    let copies : Copies e m (w .offset) (w .word) r = record { carries = starts-order e w r h; copy = plain .copy; taken = ap numberOf (kept .taken) } in
+    let copies : Copies e m (w .offset) (w .word) r = record { carries = starts-order e w r h; copy = plain .copy; taken = kept .taken } in
     let left = copies-as-before e m (w .offset) (w .word) r copies (shares-none (length m) r plain apart) in
     let c = plain-copied m r plain (e .bank .pattern) bytes apart in
     record {
-      answer = kept .taken ∙ ap {B = Answer} (λ (n : ℕ). Taken n) (ap (λ (st : State). st .count) left ∙ c .count);
+      number = kept .taken;
+      count = ap (λ (st : State). st .count) left ∙ c .count;
       came = subst⁻¹ (λ (st : State). Came (sourceRect r) (targetRect r) m (st .mem)) left (c .came);
       bytes = subst⁻¹ (λ (st : State). Bytes (st .mem)) left (paint-bytes (target r) (asBefore (copyTask r) (e .bank .pattern) m (covered (copyCut r))) (state m 0) bytes);
       opened = kept .opened;

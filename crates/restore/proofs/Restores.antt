@@ -1,6 +1,6 @@
 -- Demand 3 proved: after a rectangle was copied aside, written over and copied back, every byte outside the place aside is as it was.
 -- Assumes nothing.
-use mathlib.Core.Path.{_≡_, refl, sym, ap, ap₂, subst, subst⁻¹, _∙_}
+use mathlib.Core.Path.{_≡_, refl, sym, ap, subst, subst⁻¹, _∙_}
 use mathlib.Core.List.{List, [], _∷_, _++_}
 use Prim.Native.Nat.{ℕ, _*_, _^_, _<_, _≤_}
 use native.Mathlib.Omega.{arith}
@@ -9,13 +9,11 @@ use Rattle.surface.proofs.OnLaws.{and-left}
 use Rattle.formats.proofs.FormatLaws.{target-colour}
 use Rattle.registers.specs.declared.Regs.{Regs}
 use Rattle.command.specs.Decode.{origins}
-use Rattle.cuts.specs.Cut.{width, height}
 use Rattle.table.specs.Table.{targetFine}
 use Rattle.engine.specs.declared.Engine.{Engine}
-use Rattle.engine.specs.declared.Answer.{Answer}
-use Rattle.engine.specs.declared.Answer.the-variants.{Taken}
 use Rattle.engine.specs.Step.{Step}
-use Rattle.engine.specs.Writes.{Write, Run, run, before, by, played}
+use Rattle.engine.specs.Writes.{Write, Run, by, played}
+use Rattle.engine.proofs.Played.{played-last}
 use Rattle.restore.specs.Rectangles.{Rectangle, sourceRect, targetRect, Apart}
 use Rattle.restore.specs.Restore.{Plain, Saves, Restored, Demand}
 use Rattle.restore.proofs.Areas.{outside}
@@ -24,14 +22,6 @@ use Rattle.restore.proofs.Frames.{AllKept, writes-kept}
 use Rattle.restore.proofs.Copies.{Came}
 use Rattle.restore.proofs.Back.{apart-swap, comes-back}
 use Rattle.restore.proofs.CopyWrites.{Made, write-made}
-
-played-last : (e : Engine) (m : List ℕ) (ws : List Write) (w : Write)
-    → played e m (ws ++ (w ∷ []))
-    ≡ run (by (played e m ws .engine) (played e m ws .memory) w .engine) (by (played e m ws .engine) (played e m ws .memory) w .memory)
-    (played e m ws .answers ++ (by (played e m ws .engine) (played e m ws .memory) w .answer ∷ []))
-unfolding played
-played-last e m [] w = refl
-played-last e m (v ∷ ws) w = ap (before (by e m v)) (played-last (by e m v .engine) (by e m v .memory) ws w)
 
 module _ {e : Engine} {m : List ℕ} {first : Write} {middle : List Write} {last : Write} {aside back : Regs} (s : Saves e m first middle last aside back) where
   abbrev home : Rectangle
@@ -71,9 +61,6 @@ module _ {e : Engine} {m : List ℕ} {first : Write} {middle : List Write} {last
       subst (λ (t : Rectangle). Came away t (two .memory) (three .memory)) (s .to)
       (subst (λ (t : Rectangle). Came t (targetRect back) (two .memory) (three .memory)) (s .from) (came-back .came))
 
-  answered : three .answer ≡ Taken (height aside * width aside)
-  answered = came-back .answer ∙ ap (λ (t : Rectangle). Taken (t .h * t .w)) (s .from)
-
   some-bytes : 0 < origins aside .bytes
   some-bytes =
       let colour = target-colour (aside .dstBaseAddr) (aside .dstFormat) (and-left (targetFine aside) _ (s .plain .fine)) in
@@ -84,7 +71,13 @@ module _ {e : Engine} {m : List ℕ} {first : Write} {middle : List Write} {last
   there-and-back =
       let end = played-last e m (first ∷ middle) last in
       subst⁻¹ (Restored m aside (two .answers)) end (record {
-        answers = ap₂ (λ (a b : Answer). a ∷ two .answers ++ (b ∷ [])) (went .answer) answered;
+        first = one .answer;
+        last = three .answer;
+        answers = refl;
+        firstNumber = went .number;
+        firstCount = went .count;
+        lastNumber = came-back .number;
+        lastCount = came-back .count ∙ ap (λ (t : Rectangle). t .h * t .w) (s .from);
         long = returned .long ∙ same-length;
         kept = λ a out. comes-back home away (length m) (s .plain .sourceOn) (s .plain .targetOn) some-bytes (s .plain .format) refl refl (s .apart)
             m (one .memory) (two .memory) (three .memory) (went .came) (between .elsewhere) returned a (outside away a out);

@@ -14,8 +14,7 @@ use Rattle.cuts.specs.Cut.{bit, number, width, height, clipOf}
 use Rattle.table.specs.Table.{bothFine, allOnAt}
 use Rattle.engine.specs.declared.Engine.{Engine}
 use Rattle.engine.specs.declared.Answer.{Answer}
-use Rattle.engine.specs.declared.Answer.the-variants.{Taken}
-use Rattle.engine.specs.Step.{numberOf}
+use Rattle.engine.specs.Step.{numberOf, countOf}
 use Rattle.engine.specs.Writes.{Write, by, Run, played, starts}
 use Rattle.restore.specs.Rectangles.{Rectangle, sourceRect, targetRect, positions, Has, addressesIn, Apart}
 
@@ -67,7 +66,13 @@ pub record Saves (e : Engine) (m : List ℕ) (first : Write) (middle : List Writ
 
 -- ---- what is claimed, of all these writes played: both copies are answered 0, with the count of all pixels, and memory is what it was outside the place aside
 pub record Restored (m : List ℕ) (aside : Regs) (middle : List Answer) (after : Run) : Type 0 where
-  pub answers : after .answers ≡ Taken (height aside * width aside) ∷ middle ++ (Taken (height aside * width aside) ∷ [])
+  pub first : Answer
+  pub last : Answer
+  pub answers : after .answers ≡ first ∷ middle ++ (last ∷ [])
+  pub firstNumber : numberOf first ≡ 0
+  pub firstCount : countOf first ≡ height aside * width aside
+  pub lastNumber : numberOf last ≡ 0
+  pub lastCount : countOf last ≡ height aside * width aside
   pub long : length (after .memory) ≡ length m
   pub kept : (a : ℕ) → (List·Memᴰ a (addressesIn (targetRect aside)) → ⊥) → getD (after .memory) a 0 ≡ getD m a 0
 
