@@ -90,7 +90,7 @@ Gives e o v = (readNumber (readFrom e o) ≡ 0) × (readValue (readFrom e o) ≡
 abbrev pub RegisterBack : Type 0
 RegisterBack = (e : Engine) (m : List ℕ) (o d : ℕ) → placeOf o ≡ Register → numberOf (written e m o d .answer) ≡ 0 → Gives (written e m o d .engine) o (kept o d)
 
--- after one to the pattern, the word, at every offset of its place
+-- after one to the pattern, which has 256 bytes, the word, at every offset of its place
 abbrev pub PatternBack : Type 0
 PatternBack = (e : Engine) (m : List ℕ) (i o d a : ℕ) → placeOf o ≡ Pattern i → placeOf a ≡ Pattern i → length (e .bank .pattern) ≡ 256 → d < 2 ^ 32
     → numberOf (written e m o d .answer) ≡ 0 → Gives (written e m o d .engine) a d
@@ -233,7 +233,7 @@ pub record Whole (e : Engine) (m : List ℕ) (ws : ℕ → ℕ) (after : Run) : 
 abbrev pub AllWords : Engine → List ℕ → (ℕ → ℕ) → (ℕ → ℕ) → Type 0
 AllWords e m os ws = Whole e m ws (played e m (sent os ws (wordsOf (feedOf (regs e)))))
 
--- of a blit that waits and has had no word
+-- of a blit that waits and has had no word; what it keeps as its last word is any word
 abbrev pub WaitingWhole : Type 0
 WaitingWhole = (e : Engine) (m : List ℕ) (os ws : ℕ → ℕ) → Sends e m os ws → e .blit .waiting ≡ true → e .blit .taken ≡ 0 → e .blit .last < 2 ^ 32 → AllWords e m os ws
 

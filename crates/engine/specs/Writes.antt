@@ -45,12 +45,12 @@ unfoldable pub sent : (ℕ → ℕ) → (ℕ → ℕ) → ℕ → List Write
 sent os ws zero = []
 sent os ws (suc n) = sent os ws n ++ (record { offset = os n; word = ws n } ∷ [])
 
--- ---- the same with a memory lent for each write
+-- ---- a write with the memory that is lent for it
 pub record Lent : Type 0 where
   pub memory : List ℕ
   pub write : Write
 
--- what an engine becomes by them
+-- what an engine becomes by such writes
 unfoldable pub lentTo : Engine → List Lent → Engine
 lentTo e [] = e
 lentTo e (l ∷ ls) = lentTo (by e (l .memory) (l .write) .engine) ls
