@@ -1,17 +1,18 @@
 -- Laws of an axis: a step adds what the definition does, source places go up with the target's, and the numbers fit.
 -- Assumes nothing.
-use mathlib.Core.Path.{_≡_, sym, ap, subst, _∙_}
+use mathlib.Core.Path.{_≡_, sym, ap, _∙_}
 use Prim.Native.Nat.{ℕ, _+_, _-_, _*_, _/_, _%_, _^_, _<_, _≤_}
 use native.Mathlib.Nat.{mul-le-mul-right, div-le-of-le-mul, div-le-self, le-div-iff-mul-le, div-mul-le-self, div-zero, div-add-mod', mod-lt, add-mul}
 use native.Mathlib.Omega.{arith}
 use native.Mathlib.Decide.{decLt}
+use borrow.Author.Tests.{lt-ltb, le-ltb}
 use lib.Arith.{digits-div, digits-mod}
 use Rattle.surface.proofs.Bytes.{product-lt}
 use Rattle.surface.proofs.Lists.{by-cases}
 use Rattle.scale.specs.declared.Scale.{Scale}
 use Rattle.scale.specs.declared.Walk.{Walk}
-use Rattle.scale.specs.Scale.{scaled, walkAt, OnScale}
-use Rattle.scale.specs.Asked.{Steps}
+use Rattle.scale.specs.Scale.{scaled, walkAt, walking, nextOf}
+use Rattle.scale.specs.Asked.{OnScale, Steps}
 
 -- ---- a step: what is divided grows by sourceSize
 module _ (i n z : ℕ) where
@@ -20,13 +21,6 @@ module _ (i n z : ℕ) where
 
   carried-sum : z ≤ i * n % z + n % z → (i + 1) * n ≡ (i * n / z + n / z + 1) * z + (i * n % z + n % z - z)
   carried-sum h = omega (arith, next-sum, add-mul (i * n / z + n / z) 1 z)
-
--- the walk after a step, where the remainders stay under the size, and where they do not
-abbrev under : Walk → Walk
-under w = record { at = w .at + w .whole; rest = w .rest + w .over; whole = w .whole; over = w .over; size = w .size }
-
-abbrev past : Walk → Walk
-past w = record { at = w .at + w .whole + 1; rest = w .rest + w .over - w .size; whole = w .whole; over = w .over; size = w .size }
 
 walk-of : (s : Scale) (place at rest : ℕ) → at ≡ scaled s place → rest ≡ (place - s .to) * s .sourceSize % s .size
     → record { at = at; rest = rest; whole = s .sourceSize / s .size; over = s .sourceSize % s .size; size = s .size } ≡ walkAt s place
@@ -46,24 +40,29 @@ module _ (s : Scale) (place : ℕ) (on : OnScale s place) where
   later : place + 1 - s .to ≡ i + 1
   later = omega (arith, on .first)
 
-  pub step-under : {w : Walk} → w ≡ walkAt s place → w .rest + w .over < w .size → under w ≡ walkAt s (place + 1)
+  step-under : i * n % z + n % z < z → walking (walkAt s place) (scaled s place + n / z) (i * n % z + n % z) ≡ walkAt s (place + 1)
   unfolding walkAt scaled
-  step-under e h =
-      let low : i * n % z + n % z < z = subst (λ (k : Walk). k .rest + k .over < k .size) e h in
+  step-under low =
       let sum = ap (λ (k : ℕ). k * n) later ∙ next-sum i n z in
       let quotient = ap (λ (k : ℕ). k / z) sum ∙ digits-div (i * n / z + n / z) low in
       let rest = ap (λ (k : ℕ). k % z) sum ∙ digits-mod (i * n / z + n / z) low in
-      ap under e ∙ walk-of s (place + 1) _ _ (omega (arith, quotient)) (sym rest)
+      walk-of s (place + 1) _ _ (omega (arith, quotient)) (sym rest)
 
-  pub step-past : {w : Walk} → w ≡ walkAt s place → w .size ≤ w .rest + w .over → past w ≡ walkAt s (place + 1)
+  step-past : z ≤ i * n % z + n % z → walking (walkAt s place) (scaled s place + n / z + 1) (i * n % z + n % z - z) ≡ walkAt s (place + 1)
   unfolding walkAt scaled
-  step-past e h =
-      let high : z ≤ i * n % z + n % z = subst (λ (k : Walk). k .size ≤ k .rest + k .over) e h in
+  step-past high =
       let low : i * n % z + n % z - z < z = omega (arith, mod-lt (i * n) (on .some), mod-lt n (on .some)) in
       let sum = ap (λ (k : ℕ). k * n) later ∙ carried-sum i n z high in
       let quotient = ap (λ (k : ℕ). k / z) sum ∙ digits-div (i * n / z + n / z + 1) low in
       let rest = ap (λ (k : ℕ). k % z) sum ∙ digits-mod (i * n / z + n / z + 1) low in
-      ap past e ∙ walk-of s (place + 1) _ _ (omega (arith, quotient)) (sym rest)
+      walk-of s (place + 1) _ _ (omega (arith, quotient)) (sym rest)
+
+  -- a step of the walk at a place gives the walk at the next one
+  pub next-walk : nextOf (walkAt s place) ≡ walkAt s (place + 1)
+  unfolding nextOf walkAt
+  next-walk =
+      by-cases (decLt (i * n % z + n % z) z) (λ low. rw (lt-ltb (i * n % z + n % z) z low) (step-under low))
+      (λ high. let past : z ≤ i * n % z + n % z = omega arith in rw (le-ltb (i * n % z + n % z) z past) (step-past past))
 
   -- ---- sizes
   pub product : i * n < 2 ^ 26

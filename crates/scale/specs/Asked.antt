@@ -1,17 +1,26 @@
 -- What functions of this crate ask for. No promise rests on it.
 -- Assumes nothing.
-use mathlib.Core.Path.{_≡_}
 use mathlib.Core.Bool.{true, false}
+use mathlib.Core.Path.{_≡_}
 use mathlib.Core.List.{map}
 use Prim.Native.Nat.{ℕ, _+_, _^_, _<_, _≤_}
 use Rattle.surface.specs.Place.{onSurface}
 use Rattle.surface.specs.Asked.{Small, Colour}
 use Rattle.surface.specs.Pixels.{Px, rect, Inside, origin}
 use Rattle.spans.specs.Span.{allOn, spanOf, meet}
+use Rattle.scale.specs.declared.Scale.{Scale}
 use Rattle.scale.specs.declared.Walk.{Walk}
-use Rattle.scale.specs.Scale.{OnScale}
 use Rattle.scale.specs.declared.Stretch.{Stretch}
 use Rattle.scale.specs.Stretch.{takenAt, taken}
+
+-- a place of the target, or the one past its last; the sizes and positions are those that registers can name
+pub record OnScale (s : Scale) (place : ℕ) : Type 0 where
+  pub first : s .to ≤ place
+  pub past : place ≤ s .to + s .size
+  pub some : 0 < s .size
+  pub size : s .size < 2 ^ 13
+  pub sourceSize : s .sourceSize < 2 ^ 13
+  pub from : s .from < 20480
 
 -- a step fits its words
 pub record Steps (w : Walk) : Type 0 where

@@ -1,7 +1,8 @@
 -- One axis of a stretch: which place of the source each place of the target takes.
 -- Assumes nothing.
-use mathlib.Core.Path.{_≡_}
-use Prim.Native.Nat.{ℕ, _+_, _-_, _*_, _/_, _%_, _^_, _<_, _≤_}
+use mathlib.Core.Bool.{cond}
+use Prim.Native.Nat.{ℕ, _+_, _-_, _*_, _/_, _%_}
+use lib.Dec.{ltb}
 use Rattle.scale.specs.declared.Scale.{Scale}
 use Rattle.scale.specs.declared.Walk.{Walk}
 
@@ -19,17 +20,12 @@ walkAt s place = record {
   size = s .size;
 }
 
--- ---- what functions give
+-- a walk with another place, and what its division leaves there
+abbrev pub walking : Walk → ℕ → ℕ → Walk
+walking w at rest = record { at = at; rest = rest; whole = w .whole; over = w .over; size = w .size }
 
--- a place of the target, or the one past its last; the sizes and positions are those that registers can name
-pub record OnScale (s : Scale) (place : ℕ) : Type 0 where
-  pub first : s .to ≤ place
-  pub past : place ≤ s .to + s .size
-  pub some : 0 < s .size
-  pub size : s .size < 2 ^ 13
-  pub sourceSize : s .sourceSize < 2 ^ 13
-  pub from : s .from < 20480
-
--- a walk at a place goes to the next one
-abbrev pub Next : Walk → Walk → Type 0
-Next w r = (s : Scale) (place : ℕ) → OnScale s place → w ≡ walkAt s place → r ≡ walkAt s (place + 1)
+-- a step: the remainders stay under the size, or they count as one place more
+unfoldable pub nextOf : Walk → Walk
+nextOf w =
+    cond (ltb (w .rest + w .over) (w .size)) (walking w (w .at + w .whole) (w .rest + w .over))
+    (walking w (w .at + w .whole + 1) (w .rest + w .over - w .size))

@@ -3,8 +3,8 @@ use ink::Ink;
 use surface::Surface;
 ghost use mathlib.Core.Path.{_≡_};
 ghost use Prim.Native.Nat.{_^_, _<_};
-ghost use Rattle.scale.specs.Scale.{scaled, walkAt, Next, OnScale};
-ghost use Rattle.scale.specs.Asked.{Steps};
+ghost use Rattle.scale.specs.Scale.{scaled, walkAt, nextOf};
+ghost use Rattle.scale.specs.Asked.{OnScale, Steps};
 
 // One axis: where the target and the source begin, counted from 16384, and how many pixels each has.
 pub struct Scale {
@@ -56,7 +56,7 @@ pub fn start(s: Scale, place: u32) -> Walk
 // The walk at the next place: nothing is divided.
 pub fn next(w: Walk) -> Walk
     requires { ⌜ Steps w ⌝ }
-    ensures { λ r. ⌜ Next w r ⌝ }
+    ensures { λ r. ⌜ r ≡ nextOf w ⌝ }
 {
     let rest = w.rest + w.over;
     if rest < w.size {

@@ -14,10 +14,10 @@ use Rattle.paint.proofs.Turns.{row-left, row-whole, row-again, row-ends, rows-l
 use Rattle.scale.specs.declared.Scale.{Scale}
 use Rattle.scale.specs.declared.Stretch.{Stretch}
 use Rattle.scale.specs.declared.Walk.{Walk}
-use Rattle.scale.specs.Scale.{scaled, walkAt, Next, OnScale}
-use Rattle.scale.specs.Asked.{Steps, CanStretch}
+use Rattle.scale.specs.Scale.{scaled, walkAt, nextOf}
+use Rattle.scale.specs.Asked.{OnScale, Steps, CanStretch}
 use Rattle.scale.specs.Stretch.{takenAt}
-use Rattle.scale.proofs.ScaleLaws.{walk-steps}
+use Rattle.scale.proofs.ScaleLaws.{next-walk, walk-steps}
 use Rattle.stretch.specs.Asked.{TakesFrom, RowTakes}
 
 -- a place between two
@@ -39,10 +39,10 @@ module _ {s : Scale} (at n i : ℕ) (first : OnScale s (origin + at)) (last : On
   pub can-step : Steps walk
   can-step = subst⁻¹ Steps here (walk-steps s (origin + (at + i)) on-way)
 
-  pub steps-on : {walk′ : Walk} → Next walk walk′ → walk′ ≡ walkAt s (origin + (at + (i + 1)))
+  pub steps-on : {walk′ : Walk} → walk′ ≡ nextOf walk → walk′ ≡ walkAt s (origin + (at + (i + 1)))
   steps-on next =
       let e : origin + (at + i) + 1 ≡ origin + (at + (i + 1)) = omega arith in
-      next s (origin + (at + i)) on-way here ∙ ap (walkAt s) e
+      next ∙ ap nextOf here ∙ next-walk s (origin + (at + i)) on-way ∙ ap (walkAt s) e
 
 -- the source place of a walk
 pub walk-place : (s : Scale) (place : ℕ) {walk : Walk} → walk ≡ walkAt s place → walk .at ≡ scaled s place

@@ -8,8 +8,8 @@ use Rattle.surface.specs.Asked.{Small, Colour, OnColour}
 use Rattle.surface.specs.Pixels.{origin}
 use Rattle.scale.specs.declared.Stretch.{Stretch}
 use Rattle.scale.specs.declared.Walk.{Walk}
-use Rattle.scale.specs.Scale.{scaled, walkAt, OnScale}
-use Rattle.scale.specs.Asked.{CanStretch}
+use Rattle.scale.specs.Scale.{scaled, walkAt}
+use Rattle.scale.specs.Asked.{OnScale, CanStretch}
 use Rattle.rect.specs.Asked.{Flat}
 use Rattle.stretch.specs.Row.{openTask}
 

@@ -8,7 +8,7 @@ use Rattle.surface.specs.Pixels.{origin}
 use Rattle.cuts.specs.declared.Cut.{Cut}
 use Rattle.scale.specs.declared.Scale.{Scale}
 use Rattle.scale.specs.declared.Stretch.{Stretch}
-use Rattle.scale.specs.Scale.{OnScale}
+use Rattle.scale.specs.Asked.{OnScale}
 use Rattle.command.specs.Decode.{target}
 
 -- the target's rectangle and the source's, which is that of cut b, are in the rows of their surfaces, where there are pixels to paint
