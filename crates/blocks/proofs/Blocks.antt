@@ -1,4 +1,4 @@
--- Rectangles of bytes: a block lies in lines, two rectangles make one, and what goes a part of a way goes that part of the whole.
+-- Rectangles of bytes: a block lies in lines, two rectangles make one, what is put is one memory, and what goes a part of a way goes that part of the whole.
 -- Assumes nothing.
 use mathlib.Core.Path.{_≡_, refl, sym, ap, ap₂, _∙_}
 use mathlib.Core.Logic.{_⊎_, inl, inr, ⊎-elim}
@@ -15,6 +15,7 @@ use Rattle.surface.specs.Asked.{Small, Near}
 use Rattle.surface.specs.Pixels.{Px, px, Inside}
 use Rattle.surface.proofs.Lists.{by-cases}
 use Rattle.surface.proofs.Rows.{by-layout, byteAt-flat, byteAt-tiled, rowBytes-flat, rowBytes-tiled, byteAt-inj, byteAt-small}
+use Rattle.runs.proofs.Runs.{same-memory}
 use Rattle.blocks.specs.declared.Way.{Way}
 use Rattle.blocks.specs.Blocks.{Put, origin, originByte, Laid, pitch}
 use Rattle.blocks.specs.Asked.{Lines, Goes, Columns, Rows}
@@ -97,6 +98,14 @@ module _ (b : Way) {n h len : ℕ} (goes : Goes b n h len) where
 -- ---- two rectangles make one
 pub put-none : (s : Surface) (value : Px → ℕ) (x y n h : ℕ) (m : List ℕ) → ((p : Px) → Inside x y n h p → ⊥) → Put s value x y n h m m
 put-none s value x y n h m none = record { inside = λ p i. absurd (none p i); others = λ a out. refl; long = refl }
+
+-- any two memories that a rectangle of bytes may leave are the same
+pub put-once : {s : Surface} {value : Px → ℕ} {x y n h : ℕ} {m a b : List ℕ} → Put s value x y n h m a → Put s value x y n h m b → a ≡ b
+put-once {s} {value} {x} {y} {n} {h} {m} {a} {b} f g =
+    same-memory (f .long ∙ sym (g .long)) (λ i differ.
+    let none : (p : Px) → Inside x y n h p → i ≡ byteAt s (p .x) (p .y) → ⊥ =
+    (λ p q e. differ (ap (λ (j : ℕ). getD a j 0) e ∙ f .inside p q ∙ sym (g .inside p q) ∙ ap (λ (j : ℕ). getD b j 0) (sym e))) in
+    f .others i none ∙ sym (g .others i none))
 
 module _ (s : Surface) (value : Px → ℕ) {m m₁ m₂ : List ℕ} (x y n h : ℕ) (wide : x + n ≤ rowBytes s) where
   both : (x₁ y₁ n₁ h₁ x₂ y₂ n₂ h₂ : ℕ) → ((p : Px) → Inside x y n h p → Inside x₁ y₁ n₁ h₁ p ⊎ Inside x₂ y₂ n₂ h₂ p)

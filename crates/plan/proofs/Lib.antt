@@ -1,1 +1,2 @@
 pub mod PlanLaws
+pub mod Once

@@ -1,4 +1,4 @@
--- Laws of runs of bytes: a turn of a loop over one, the pixels that a run of a row's bytes is, a rectangle given row by row as runs, and that what is given is one memory.
+-- Laws of runs of bytes: a turn of a loop over one, the pixels that a run of a row's bytes is, a rectangle given row by row as runs, and that what is shifted or given is one memory.
 -- Assumes nothing.
 use mathlib.Core.Path.{_≡_, refl, sym, ap, subst, _∙_}
 use mathlib.Core.Logic.{_⊎_, inl, inr, ⊎-elim}
@@ -19,6 +19,10 @@ use Rattle.surface.proofs.Run.{run-byte}
 use Rattle.surface.proofs.Rects.{same-px}
 use Rattle.runs.specs.Runs.{Shifted, Given}
 
+-- two memories of one length are the same where no byte of them can differ
+pub same-memory : {a b : List ℕ} → length a ≡ length b → ((i : ℕ) → (getD a i 0 ≡ getD b i 0 → ⊥) → getD a i 0 ≡ getD b i 0) → a ≡ b
+same-memory {a} {b} long same = ext-getD 0 a b long (λ i l. by-cases (ℕ-discrete (getD a i 0) (getD b i 0)) (λ e. e) (same i))
+
 -- ---- a run
 pub not-shifted : (d s : ℕ) (m : List ℕ) → Shifted d s 0 0 m m
 not-shifted d s m = record { came = λ i l h. absurd (omega arith); below = λ a h. refl; above = λ a h. refl; long = refl }
@@ -31,6 +35,14 @@ pub untouched : {d s lo hi : ℕ} {m m′ : List ℕ} → Shifted d s lo hi m m�
 untouched {d} {s} {lo} {hi} k a out =
     by-cases (decLt a (d + lo)) (k .below a)
     (λ u. by-cases (decLe (d + hi) a) (k .above a) (λ v. absurd (out (a - d) (omega arith) (omega arith) (omega arith))))
+
+-- any two memories that a run may leave are the same
+pub shifted-once : {d s lo hi : ℕ} {m a b : List ℕ} → Shifted d s lo hi m a → Shifted d s lo hi m b → a ≡ b
+shifted-once {d} {s} {lo} {hi} {m} {a} {b} f g =
+    same-memory (f .long ∙ sym (g .long)) (λ i n.
+    let none : (j : ℕ) → lo ≤ j → j < hi → d + j ≡ i → ⊥ =
+    (λ j l h e. n (ap (λ (k : ℕ). getD a k 0) (sym e) ∙ f .came j l h ∙ sym (g .came j l h) ∙ ap (λ (k : ℕ). getD b k 0) e)) in
+    untouched f i none ∙ sym (untouched g i none))
 
 -- one byte more, at the upper end, or at the lower one
 module _ (d s lo hi i : ℕ) {m₀ m : List ℕ} (k : Shifted d s lo hi m₀ m) (room : d + i < length m) (unread : (j : ℕ) → lo ≤ j → j < hi → d + j ≡ s + i → ⊥) where
@@ -87,10 +99,10 @@ given-none s byte x y w m = record { inside = λ p i k l. absurd (omega arith); 
 
 pub given-once : {s : Surface} {byte : Px → ℕ → ℕ} {x y w h : ℕ} {m a b : List ℕ} → Given s byte x y w h m a → Given s byte x y w h m b → a ≡ b
 given-once {s} {byte} {x} {y} {w} {h} {m} {a} {b} f g =
-    ext-getD 0 a b (f .long ∙ sym (g .long)) (λ i l. by-cases (ℕ-discrete (getD a i 0) (getD b i 0)) (λ e. e) (λ n.
+    same-memory (f .long ∙ sym (g .long)) (λ i n.
     let none : (p : Px) → Inside x y w h p → (k : ℕ) → k < s .bytes → i ≡ byteOf s (p .x) (p .y) k → ⊥ =
     (λ p q k o e. n (ap (λ (j : ℕ). getD a j 0) e ∙ f .inside p q k o ∙ sym (g .inside p q k o) ∙ ap (λ (j : ℕ). getD b j 0) (sym e))) in
-    f .others i none ∙ sym (g .others i none)))
+    f .others i none ∙ sym (g .others i none))
 
 -- one row more, above or below, as a run of bytes that have the row's values
 module _ (s : Surface) (flat : s .tiled ≡ false) (colour : 0 < s .bytes) (byte : Px → ℕ → ℕ) (x w : ℕ) (columns : (c : ℕ) → c < w → x + c < rowPixels s) where
