@@ -1,10 +1,10 @@
-"""A plain model of the 2D engine, written from the scope paper and the change requests alone,
-to be read beside them and compared with other programs; it is not meant to be fast.
+"""A plain model of the 2D engine, written from the scope paper and change requests One, Three
+and Six, with the readings of docs/DECISIONS.md where these leave a choice; to be read beside
+them and compared with other programs. It is not meant to be fast.
 
 Names in quotes in the comments are sections of the paper; "Thumbnails" is request One,
-"The smear" request Three and "Tiles" request Six.
-"Point N" is a numbered open point of the source facts, part 3.3. Run as a program it plays
-a stream from its input.
+"The smear" request Three and "Tiles" request Six. A name after the word DECISIONS is an entry
+there. Run as a program it plays a stream from its input.
 """
 
 import copy
@@ -12,7 +12,7 @@ import sys
 from dataclasses import dataclass
 from typing import Iterator
 
-Pixel = tuple[int, int]  # (x, y), plain signed integers (point 22)
+Pixel = tuple[int, int]  # (x, y), signed integers (DECISIONS, "Positions do not wrap within a command")
 
 LIMIT = 16_777_216  # "What a write answers", row 1
 PROGRAM_MEMORY = 65_536  # "The program"
@@ -41,7 +41,8 @@ FROM_MEMORY = (COPY, STRETCH)  # screen copies: their source is in the memory
 # "Registers": format number to bits of a pixel. A target is the same without mono.
 SOURCE_BITS = {0: 1, 1: 8, 3: 16, 4: 24, 5: 32}
 TARGET_BITS = {1: 8, 3: 16, 4: 24, 5: 32}
-# High and low bit of a pixel's channels: blue, green, red (part 3.2), or the one index of 8 bpp.
+# High and low bit of a pixel's channels: blue, green, red (DECISIONS, "16 bpp layout"), or the one
+# index of 8 bpp.
 TRUE = ((7, 0), (15, 8), (23, 16))
 CHANNELS = {8: ((7, 0),), 16: ((4, 0), (10, 5), (15, 11)), 24: TRUE, 32: TRUE}
 
@@ -190,7 +191,7 @@ def line_points(start: Pixel, end: Pixel) -> list[Pixel]:
 
 class Engine:
     def __init__(self, length: int) -> None:
-        """By "Registers": a fresh engine has all of them 0. Any length will do (point 13)."""
+        """By "Registers": a fresh engine has all of them 0. Any length will do (DECISIONS, "Opening")."""
         self.length = length
         self.registers = dict.fromkeys(OFFSETS, 0)
         self.pattern = bytearray(256)
@@ -442,7 +443,8 @@ class Engine:
     # --- "What is put there" ---
 
     def colour(self, bit: int) -> int:
-        """1 is colorFore and 0 colorBack, the low bits that the target has (point 26)."""
+        """1 is colorFore and 0 colorBack, the low bits that the target has (DECISIONS, "Colour
+        registers")."""
         return bits(self.registers["colorFore" if bit else "colorBack"], self.target().depth - 1, 0)
 
     def pattern_place(self, x: int, y: int) -> Pixel:
@@ -514,8 +516,8 @@ class Engine:
 
 
 def row_view(mem: bytearray, base: int, form: int, x: int, y: int, width: int) -> tuple[int, int, int]:
-    """By "What a write answers": number, first byte and length of a part of a row (point 52).
-    By "Tiles": those of tiled surfaces are not given."""
+    """By "What a write answers": number, first byte and length of a part of a row (DECISIONS,
+    "Row view"). By "Tiles": those of tiled surfaces are not given."""
     if len(mem) > LIMIT:
         return 1, 0, 0
     surface = target_surface(base, form)

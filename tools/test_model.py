@@ -1,6 +1,10 @@
-"""Samples and vectors for the model: the scope paper's sheets, part 3.5's vectors V1 to V9,
-part 3.3's open points (their numbers in the comments), and of the change requests the
-stretched copy, the smear and tiles, worked out by hand. Run: python3 test_model.py"""
+"""Samples and vectors for the model: the scope paper's sheets; of the databook, which is source
+document 000, host blit example 1, the line example, both stipple examples, the pattern's origin,
+the strides of packed sources and the order of mono pixels, at the lines that the comments give;
+points that the papers leave open, by the readings of docs/DECISIONS.md; and of the change
+requests the stretched copy, the smear and tiles, mostly worked out by hand, tiles also by the map
+that source document 002 prints. Names in quotes in the comments are entries of docs/DECISIONS.md,
+with the section they stand under where two have one heading. Run: python3 test_model.py"""
 
 import itertools
 import struct
@@ -53,7 +57,7 @@ class SampleSheet(unittest.TestCase):
         self.assertEqual([model.widen(v, 6) for v in (1, 32, 63)], [4, 130, 255])
         self.assertEqual([model.convert(v, 24, 16) for v in (7, 8)], [0, 1])
 
-    def test_mono_words(self):  # with V9 and wrong sheet 2
+    def test_mono_words(self):  # with the databook's order of mono pixels, 000:1866-1872, and wrong sheet 2
         for word, pixel in (("80", 0), ("100", 15), ("80000000", 24), ("01000000", 31)):
             card = Card(TO8 + f"54=400000 68=10020 70=CC000003 80={word}+32")
             self.assertEqual([x for x in range(4096) if card.mem[x] == 2], [pixel])
@@ -70,7 +74,7 @@ class SampleSheet(unittest.TestCase):
     def test_step(self):
         self.assertEqual(Card(DOT + "6C=FFF 70=CC000505").engine.place("dstXY"), (-4096, 0))
 
-    def test_host_words(self):  # with point 44
+    def test_host_words(self):  # with "Padding after the last row"
         host = TO8 + "68=20009 70=CC000003 "
         self.assertIsNone(Card(host + "54=400000 80=0+18").engine.waiting)
         card = Card(host + "54=C00000 80=0+9")
@@ -98,7 +102,7 @@ class WrongSheets(unittest.TestCase):  # sheet 2 is with the mono words
 
 
 class Vectors(unittest.TestCase):
-    def test_v1(self):
+    def test_v1(self):  # host blit example 1, 000:2206-2229, in both forms ("The databook's host blit example 1")
         left = "..#.....#.. .##.....##. .##.....##. .##.....##. ##.......## #.........# ..........."
         right = "#.........# ##.......## ##.......## ##...#...## .##.###.##. ..###.###.. ...#...#..."
         printed, swapped = "C0608020 C460C060 3B806EC0 1100", "60C02080 60C460C0 803BC06E 11"
@@ -112,7 +116,8 @@ class Vectors(unittest.TestCase):
             self.assertEqual(found, rows.replace(" ", ""))
         self.assertEqual(play(stream(text.format("CC000003", "700000") + "80=C0608020")), "refused 6 at 11\n")
 
-    def test_v3(self):
+    def test_v3(self):  # the line example, 000:2304-2319
+        # the command printed there does not show bit 12: a line and a polyline with it, and a line without
         drawn = ("3,2F 4,3F 5,3B 6,4B 7,4B 8,5F 9,5F 10,6F 11,6F 12,7F 13,7F 14,8B 15,8B 16,9B 17,9F 18,10F "
                  "19,10F 20,11F 21,11F 22,12F")
         for command, points, style in ((0xCC001006, drawn, 0x202), (0xCC001007, drawn[:-6], 0x02020202),
@@ -123,19 +128,19 @@ class Vectors(unittest.TestCase):
             self.assertEqual(sorted(found), sorted(points.split()))
             self.assertEqual([card.get(n) for n in ("lineStyle", "srcXY", "dstXY")], [style, 0xC0016, 0xC0016])
 
-    def test_v4_v5(self):
+    def test_v4_v5(self):  # the stipple examples, 000:2063-2073 and 000:2077-2087
         self.assertEqual(stipple(0x500, 0x17, 12), ("xxxoxoxxxoxo", 0x500))
         self.assertEqual(stipple(0x501, 0x17, 24), ("xxxxxxooxxoo" * 2, 0x501))
         self.assertEqual(stipple(0x502, 0x17, 36), ("xxxxxxxxxoooxxxooo" * 2, 0x502))
         line = "xxx ooooo xxxxx xxxxx xxxxx xxxxx ooooo xxxxx xxxxx ooooo xxxxx ooooo xxxxx"
         self.assertEqual(stipple(0x07020904, 0x2B7, 63), (line.replace(" ", ""), 0x904))
 
-    def test_v6(self):
+    def test_v6(self):  # the pattern's origin, 000:1647
         pattern = " ".join(f"{0x100 + i:X}={i * 0x01010101 + 0x03020100:X}" for i in range(0, 64, 4))
         card = Card(TO8 + pattern + f" 68=20002 70={0xF0000105 + (3 << 17) + (5 << 20):X}+4")
         self.assertEqual((card.mem[0], card.mem[1], card.mem[32]), (43, 44, 51))
 
-    def test_v7(self):
+    def test_v7(self):  # the strides of packed sources, 000:1931-1935
         for width, form, steps in ((11, 0, [2, 2, 4]), (9, 0, [2, 2, 4]), (5, 1, [5, 6, 8]), (3, 4, [9, 10, 12])):
             cards = [Card(f"68={width:X} 54={p << 22 | form << 16:X}") for p in (1, 2, 3)]
             self.assertEqual([card.engine.source().step for card in cards], steps)
@@ -143,26 +148,29 @@ class Vectors(unittest.TestCase):
 
 class OpenPoints(unittest.TestCase):
     def test_launch(self):
-        card = Card(DOT + "70=CC000105+1 FC=E005E005+1")  # 1, 2, 46
+        # "Bit 8 of command"; "Launch data"; any offset of the launch area will do ("After a blit has ended")
+        card = Card(DOT + "70=CC000105+1 FC=E005E005+1")
         self.assertEqual((card.get("command"), card.get("dstXY")), (0xCC000105, 0x00050005))
-        Card("10=80000000 70=100 80=9 70=8 80=9!4 70=5 80=9!5 74=0!2 1FE=0!2 200=0!2 0=0!2")  # 3, 4, 14
-        self.assertEqual(Card(DOT + "70=CC0000F5 80=3+1").get("command"), 0xCC0000F5)  # 15
+        # "nop"; "A number that is not built"; "A fresh engine"
+        Card("10=80000000 70=100 80=9 70=8 80=9!4 70=5 80=9!5 74=0!2 1FE=0!2 200=0!2 0=0!2")
+        self.assertEqual(Card(DOT + "70=CC0000F5 80=3+1").get("command"), 0xCC0000F5)  # "Bits 7:4 of command"
 
     def test_waiting(self):
-        card = Card(TO8 + "54=400000 68=30020 70=CC000003 80=1+32 74=0!2 100=0!3 44=0!3 64=0!3")  # 5
+        card = Card(TO8 + "54=400000 68=30020 70=CC000003 80=1+32 74=0!2 100=0!3 44=0!3 64=0!3")  # "Rows 2 and 3 together"
         self.assertEqual(card.engine.write(bytearray(4095), 0x74, 0), (1, 0))
-        card.do("70=CC000108!4")  # 6
+        card.do("70=CC000108!4")  # "A command write while a blit waits"
         self.assertEqual((card.get("command"), len(card.engine.waiting)), (0xCC000003, 4))
-        self.assertEqual([card.engine.read(offset)[0] for offset in (0x6C, 0x80, 0x74)], [0, 2, 2])  # 12
+        self.assertEqual([card.engine.read(offset)[0] for offset in (0x6C, 0x80, 0x74)], [0, 2, 2])  # "A read"
         self.assertIsNone(card.do("70=CC000003").engine.waiting)
 
     def test_host_refusals(self):
         host = TO8 + "70=CC000003 "
-        self.assertIsNone(Card(host + "54=400000 68=C80021 80=0!7").engine.waiting)  # 8
-        Card(host + "68=5 80=0!6 68=50000 80=0")  # 9
-        Card(host + "54=400000 68=10004 34=80000000 80=0!5 34=0 5C=10000 80=0!6 5C=0 80=0+4")  # 10, 11
+        self.assertIsNone(Card(host + "54=400000 68=C80021 80=0!7").engine.waiting)  # "Row 7 of a host blit"
+        Card(host + "68=5 80=0!6 68=50000 80=0")  # "Row 6" under "The table"
+        # "A host blit whose srcBaseAddr has bit 31"; "Row 6" under "The table"
+        Card(host + "54=400000 68=10004 34=80000000 80=0!5 34=0 5C=10000 80=0!6 5C=0 80=0+4")
 
-    def test_limit(self):  # 13
+    def test_limit(self):  # "Opening"
         card = Card(DOT + "10=FFFFE0 70=CC000005 80=1F+1 80=10000!7", model.LIMIT)
         self.assertEqual((card.mem[-1], card.mem.count(2)), (2, 1))
         for length in (model.LIMIT - 1, model.LIMIT + 1):
@@ -170,59 +178,60 @@ class OpenPoints(unittest.TestCase):
         Card("10=0!1 70=CC000105!1 80=0!1 100=0!1 74=0!1", model.LIMIT + 1)
 
     def test_formats(self):
-        card = Card(DOT + "14=90020 54=90000 34=80000000 70=CC000105+1")  # 16, 17
+        # "dstFormat bit 19" under "Registers and writes"; "Row 5" under "The table"
+        card = Card(DOT + "14=90020 54=90000 34=80000000 70=CC000105+1")
         card.do("34=0 70=CC000101!5 70=CC000103!5 54=30020 70=CC000101!5")
-        card.do("14=10000 70=CC000105!7 68=0 70=CC000105")  # 18
-        card = Card(DOT + "64=12345603 70=CC000105+1")  # 26
+        card.do("14=10000 70=CC000105!7 68=0 70=CC000105")  # "Stride 0"
+        card = Card(DOT + "64=12345603 70=CC000105+1")  # "Colour registers"
         self.assertEqual((card.mem[:2].hex(), card.get("colorFore")), ("0300", 0x12345603))
 
     def test_copies(self):
-        card = Card(TO8 + "68=10009 54=400000 34=800 70=CC000001 80=7+9 80=8!7")  # 19
-        card.do("34=0 80=0!8 0C=0 80=0")  # 23
-        card.do("0C=FFFFFFFF 6C=FFF 68=11FFF 70=105")  # 21, 22
+        card = Card(TO8 + "68=10009 54=400000 34=800 70=CC000001 80=7+9 80=8!7")  # "A packed source"
+        card.do("34=0 80=0!8 0C=0 80=0")  # "Row 8" under "The table"
+        card.do("0C=FFFFFFFF 6C=FFF 68=11FFF 70=105")  # "The last column and row"; "Positions do not wrap within a command"
         self.assertEqual(card.get("clip0Max"), 0x0FFF0FFF)
-        Card(TO8 + "10=1 54=8 68=10008 70=CC000101+8 68=10009 70=CC000101!8")  # 24
-        Card(DOT + "54=10020 5C=1FFF 70=101!7 5C=1FFF0000 70=101!7 08=1 70=101")  # 20, 37
-        card = Card(TO8 + "54=10020 6C=1FFF1FFF 5C=1FFF1FFF 68=50000 70=CC00CD01")  # 38, 39, 41
+        Card(TO8 + "10=1 54=8 68=10008 70=CC000101+8 68=10009 70=CC000101!8")  # "Mono surfaces"
+        Card(DOT + "54=10020 5C=1FFF 70=101!7 5C=1FFF0000 70=101!7 08=1 70=101")  # "Row 7 of a copy"
+        card = Card(TO8 + "54=10020 6C=1FFF1FFF 5C=1FFF1FFF 68=50000 70=CC00CD01")  # "Bits 10 and 11"; "Bit 14 with width 0"
         self.assertEqual(card.get("dstXY"), 0x00041FFF)
 
     def test_keys(self):
-        self.assertTrue(model.key_match(0x77, 8, 0x000100, 0x0001FF))  # 27
-        self.assertTrue(model.key_match(0x0821, 16, 0xFF0821, 0x000821))  # 28
+        self.assertTrue(model.key_match(0x77, 8, 0x000100, 0x0001FF))  # "Key of an 8 bpp pixel"
+        self.assertTrue(model.key_match(0x0821, 16, 0xFF0821, 0x000821))  # "Key of a 16 bpp pixel"
         self.assertFalse(model.key_match(0x0020, 16, 0x0000, 0xF81F))
-        self.assertFalse(model.key_match(5, 8, 6, 4))  # 29
-        self.assertTrue(model.key_match(0xFF000000, 32, 0, 0))  # 25
+        self.assertFalse(model.key_match(5, 8, 6, 4))  # "Least above most"
+        self.assertTrue(model.key_match(0xFF000000, 32, 0, 0))  # "Top byte of 32 bpp"
         self.assertEqual([model.convert(0xFF123456, 32, t) for t in (32, 24)], [0xFF123456, 0x123456])
-        for form, expected in (("410000", "0500"), ("400000", "0101")):  # 30: ROP2 is 0
+        for form, expected in (("410000", "0500"), ("400000", "0101")):  # "A source key"; ROP2 is 0
             card = Card(TO8 + f"54={form} 68=10002 38=1 18=6 1C=6 30=FF00FF 70=CC000003 80=605+2")
             self.assertEqual(card.mem[:2].hex(), expected)
-        Card(TO8 + "54=400000 68=10008 38=2 30=FFFFFF 70=FF010003 80=3+2")  # 32
+        Card(TO8 + "54=400000 68=10008 38=2 30=FFFFFF 70=FF010003 80=3+2")  # "A pixel left out by bit 16"
 
     def test_patterns(self):
         card = Card("0C=FFF0FFF 14=40030 68=20001 118=332211 70=F0000105+2")
-        self.assertEqual(card.mem[0x30:0x33].hex(), "112233")  # 33
-        self.assertEqual(card.do("38=8 70=F0300105+2").mem[0x30:0x33].hex(), "000000")  # 34
-        card = Card(TO8 + "68=10008 54=10020 5C=10000 44=81 70=CC012101+8 70=CC012105+2")  # 35
-        card.do("5C=0 6C=3 40=100 3C=1 70=CC012106+4 5C=0 60=7 70=33001106+4")  # 36
+        self.assertEqual(card.mem[0x30:0x33].hex(), "112233")  # "The colour pattern at 24 bpp"
+        self.assertEqual(card.do("38=8 70=F0300105+2").mem[0x30:0x33].hex(), "000000")  # "Row 0 forced"
+        card = Card(TO8 + "68=10008 54=10020 5C=10000 44=81 70=CC012101+8 70=CC012105+2")  # "Bit 16"
+        card.do("5C=0 6C=3 40=100 3C=1 70=CC012106+4 5C=0 60=7 70=33001106+4")  # "A stipple bit of 0"
         self.assertEqual(card.mem[:4].hex(), "fdf8fdf8")
 
     def test_host_data(self):
-        card = Card(TO8 + "54=400000 68=8 6C=3 70=CC000403 80=0")  # 39
+        card = Card(TO8 + "54=400000 68=8 6C=3 70=CC000403 80=0")  # "Bits 10 and 11"
         self.assertEqual(card.get("dstXY"), 11)
-        card.do("68=10002 6C=0 54=410000 80=605+2 80=807+2")  # 45
+        card.do("68=10002 6C=0 54=410000 80=605+2 80=807+2")  # "After a blit has ended"
         self.assertEqual((card.mem[:5].hex(), card.get("dstXY")), ("0506070800", 4))
-        Card("0C=FFF0FFF 14=40030 54=440000 68=10003 08=1 70=CC000103 80=0 80=0+1 80=0+1")  # 42
+        Card("0C=FFF0FFF 14=40030 54=440000 68=10003 08=1 70=CC000103 80=0 80=0+1 80=0+1")  # "The count of a word"
 
     def test_line_ends(self):
-        self.assertEqual(stipple(0x00090304, 0b10, 1)[1], 0x01000304)  # 48
+        self.assertEqual(stipple(0x00090304, 0b10, 1)[1], 0x01000304)  # "A phase that the databook calls undefined"
         self.assertEqual(stipple(0x14000300, 0, 1)[1], 0x00000300)
-        card = Card(TO8 + "5C=50005 6C=50005 40=303 70=CC001107")  # 50
+        card = Card(TO8 + "5C=50005 6C=50005 40=303 70=CC001107")  # "A polyline whose ends are one point"
         self.assertEqual(card.get("lineStyle"), 0x0303)
-        card.do("6C=1FF01FF0 70=CC001D06+6")  # 40
+        card.do("6C=1FF01FF0 70=CC001D06+6")  # "Bits 10 and 11"; "Without bit 12"
         self.assertEqual((card.get("srcXY"), card.get("dstXY")), (0x1FF01FF0, 0x1FF01FF0))
-        self.assertEqual(card.do("5C=1F 6C=20 70=CC011106!7").get("srcXY"), 31)  # 51
+        self.assertEqual(card.do("5C=1F 6C=20 70=CC011106!7").get("srcXY"), 31)  # "Row 7 of a line"
 
-    def test_view(self):  # 52
+    def test_view(self):  # "Row view"
         mem = bytearray(64)
         self.assertEqual(row_view(mem, 4, 0x00040010, 1, 2, 4), (0, 39, 12))
         for x, y, width in ((1, 2, 5), (0, 0, 0), (-1, 0, 1), (0, -1, 1), (4, 3, 1)):
@@ -231,11 +240,13 @@ class OpenPoints(unittest.TestCase):
             self.assertEqual(row_view(mem, base, form, 0, 0, 0), (5, 0, 0))
         self.assertEqual(row_view(bytearray(model.LIMIT + 1), 0, 0, 0, 0, 0), (1, 0, 0))
 
-    def test_program(self):  # 53, 54
+    def test_program(self):  # every line that is printed ends with a newline, a fault's too
         example = stream("14=50008 0C=20002 68=10001 64=FF8000 70=CC000005 80=10000")
         self.assertEqual(play(example), "P3\n2 2\n255\n0 0 0\n0 0 0\n255 128 0\n0 0 0\n")
+        # with no input clip0 is empty; with FFFFFFFF it reaches off the surface ("The last column and row")
         self.assertEqual([play(b""), play(example + stream("0C=FFFFFFFF"))], ["no picture\n"] * 2)
         self.assertEqual(play(example + b"\0"), "short write\n")
+        # "The order of faults"; the number at the end is that of the pairs before the refused one
         self.assertEqual(play(example + stream("101=0") + b"\0"), "refused 2 at 6\n")
         grey = stream("0C=10001 14=30002 68=10001 64=8410 70=CC000105")
         self.assertEqual(play(grey), "P3\n1 1\n255\n132 130 132\n")
