@@ -1,12 +1,9 @@
 -- Each contract says what the outcome equals, and so allows one.
 -- Assumes nothing.
-use mathlib.Core.Path.{_≡_, sym, _∙_}
+use Rattle.engine.proofs.One.{settled}
 use Rattle.state.specs.Layout.{stateSize}
 use Rattle.capi.specs.Calls.{writtenTo, openedTo, readOf, partOf}
 use Rattle.capi.specs.Promises.{OneSize, OneOpening, OneCall, OneReading, OnePart}
-
-settled : {A : Type 0} (f x y : A) → x ≡ f → y ≡ f → x ≡ y
-settled f x y p q = p ∙ sym q
 
 pub one-size : OneSize
 one-size x y = settled stateSize x y

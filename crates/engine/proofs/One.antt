@@ -6,7 +6,8 @@ use Rattle.views.specs.View.{viewAnswer, viewStart, viewed, further}
 use Rattle.engine.specs.Step.{freshEngine, readFrom, written}
 use Rattle.engine.specs.Promises.{OneOutcome, OneFresh, OneReading, OneView, OneViewAnswer}
 
-settled : {A : Type 0} (f x y : A) → x ≡ f → y ≡ f → x ≡ y
+-- the one law for a contract that is an equation
+pub settled : {A : Type 0} (f x y : A) → x ≡ f → y ≡ f → x ≡ y
 settled f x y p q = p ∙ sym q
 
 pub one-outcome : OneOutcome

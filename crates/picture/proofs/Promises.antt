@@ -10,6 +10,7 @@ use lib.Dec.{ltb}
 use lib.ListN.{length}
 use borrow.Author.Tests.{ltb-true}
 use Rattle.engine.specs.Step.{written}
+use Rattle.engine.proofs.One.{settled}
 use Rattle.surface.proofs.OnLaws.{and-left}
 use Rattle.ppm.specs.Text.{page, each, said, digit, digits, decimal}
 use Rattle.picture.specs.Player.{freshPlayer, shifted, wrote, arrived, taken, fed, printed, start, sheetOf}
@@ -19,9 +20,6 @@ use Rattle.picture.proofs.PlayerLaws.{fed-long, start-long}
 use Rattle.picture.proofs.Fits.{printed-short, said-whole}
 
 -- a contract that says what the outcome equals allows one
-settled : {A : Type 0} (f x y : A) → x ≡ f → y ≡ f → x ≡ y
-settled f x y p q = p ∙ sym q
-
 pub one-open : OneOpen
 one-open len x y = settled (freshPlayer len) x y
 
