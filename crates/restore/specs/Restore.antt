@@ -64,7 +64,8 @@ pub record Saves (e : Engine) (m : List ℕ) (first : Write) (middle : List Writ
   pub from : sourceRect back ≡ targetRect aside
   pub to : targetRect back ≡ sourceRect aside
 
--- ---- what is claimed, of all these writes played: both copies are answered 0, with the count of all pixels, and memory is what it was outside the place aside
+-- ---- what is claimed, of all these writes played: the first answer and the last, which are those of the copies, are 0 with the count of all pixels, and memory is
+-- what it was outside the place aside
 pub record Restored (m : List ℕ) (aside : Regs) (middle : List Answer) (after : Run) : Type 0 where
   pub first : Answer
   pub last : Answer
