@@ -14,11 +14,12 @@ use Rattle.formats.specs.Step.{rowLength, stepOf, dataBytes, dataWords}
 use Rattle.views.specs.View.{viewAnswer}
 use Rattle.line.specs.Line.{far, towards, xMajor, longer, shorter, aside, place, pointAt, pointsFrom, pointCount, points}
 use Rattle.line.specs.Stipple.{stepped, after, styleAfter}
-use Rattle.positions.specs.Position.{steppedXY}
+use Rattle.host.specs.Host.{bitsOf, valueOf, whole, run, byByte, byBytes, byWord}
+use Rattle.positions.specs.Position.{signedOf, steppedXY}
 use Rattle.scale.specs.Scale.{scaled}
 use Rattle.ink.specs.Pattern.{patternBit, patternPixel, patternIn}
 use Rattle.paint.specs.Paint.{dab, paint}
-use Rattle.paint.specs.Mix.{colourSource, chosen, mixed}
+use Rattle.paint.specs.Mix.{colourSource, fillSource, chosen, mixed}
 use Rattle.sweep.specs.Copy.{sourcePlace, sourceBy, giving}
 use Rattle.registers.specs.Kept.{kept}
 use Rattle.registers.specs.Regs.{putReg}
@@ -29,7 +30,7 @@ use Rattle.command.specs.Decode.{inkOf, fillTask, copyTask}
 use Rattle.table.specs.Table.{allOnAt, fillVerdict, copyVerdict}
 use Rattle.acts.specs.Deed.{rectEnded, carrying}
 use Rattle.engine.specs.Step.{freshEngine, refusal, storedIn, carried, commanded, toRegister, written}
-use Rattle.samples.specs.Sheet.{Line, marked, thumbnails, rowSmears, columnSmears, keyed, keyedSmears, smears, tiles, sheet}
+use Rattle.samples.specs.Sheet.{Line, marked, markedWrites, thumbnails, rowSmears, columnSmears, keyed, keyedSmears, smears, tiles, sheet}
 
 -- the lines of a list hold
 abbrev Hold : List Line → Type 0
@@ -39,8 +40,12 @@ joined : (xs ys : List Line) → Hold xs → Hold ys → Hold (xs ++ ys)
 joined xs ys p q = map-append (λ (line : Line). line .given) xs ys ∙ ap₂ _++_ p q ∙ sym (map-append (λ (line : Line). line .said) xs ys)
 
 marked-hold : Hold marked
-unfolding ropBit ropBits rowBytes byteAt monoBit rowPixels firstByte byteCount inMemory onSurface across allOn targetOf rowLength stepOf dataBytes dataWords viewAnswer far towards xMajor longer shorter aside place pointAt pointsFrom pointCount points stepped after styleAfter steppedXY
+unfolding ropBit ropBits rowBytes byteAt monoBit rowPixels firstByte byteCount inMemory onSurface across allOn targetOf rowLength stepOf dataBytes dataWords viewAnswer far towards xMajor longer shorter aside place pointAt pointsFrom pointCount points stepped after styleAfter bitsOf valueOf whole run byByte byBytes byWord signedOf steppedXY
 marked-hold = refl
+
+writes-hold : Hold markedWrites
+unfolding rowBytes byteAt rowPixels firstByte byteCount inMemory onSurface across allOn targetOf steppedXY ropBit ropBits byteOf readBytes writeBytes readPx writePx rect patternBit patternPixel patternIn dab paint fillSource chosen mixed sourcePlace sourceBy giving kept putReg placeOf freshBank stored clipOf cutAt fillCut inkOf fillTask fillVerdict rectEnded carrying freshEngine refusal storedIn carried commanded toRegister written
+writes-hold = refl
 
 thumbnails-hold : Hold thumbnails
 unfolding scaled
@@ -73,4 +78,7 @@ unfolding rowBytes byteAt rowPixels firstByte byteCount inMemory onSurface acros
 tiles-hold = refl
 
 pub samples : map (λ line. line .given) sheet ≡ map (λ line. line .said) sheet
-samples = joined marked (thumbnails ++ (smears ++ tiles)) marked-hold (joined thumbnails (smears ++ tiles) thumbnails-hold (joined smears tiles smears-hold tiles-hold))
+samples =
+    joined marked (markedWrites ++ (thumbnails ++ (smears ++ tiles))) marked-hold
+    (joined markedWrites (thumbnails ++ (smears ++ tiles)) writes-hold
+    (joined thumbnails (smears ++ tiles) thumbnails-hold (joined smears tiles smears-hold tiles-hold)))

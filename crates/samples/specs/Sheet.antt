@@ -1,9 +1,12 @@
--- The marked lines of the sample sheet of document 01, and those of the requests that followed, as a list: what the definitions give beside what the sheet says.
+-- The lines of the sample sheet of document 01 as a list: what the definitions give beside what the sheet says. The samples of the requests that
+-- followed are the project's own, since their document marks none.
 -- Assumes nothing.
 use mathlib.Core.List.{List, [], _∷_, _++_, map}
 use mathlib.Core.Bool.{true, false, cond}
 use Prim.Native.Nat.{ℕ, zero, suc, _-_, _/_, _%_}
 use lib.Dec.{eqb}
+use lib.IntN.{ℤ, pos, negsuc}
+use lib.ListN.{length}
 use Rattle.colour.specs.Convert.{repeated, narrowed}
 use Rattle.raster.specs.Rop.{ropBits}
 use Rattle.surface.specs.declared.Surface.{Surface}
@@ -13,11 +16,12 @@ use Rattle.formats.specs.Step.{stepOf, dataWords}
 use Rattle.views.specs.View.{viewAnswer}
 use Rattle.line.specs.Line.{lineFrom, flat, points}
 use Rattle.line.specs.Stipple.{styleAfter}
-use Rattle.positions.specs.Position.{placed, steppedXY}
+use Rattle.host.specs.Host.{Pixel, byWord}
+use Rattle.positions.specs.Position.{placed, signedOf, steppedXY}
 use Rattle.scale.specs.declared.Scale.{Scale}
 use Rattle.scale.specs.Scale.{scaled}
-use Rattle.engine.specs.declared.Engine.{Engine}
-use Rattle.engine.specs.Step.{freshEngine, written, numberOf}
+use Rattle.engine.specs.declared.Answer.the-variants.{Taken}
+use Rattle.engine.specs.Step.{Step, step, freshEngine, written, numberOf, countOf}
 
 -- a line of the sheet: the numbers that the definitions give, and those that the sheet says
 pub record Line : Type 0 where
@@ -37,24 +41,42 @@ abbrev pub monoPixels : ℕ → List ℕ
 monoPixels word =
     ones 32 0 (word % 256 ∷ word / 256 % 256 ∷ word / 65536 % 256 ∷ word / 16777216 ∷ [])
 
+-- the pixels whose value is 1, of those that a host blit's word finishes
+abbrev pub valued : List Pixel → List ℕ
+valued [] = []
+valued (p ∷ ps) = cond (eqb (p .value) 1) (p .i ∷ valued ps) (valued ps)
+
+-- those of the one word of a mono host blit, 32 by 1
+abbrev pub hostPixels : ℕ → List ℕ
+hostPixels word = valued (byWord (record { step = 4; width = 32; height = 1; bytes = 0; x = 0; y = 0 }) 0 word 0)
+
+-- a signed number as two: 1 where it is below 0, and its distance from 0
+abbrev pub signAndSize : ℤ → List ℕ
+signAndSize (pos n) = 0 ∷ n ∷ []
+signAndSize (negsuc n) = 1 ∷ suc n ∷ []
+
 -- so many columns of a source stretched to so many of a target, both from column 0 on
 abbrev pub columnsTo : ℕ → ℕ → Scale
 columnsTo sourceSize size = record { to = 0; size = size; from = 0; sourceSize = sourceSize }
 
--- what a fresh engine leaves of a memory after writes, each an offset and a word
-abbrev pub played : Engine → List ℕ → List ℕ → List ℕ
-played e m (o ∷ d ∷ more) = played (written e m o d .engine) (written e m o d .memory) more
-played e m (o ∷ []) = m
-played e m [] = m
+-- a fresh engine, opened for a memory, and that memory
+abbrev pub fresh : List ℕ → Step
+fresh m = step (freshEngine (length m)) m (Taken 0)
+
+-- engine, memory and the last answer after writes, each an offset and a word
+abbrev pub played : Step → List ℕ → Step
+played s (o ∷ d ∷ more) = played (written (s .engine) (s .memory) o d) more
+played s (o ∷ []) = s
+played s [] = s
 
 -- four bytes as a row of one surface of 8 bpp, or as a column, after more writes and a screen copy of three of them, by its srcXY, dstXY and command
 abbrev pub rowCopied : List ℕ → List ℕ → ℕ → ℕ → ℕ → List ℕ
 rowCopied more m from to command =
-    played (freshEngine 4) m (0x14 ∷ 0x10004 ∷ 0x54 ∷ 0x10004 ∷ 0x0c ∷ 0x10004 ∷ 0x68 ∷ 0x10003 ∷ 0x5c ∷ from ∷ 0x6c ∷ to ∷ more ++ (0x70 ∷ command ∷ []))
+    played (fresh m) (0x14 ∷ 0x10004 ∷ 0x54 ∷ 0x10004 ∷ 0x0c ∷ 0x10004 ∷ 0x68 ∷ 0x10003 ∷ 0x5c ∷ from ∷ 0x6c ∷ to ∷ more ++ (0x70 ∷ command ∷ [])) .memory
 
 abbrev pub columnCopied : List ℕ → ℕ → ℕ → ℕ → List ℕ
 columnCopied m from to command =
-    played (freshEngine 4) m (0x14 ∷ 0x10001 ∷ 0x54 ∷ 0x10001 ∷ 0x0c ∷ 0x40001 ∷ 0x68 ∷ 0x30001 ∷ 0x5c ∷ from ∷ 0x6c ∷ to ∷ 0x70 ∷ command ∷ [])
+    played (fresh m) (0x14 ∷ 0x10001 ∷ 0x54 ∷ 0x10001 ∷ 0x0c ∷ 0x40001 ∷ 0x68 ∷ 0x30001 ∷ 0x5c ∷ from ∷ 0x6c ∷ to ∷ 0x70 ∷ command ∷ []) .memory
 
 abbrev pub abcd : List ℕ
 abcd = 65 ∷ 66 ∷ 67 ∷ 68 ∷ []
@@ -66,22 +88,24 @@ keyed keys = rowCopied keys (1 ∷ 2 ∷ 3 ∷ 4 ∷ []) 0 1 0xcc000101
 abbrev pub tiled : ℕ → ℕ → Surface
 tiled across bytes = record { base = 0; stride = across; bytes = bytes; tiled = true }
 
--- the number that the last of such writes is answered
-abbrev pub answered : Engine → List ℕ → List ℕ → ℕ
-answered e m (o ∷ d ∷ n ∷ more) = answered (written e m o d .engine) (written e m o d .memory) (n ∷ more)
-answered e m (o ∷ d ∷ []) = numberOf (written e m o d .answer)
-answered e m (o ∷ []) = 0
-answered e m [] = 0
-
 abbrev pub zeros : ℕ → List ℕ
 zeros zero = []
 zeros (suc n) = 0 ∷ zeros n
 
--- that of a fill of pixel x of row 0, at 24 bpp and one tile across
-abbrev pub filledAt : ℕ → ℕ
-filledAt x = answered (freshEngine 128) (zeros 128) (0x10 ∷ 0x80000000 ∷ 0x14 ∷ 0x40001 ∷ 0x0c ∷ 0x10080 ∷ 0x68 ∷ 0x10001 ∷ 0x6c ∷ x ∷ 0x70 ∷ 0xcc000105 ∷ [])
+-- the number that a fill of pixel x of row 0 is answered, by its dstBaseAddr and dstFormat
+abbrev pub filledAt : ℕ → ℕ → ℕ → ℕ
+filledAt base format x =
+    numberOf (played (fresh (zeros 128)) (0x10 ∷ base ∷ 0x14 ∷ format ∷ 0x0c ∷ 0x10080 ∷ 0x68 ∷ 0x10001 ∷ 0x6c ∷ x ∷ 0x70 ∷ 0xcc000105 ∷ []) .answer)
 
--- ---- the lines, of document 01 and of the requests
+-- memory, number and count that writes leave
+abbrev pub told : Step → List ℕ
+told s = s .memory ++ (numberOf (s .answer) ∷ countOf (s .answer) ∷ [])
+
+-- those of a fill of two rows of two pixels at 8 bpp, by its clip0Min and clip0Max
+abbrev pub clipped : List ℕ → ℕ → ℕ → List ℕ
+clipped m min max = told (played (fresh m) (0x14 ∷ 0x10002 ∷ 0x08 ∷ min ∷ 0x0c ∷ max ∷ 0x68 ∷ 0x20002 ∷ 0x70 ∷ 0xcc000105 ∷ []))
+
+-- ---- the lines of document 01: those that the definitions give at once, and those that are played as writes
 abbrev pub marked : List Line
 marked =
     -- five bits 1, 8, 16, 31 become 8, 66, 132, 255; six bits 1, 32, 63 become 4, 130, 255
@@ -91,6 +115,7 @@ marked =
     ∷ is (map narrowed (7 ∷ 8 ∷ [])) (0 ∷ 1 ∷ [])
     -- mono word 00000080: pixel 0; 00000100: pixel 15
     ∷ is (monoPixels 0x80) (0 ∷ []) ∷ is (monoPixels 0x100) (15 ∷ [])
+    ∷ is (hostPixels 0x80) (0 ∷ []) ∷ is (hostPixels 0x100) (15 ∷ [])
     -- ROP 5A, pattern FF, target 0F: F0
     ∷ is (ropBits 8 0x5a 0xff 0 0x0f ∷ []) (0xf0 ∷ [])
     -- line (0,0) to (3,1): (0,0) (1,0) (2,1) (3,1); (0,0) to (2,1): (0,0) (1,1) (2,1); back from (2,1): middle (1,0)
@@ -100,6 +125,7 @@ marked =
     -- lineStyle 00000101, three points: 01010101 after
     ∷ is (styleAfter (record { stipple = 0; stippled = true }) 3 0x101 ∷ []) (0x1010101 ∷ [])
     -- dstX 4095, width 1, bit 10: −4096, which is 4096 before the origin
+    ∷ is (signAndSize (signedOf (steppedXY 4095 1 true false))) (1 ∷ 4096 ∷ [])
     ∷ is ((origin - placed (steppedXY 4095 1 true false)) ∷ []) (4096 ∷ [])
     -- host mono 9 by 2: packing 1 needs 1 word, packing 3 needs 2
     ∷ is (map (λ packing. dataWords 0 (stepOf packing 0 9 0) 9 2) (1 ∷ 3 ∷ [])) (1 ∷ 2 ∷ [])
@@ -107,6 +133,15 @@ marked =
     ∷ is (map (λ x. viewAnswer 65536 0 0x40007 x 0 1) (1 ∷ 2 ∷ [])) (0 ∷ 7 ∷ [])
     ∷ []
 
+abbrev pub markedWrites : List Line
+markedWrites =
+    -- the same, of a fill
+    is (map (filledAt 0 0x40007) (1 ∷ 2 ∷ [])) (0 ∷ 7 ∷ [])
+    -- clip min 1, max 1: nothing, of a fill of four pixels, (1, 1) among them
+    ∷ is (clipped abcd 0x10001 0x10001) (65 ∷ 66 ∷ 67 ∷ 68 ∷ 0 ∷ 0 ∷ [])
+    ∷ []
+
+-- ---- the project's own samples of the requests
 abbrev pub thumbnails : List Line
 thumbnails =
     -- a stretch of 4 to 2 columns takes 0, 2; of 3 to 5 it takes 0, 0, 1, 1, 2
@@ -150,8 +185,8 @@ tiles =
     -- 24 bpp, 2 tiles across: pixel 42 has bytes 126, 127 and 4096
     ∷ is (map (byteOf (tiled 2 3) 42 0) (0 ∷ 1 ∷ 2 ∷ [])) (126 ∷ 127 ∷ 4096 ∷ [])
     -- 24 bpp, 1 tile across: a row has 42 pixels, so that x = 41 is taken and x = 42 a 7
-    ∷ is (rowPixels (tiled 1 3) ∷ filledAt 41 ∷ filledAt 42 ∷ []) (42 ∷ 0 ∷ 7 ∷ [])
+    ∷ is (rowPixels (tiled 1 3) ∷ map (filledAt 0x80000000 0x40001) (41 ∷ 42 ∷ [])) (42 ∷ 0 ∷ 7 ∷ [])
     ∷ []
 
 abbrev pub sheet : List Line
-sheet = marked ++ (thumbnails ++ (smears ++ tiles))
+sheet = marked ++ (markedWrites ++ (thumbnails ++ (smears ++ tiles)))
