@@ -4,8 +4,7 @@ use mathlib.Core.Path.{_≡_, refl, sym, ap, ap₂, _∙_}
 use mathlib.Core.Logic.{_⊎_, inl, inr, ⊎-elim}
 use mathlib.Core.Bool.{true, false}
 use mathlib.Core.List.{List}
-use Prim.Native.Nat.{ℕ, _+_, _-_, _*_, _/_, _%_, _^_, _<_, _≤_}
-use native.Mathlib.Nat.{add-mul}
+use Prim.Native.Nat.{ℕ, _+_, _-_, _*_, _^_, _<_, _≤_}
 use native.Mathlib.Omega.{arith}
 use native.Mathlib.Decide.{decLt}
 use lib.ListN.{getD}
@@ -14,7 +13,7 @@ use Rattle.surface.specs.Place.{rowBytes, byteAt}
 use Rattle.surface.specs.Asked.{Small, Near}
 use Rattle.surface.specs.Pixels.{Px, px, Inside}
 use Rattle.surface.proofs.Lists.{by-cases}
-use Rattle.surface.proofs.Rows.{by-layout, byteAt-flat, byteAt-tiled, rowBytes-flat, rowBytes-tiled, byteAt-inj, byteAt-small}
+use Rattle.surface.proofs.Rows.{by-layout, rowBytes-flat, rowBytes-tiled, byteAt-inj, byteAt-small, byteAt-rows, byteAt-tile}
 use Rattle.runs.proofs.Runs.{same-memory}
 use Rattle.blocks.specs.declared.Way.{Way}
 use Rattle.blocks.specs.Blocks.{Put, origin, originByte, Laid, pitch}
@@ -29,15 +28,10 @@ tiled-pitch s e = rw e
 
 pub block-at : (s : Surface) (x y i q n h : ℕ) → Columns s x n → Rows s y h → i < n → q < h → byteAt s (x + i) (y + q) ≡ byteAt s x y + (q * pitch s + i)
 block-at s x y i q n h columns rows li lq =
-    by-layout s
-    (λ e. rw (flat-pitch s e, byteAt-flat s (x + i) (y + q) e, byteAt-flat s x y e) (omega (arith, add-mul y q (s .stride))))
+    by-layout s (λ e. rw (flat-pitch s e) (byteAt-rows s e x y i q))
     (λ e. let c = columns .one e in
     let r = rows .one e in
-    let a : (x + i) / 128 ≡ x / 128 = omega arith in
-    let b : (x + i) % 128 ≡ x % 128 + i = omega arith in
-    let f : (y + q) / 32 ≡ y / 32 = omega arith in
-    let g : (y + q) % 32 ≡ y % 32 + q = omega arith in
-    rw (tiled-pitch s e, byteAt-tiled s (x + i) (y + q) e, byteAt-tiled s x y e, a, b, f, g) (omega arith))
+    rw (tiled-pitch s e) (byteAt-tile s e x y i q (omega arith) (omega arith)))
 
 pitch-small : (s : Surface) → Small s → pitch s < 2 ^ 17
 pitch-small s small = by-layout s (λ e. rw (flat-pitch s e) (small .stride)) (λ e. rw (tiled-pitch s e) (omega arith))

@@ -11,7 +11,7 @@ use lib.Dec.{leb, ltb}
 use Rattle.surface.specs.declared.Surface.{Surface}
 use Rattle.surface.specs.Place.{byteOf}
 use Rattle.surface.specs.Asked.{Small}
-use Rattle.surface.proofs.Rows.{byteAt-flat, byteAt-small}
+use Rattle.surface.proofs.Rows.{byteAt-small, byteAt-run, byteAt-rows}
 use Rattle.surface.proofs.Run.{run-pixel}
 use Rattle.surface.specs.Pixels.{origin}
 use Rattle.line.specs.declared.Point.{Point}
@@ -86,7 +86,7 @@ step-right s flat x x′ y e =
 step-down : (s : Surface) → s .tiled ≡ false → (x y y′ : ℕ) → y′ ≡ y + 1 → byteOf s x y′ 0 ≡ byteOf s x y 0 + s .stride
 unfolding byteOf
 step-down s flat x y y′ e =
-    rw e (omega (arith, byteAt-flat s (x * s .bytes + 0) y flat, byteAt-flat s (x * s .bytes + 0) (y + 1) flat, add-mul y 1 (s .stride)))
+    rw e (omega (arith, byteAt-rows s flat (x * s .bytes) y 0 1, byteAt-run s flat (x * s .bytes) 0 y))
 
 module _ (s : Surface) (flat : s .tiled ≡ false) (small : Small s) (x y : ℕ) (hx : x < 8192) (hy : y < 8192) where
   address-small : byteOf s x y 0 < 2 ^ 60

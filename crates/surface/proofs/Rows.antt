@@ -3,8 +3,8 @@
 -- Assumes nothing.
 use mathlib.Core.Path.{_≡_, refl}
 use mathlib.Core.Bool.{Bool, true, false}
-use Prim.Native.Nat.{ℕ, _+_, _*_, _^_, _<_, _≤_}
-use native.Mathlib.Nat.{mul-le-mul-right, mul-le-mul-left}
+use Prim.Native.Nat.{ℕ, _+_, _*_, _/_, _%_, _^_, _<_, _≤_}
+use native.Mathlib.Nat.{mul-le-mul-right, mul-le-mul-left, add-mul}
 use native.Mathlib.Omega.{arith}
 use Rattle.surface.specs.declared.Surface.{Surface}
 use Rattle.surface.specs.Place.{rowBytes, byteAt}
@@ -70,3 +70,15 @@ byteAt-area s c y h =
 -- ---- in rows the bytes of a row follow each other
 pub byteAt-run : (s : Surface) → s .tiled ≡ false → (c k y : ℕ) → byteAt s (c + k) y ≡ byteAt s c y + k
 byteAt-run s e c k y = omega (arith, byteAt-flat s c y e, byteAt-flat s (c + k) y e)
+
+-- and the rows do, at the stride; within a tile both do, the rows at 128 bytes
+pub byteAt-rows : (s : Surface) → s .tiled ≡ false → (c y k q : ℕ) → byteAt s (c + k) (y + q) ≡ byteAt s c y + (q * s .stride + k)
+byteAt-rows s e c y k q = omega (arith, byteAt-flat s c y e, byteAt-flat s (c + k) (y + q) e, add-mul y q (s .stride))
+
+pub byteAt-tile : (s : Surface) → s .tiled ≡ true → (c y k q : ℕ) → c % 128 + k < 128 → y % 32 + q < 32 → byteAt s (c + k) (y + q) ≡ byteAt s c y + (q * 128 + k)
+byteAt-tile s e c y k q hc hy =
+    let across : (c + k) / 128 ≡ c / 128 = omega arith in
+    let column : (c + k) % 128 ≡ c % 128 + k = omega arith in
+    let down : (y + q) / 32 ≡ y / 32 = omega arith in
+    let row : (y + q) % 32 ≡ y % 32 + q = omega arith in
+    rw (byteAt-tiled s (c + k) (y + q) e, byteAt-tiled s c y e, across, column, down, row) (omega arith)

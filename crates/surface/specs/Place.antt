@@ -21,7 +21,7 @@ alike a b = (a && b) || (not a && not b)
 abbrev pub sameSurface : Surface → Surface → Bool
 sameSurface a b = eqb (a .base) (b .base) && (eqb (a .stride) (b .stride) && (eqb (a .bytes) (b .bytes) && alike (a .tiled) (b .tiled)))
 
--- ---- the layout, which nothing else knows
+-- ---- the layout, by which every address is worked out. What goes row by row or tile by tile knows besides how far apart rows are, and a tile's sides
 
 -- how many bytes a row has
 unfoldable pub rowBytes : Surface → ℕ
