@@ -25,7 +25,7 @@ pub fn source_surface(r: Regs) -> Surface
     formats::source_of(r.srcBaseAddr, r.srcFormat, r.dstSize % 0x2000)
 }
 
-pub fn stretch_surface(r: Regs) -> Surface
+fn stretch_surface(r: Regs) -> Surface
     ensures { λ s. ⌜ s ≡ stretchOrigins r ⌝ }
 {
     formats::source_of(r.srcBaseAddr, r.srcFormat, r.srcSize % 0x2000)

@@ -210,7 +210,7 @@ pub fn mono_in_rows(mem: &[u8], s: Surface, x: u32, y: u32) -> u32
 }
 
 // The byte that a mono pixel lies in.
-pub fn mono_byte(mem: &[u8], s: Surface, x: u32, y: u32) -> u32
+fn mono_byte(mem: &[u8], s: Surface, x: u32, y: u32) -> u32
     requires { ⌜ OnMono s (length (now mem)) x y ⌝ }
     ensures { λ r. ⌜ (r ≡ getD (now (mem .entry)) (byteAt s (x / 8) y) 0) × (r < 256) ⌝ }
 {
