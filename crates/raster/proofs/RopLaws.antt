@@ -1,4 +1,4 @@
--- Laws of the raster operation, over the width: how large its result is, fewer bits of it, CC, AA and 5A, and codes that do not look at the pattern or the source.
+-- Laws of the raster operation, over the width: how large its result is, fewer bits of it, CC, AA and 5A, and codes that do not look at the pattern.
 -- Assumes nothing.
 use mathlib.Core.Path.{_≡_, refl, sym, ap, _∙_}
 use mathlib.Core.Bool.{true}
@@ -8,8 +8,7 @@ use native.Mathlib.Omega.{arith}
 use lib.Arith.{digits-lt, digits-div, digits-mod}
 use lib.Dec.{eqb}
 use borrow.Author.Tests.{eqb-true}
-use Rattle.raster.specs.Rop.{ropBit, ropBits, patternFree, sourceFree}
-use Rattle.colour.proofs.Tests.{and-left, and-right}
+use Rattle.raster.specs.Rop.{ropBit, ropBits, patternFree}
 use Rattle.colour.proofs.Bits.{Bit, off, on, bit, eight, two-pos, join, mod-suc, mod-half, mod-odd, alike}
 
 -- the result at its lowest bit, and above it
@@ -105,24 +104,3 @@ pattern-free zero code p q s d e = refl
 pattern-free (suc n) code p q s d e =
     join (pattern-free n code (p / 2) (q / 2) (s / 2) (d / 2) e)
     (pattern-bit code (omega (arith, eqb-true (code / 16 % 16) (code % 16) e)) (bit p) (bit s) (bit d) (bit q))
-
--- a code whose quarters for s = 0 and s = 1 are equal, in both halves, gives the same with any source
-source-bit : (code : ℕ) → code / 2 ^ 2 % 2 ^ 2 ≡ code / 2 ^ 0 % 2 ^ 2 → code / 2 ^ 6 % 2 ^ 2 ≡ code / 2 ^ 4 % 2 ^ 2
-    → {p s d t : ℕ} → Bit p → Bit s → Bit d → Bit t → ropBit code p s d ≡ ropBit code p t d
-unfolding ropBit
-source-bit code e f p s d t = low p s d ∙ sym (low p t d)
-  where
-    low : {p s d : ℕ} → Bit p → Bit s → Bit d → code / 2 ^ (4 * p + 2 * s + d) % 2 ≡ code / 2 ^ (4 * p + d) % 2
-    low =
-        eight (λ p s d. code / 2 ^ (4 * p + 2 * s + d) % 2 ≡ code / 2 ^ (4 * p + d) % 2)
-        refl refl (alike code 2 0 1 0 e) (alike code 2 0 0 1 e) refl refl (alike code 6 4 1 0 f) (alike code 6 4 0 1 f)
-
-pub source-free : (n code p s t d : ℕ) → sourceFree code ≡ true → ropBits n code p s d ≡ ropBits n code p t d
-unfolding ropBits
-source-free zero code p s t d e = refl
-source-free (suc n) code p s t d e =
-    join (source-free n code (p / 2) (s / 2) (t / 2) (d / 2) e)
-    (source-bit code
-    (omega (arith, eqb-true (code / 4 % 4) (code % 4) (and-left (eqb (code / 4 % 4) (code % 4)) (eqb (code / 64 % 4) (code / 16 % 4)) e)))
-    (eqb-true (code / 64 % 4) (code / 16 % 4) (and-right (eqb (code / 4 % 4) (code % 4)) (eqb (code / 64 % 4) (code / 16 % 4)) e))
-    (bit p) (bit s) (bit d) (bit t))

@@ -1,7 +1,7 @@
 -- The raster operation: each bit of the result is bit 4p + 2s + d of the code, for the bits p, s and d of pattern, source and target at its place.
 -- Assumes nothing.
 use Prim.Native.Nat.{ℕ, zero, suc, _+_, _*_, _/_, _%_, _^_}
-use mathlib.Core.Bool.{Bool, _&&_}
+use mathlib.Core.Bool.{Bool}
 use lib.Dec.{eqb}
 
 unfoldable pub ropBit : ℕ → ℕ → ℕ → ℕ → ℕ
@@ -15,7 +15,3 @@ ropBits (suc n) code p s d = ropBits n code (p / 2) (s / 2) (d / 2) * 2 + ropBit
 -- the half for p = 0 is the half for p = 1, so the pattern does not matter
 abbrev pub patternFree : ℕ → Bool
 patternFree code = eqb (code / 16 % 16) (code % 16)
-
--- in both halves the quarter for s = 0 is the quarter for s = 1, so the source does not matter
-abbrev pub sourceFree : ℕ → Bool
-sourceFree code = eqb (code / 4 % 4) (code % 4) && eqb (code / 64 % 4) (code / 16 % 4)

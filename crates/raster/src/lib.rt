@@ -1,7 +1,7 @@
-// Raster operations, and which of them look at neither the pattern nor the source.
+// Raster operations, and which of them do not look at the pattern.
 ghost use mathlib.Core.Path.{_≡_};
 ghost use Prim.Native.Nat.{_%_, _<_};
-ghost use Rattle.raster.specs.Rop.{ropBits, patternFree, sourceFree};
+ghost use Rattle.raster.specs.Rop.{ropBits, patternFree};
 ghost use Rattle.raster.specs.Masks.{mask, muxed, merged};
 
 // Of four values, at each bit the one whose number is 2s + d there.
@@ -44,11 +44,4 @@ pub fn is_pattern_free(code: u32) -> bool
     ensures { λ r. ⌜ r ≡ patternFree code ⌝ }
 {
     code / 16 % 16 == code % 16
-}
-
-// Whether the code gives the same whatever the source is.
-pub fn is_source_free(code: u32) -> bool
-    ensures { λ r. ⌜ r ≡ sourceFree code ⌝ }
-{
-    (code / 4 % 4 == code % 4) & (code / 64 % 4 == code / 16 % 4)
 }
