@@ -3,9 +3,9 @@
 use mathlib.Core.Path.{_≡_}
 use mathlib.Core.Bool.{cond}
 use mathlib.Core.List.{List}
-use Prim.Native.Nat.{ℕ, _+_, _*_, _-_, _/_, _%_, _^_, _<_}
+use Prim.Native.Nat.{ℕ, _+_, _*_, _-_, _/_, _%_, _^_, _<_, _≤_}
 use lib.Dec.{eqb}
-use lib.ListN.{getD}
+use lib.ListN.{length, getD}
 use Rattle.surface.specs.Place.{readBytes}
 use Rattle.ink.specs.declared.Ink.{Ink}
 
@@ -39,3 +39,10 @@ patternValue ink pattern x y = patternIn ink pattern (patternColumn ink x) (patt
 -- the eight values of a row of the pattern
 pub record RowOf (ink : Ink) (pattern : List ℕ) (row : ℕ) (values : List ℕ) : Type 0 where
   pub at : (c : ℕ) → c < 8 → getD values c 0 ≡ patternIn ink pattern c row
+  pub long : length values ≡ 8
+
+-- 64 values, of which number k is that at pixel (x + k % 8, y + k / 8) in the first rows of eight, and 0 after them
+pub record ValuesOf (ink : Ink) (pattern : List ℕ) (x y rows : ℕ) (values : List ℕ) : Type 0 where
+  pub at : (k : ℕ) → k < rows * 8 → getD values k 0 ≡ patternValue ink pattern (x + k % 8) (y + k / 8)
+  pub rest : (k : ℕ) → rows * 8 ≤ k → getD values k 0 ≡ 0
+  pub long : length values ≡ 64

@@ -1,10 +1,12 @@
 // What does not change within a command, and how its pattern lies.
 use surface::Surface;
 ghost use mathlib.Core.Path.{_≡_};
-ghost use Prim.Native.Nat.{_+_, _-_, _*_, _/_, _%_, _^_, _<_};
+ghost use mathlib.Core.Bool.{cond};
+ghost use Prim.Native.Nat.{_+_, _-_, _*_, _/_, _%_, _^_, _<_, _≤_};
+ghost use lib.Dec.{eqb};
 ghost use lib.ListN.{getD};
 ghost use Rattle.surface.specs.Asked.{Colour};
-ghost use Rattle.ink.specs.Pattern.{patternColumn, patternRow, patternBit, patternPixel, patternIn, patternValue, RowOf};
+ghost use Rattle.ink.specs.Pattern.{patternColumn, patternRow, patternIn, patternValue, RowOf, ValuesOf};
 ghost use Rattle.ink.specs.Asked.{Cell};
 
 // What does not change within a command: the target, the colours, the four raster operations, the two keys, and how the pattern lies.
@@ -65,45 +67,53 @@ pub fn bit_of(byte: u32, column: u32) -> u32
     (byte >> (7 - column)) % 2
 }
 
-fn pattern_bit(pattern: [u8; 256], column: u32, row: u32) -> u32
-    requires { ⌜ (column < 8) × (row < 8) ⌝ }
-    ensures { λ r. ⌜ r ≡ patternBit pattern column row ⌝ }
+// Four bytes as a number, low byte first.
+fn word_of(b0: u8, b1: u8, b2: u8, b3: u8) -> u32
+    ensures { λ r. ⌜ r ≡ b0 + 256 * (b1 + 256 * (b2 + 256 * b3)) ⌝ }
 {
-    bit_of(pattern_byte(pattern, row), column)
+    wide(b0) + 256 * (wide(b1) + 256 * (wide(b2) + 256 * wide(b3)))
 }
 
-fn pattern_pixel(bytes: u32, pattern: [u8; 256], column: u32, row: u32) -> u32
-    requires { ⌜ Cell bytes column row ⌝ }
-    ensures { λ r. ⌜ r ≡ patternPixel bytes pattern column row ⌝ }
+// The first n of them.
+fn low_bytes(n: u32, word: u32) -> u32
+    requires { ⌜ (0 < n) × (n < 5) ⌝ }
+    ensures { λ r. ⌜ r ≡ word % 256 ^ n ⌝ }
 {
-    let at = (row * 8 + column) * bytes;
-    let b0 = pattern_byte(pattern, at);
-    if bytes == 1 {
-        return b0;
+    match n {
+        1 => word % 0x100,
+        2 => word % 0x1_0000,
+        3 => word % 0x100_0000,
+        _ => word,
     }
-    let b1 = pattern_byte(pattern, at + 1);
-    if bytes == 2 {
-        return b0 + 256 * b1;
+}
+
+// The value at a column: of a mono pattern by its row's byte, of a colour pattern by the four bytes from the pixel's place on.
+fn value_of(ink: Ink, byte: u32, column: u32, word: u32) -> u32
+    requires { ⌜ (0 < ink .target .bytes) × (ink .target .bytes < 5) × (column < 8) ⌝ }
+    ensures { λ r. ⌜ r ≡ cond (ink .mono) (cond (eqb (byte / 2 ^ (7 - column) % 2) 1) (ink .fore) (ink .back)) (word % 256 ^ ink .target .bytes) ⌝ }
+{
+    if ink.mono {
+        if bit_of(byte, column) == 1 {
+            return ink.fore;
+        }
+        return ink.back;
     }
-    let b2 = pattern_byte(pattern, at + 2);
-    if bytes == 3 {
-        return b0 + 256 * (b1 + 256 * b2);
-    }
-    let b3 = pattern_byte(pattern, at + 3);
-    b0 + 256 * (b1 + 256 * (b2 + 256 * b3))
+    low_bytes(ink.target.bytes, word)
 }
 
 fn pattern_in(ink: Ink, pattern: [u8; 256], column: u32, row: u32) -> u32
     requires { ⌜ Cell (ink .target .bytes) column row ⌝ }
     ensures { λ r. ⌜ r ≡ patternIn ink pattern column row ⌝ }
 {
-    if ink.mono {
-        if pattern_bit(pattern, column, row) == 1 {
-            return ink.fore;
-        }
-        return ink.back;
-    }
-    pattern_pixel(ink.target.bytes, pattern, column, row)
+    let at = ((row * 8 + column) * ink.target.bytes) as usize;
+    let byte = wide(pattern[row as usize]);
+    let word = word_of(
+        pattern[at],
+        pattern[at + 1],
+        pattern[at + 2],
+        pattern[at + 3],
+    );
+    value_of(ink, byte, column, word)
 }
 
 // The pattern at a pixel.
@@ -124,6 +134,35 @@ pub fn row_values(ink: Ink, pattern: [u8; 256], row: u32) -> [u32; 8]
     while column < 8 {
         values[column as usize] = pattern_in(ink, pattern, column, row);
         column += 1;
+    }
+    values
+}
+
+// The values at the first rows, at most eight, of eight pixels from (x, y) on.
+pub fn values_at(ink: Ink, pattern: [u8; 256], x: u32, y: u32, rows: u32) -> [u32; 64]
+    requires { ⌜ Colour (ink .target) × (x ≤ 2 ^ 13) × (y ≤ 2 ^ 13) × (rows ≤ 8) ⌝ }
+    ensures { λ r. ⌜ ValuesOf ink pattern x y rows r ⌝ }
+{
+    let n = ink.target.bytes;
+    let mut values = [0u32; 64];
+    let mut j = 0;
+    while j < rows {
+        let row = pattern_row(ink, y + j);
+        let byte = wide(pattern[row as usize]);
+        let mut i = 0;
+        while i < 8 {
+            let column = pattern_column(ink, x + i);
+            let at = ((row * 8 + column) * n) as usize;
+            let word = word_of(
+                pattern[at],
+                pattern[at + 1],
+                pattern[at + 2],
+                pattern[at + 3],
+            );
+            values[(j * 8 + i) as usize] = value_of(ink, byte, column, word);
+            i += 1;
+        }
+        j += 1;
     }
     values
 }

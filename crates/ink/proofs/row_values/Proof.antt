@@ -44,7 +44,7 @@ loop-again c =
     (omega arith, simp length-set (k .inv .1), filled-more (k .values) (k .column) _ (λ j. patternIn (a .ink) (a .pattern) j (a .row)) (omega arith) (c .pattern-in .ensures) (k .inv .2))
 
 returns : tie.Need-returns Inv-loop μ-loop
-returns c = record { at = λ j h. c .before .loop .inv .2 j (omega arith) }
+returns c = record { at = λ j h. c .before .loop .inv .2 j (omega arith); long = c .before .loop .inv .1 }
 
 pub row-values-spec : {M : Type 1} → statement M
 row-values-spec =
