@@ -62,7 +62,7 @@ set-bytes m i v h b a =
     (λ l. rw (set-out m i v (omega arith)) (b a)))
     (λ e. rw (getD-set-other m i a v 0 e) (b a))
 
-write-bytes : (at : ℕ → ℕ) (k n v : ℕ) (m : List ℕ) → Bytes m → Bytes (writeBytes at k n v m)
+pub write-bytes : (at : ℕ → ℕ) (k n v : ℕ) (m : List ℕ) → Bytes m → Bytes (writeBytes at k n v m)
 unfolding writeBytes
 write-bytes at k zero v m b = b
 write-bytes at k (suc n) v m b = write-bytes at (suc k) n (v / 256) (set m (at k) (v % 256)) (set-bytes m (at k) (v % 256) (omega arith) b)

@@ -18,12 +18,11 @@ use Rattle.surface.proofs.Rects.{in-across, in-rect}
 use Rattle.ink.specs.declared.Ink.{Ink}
 use Rattle.paint.specs.Paint.{State, state, touch, dab, paint}
 use Rattle.paint.specs.Mix.{fillSource, chosen, mixed}
-use Rattle.ink.specs.Pattern.{patternColumn, patternRow, patternBit, patternIn}
+use Rattle.ink.specs.Pattern.{patternColumn, patternRow, patternBit, patternValue}
 use Rattle.paint.proofs.Turns.{paint-same}
 use Rattle.tint.specs.declared.Mask.{Mask}
-use Rattle.tint.specs.declared.Masks.{Masks}
 use Rattle.tint.specs.Tint.{filling, fillings}
-use Rattle.tint.specs.Masking.{ones, masked, byMask, maskBy, becomes, maskOf, maskIn, maskRows, tinting, tintings, downTint, downTints, MasksOf}
+use Rattle.tint.specs.Masking.{ones, masked, byMask, maskBy, becomes, maskFor, maskOf, maskIn, maskRows, tinting, tintings, downTint, downTints, Tables, MasksOf}
 use Rattle.tint.specs.Asked.{Sound}
 use Rattle.tint.proofs.MaskLaws.{mask-rop}
 use Rattle.tint.proofs.ByteLaws.{put-low}
@@ -58,28 +57,24 @@ unfolding byMask
 by-gives true o z old = refl
 by-gives false o z old = refl
 
-module _ (ink : Ink) (pattern : List ℕ) (column row : ℕ) where
+module _ (ink : Ink) (value bit : ℕ) where
   -- the mask as the code makes it
-  pub mask-made : {bit o z : ℕ} {left : Bool} → bit ≡ patternBit pattern column row → (ink .clear && (ink .mono && eqb bit 0)) ≡ left
-      → o ≡ becomes ink pattern column row ones → z ≡ becomes ink pattern column row 0 → maskBy left o z ≡ maskOf ink pattern column row
-  unfolding maskOf fillSource
-  mask-made {bit} {o} {z} {left} b t f g =
-      ap (λ (l : Bool). maskBy l o z) (sym t) ∙ ap (λ (n : ℕ). maskBy (ink .clear && (ink .mono && eqb n 0)) o z) b
-      ∙ ap₂ (maskBy (ink .clear && (ink .mono && eqb (patternBit pattern column row) 0))) f g
+  pub mask-made : {o z : ℕ} {left : Bool} → (ink .clear && (ink .mono && eqb bit 0)) ≡ left → o ≡ becomes ink value ones → z ≡ becomes ink value 0 → maskBy left o z ≡ maskFor ink value bit
+  unfolding maskFor fillSource
+  mask-made {o} {z} {left} t f g = ap (λ (l : Bool). maskBy l o z) (sym t) ∙ ap₂ (maskBy (ink .clear && (ink .mono && eqb bit 0))) f g
 
-  mask-sound : (n : ℕ) → Sound n (maskOf ink pattern column row .keep % 256 ^ n) (maskOf ink pattern column row .flip % 256 ^ n) (maskOf ink pattern column row .adds)
-  unfolding maskOf
-  mask-sound n = by-sound n (fillSource ink (patternBit pattern column row) .left) (becomes ink pattern column row ones) (becomes ink pattern column row 0)
+  mask-sound : (n : ℕ) → Sound n (maskFor ink value bit .keep % 256 ^ n) (maskFor ink value bit .flip % 256 ^ n) (maskFor ink value bit .adds)
+  unfolding maskFor
+  mask-sound n = by-sound n (fillSource ink bit .left) (becomes ink value ones) (becomes ink value 0)
 
   mask-fills : (old : ℕ) → ink .dstKey ≡ false
-      → byMask (maskOf ink pattern column row .keep) (maskOf ink pattern column row .flip) (maskOf ink pattern column row .adds) old
-      ≡ mixed ink (patternIn ink pattern column row) (fillSource ink (patternBit pattern column row)) old
-  unfolding maskOf mixed chosen fillSource patternIn
+      → byMask (maskFor ink value bit .keep) (maskFor ink value bit .flip) (maskFor ink value bit .adds) old ≡ mixed ink value (fillSource ink bit) old
+  unfolding maskFor mixed chosen fillSource
   mask-fills old key =
-      let left = fillSource ink (patternBit pattern column row) .left in
+      let left = fillSource ink bit .left in
       rw key
-      (by-gives left (becomes ink pattern column row ones) (becomes ink pattern column row 0) old
-      ∙ ap {B = Option ℕ} (λ (v : ℕ). cond left none (some v)) (mask-rop (ink .rop0) (patternIn ink pattern column row) (ink .fore) old))
+      (by-gives left (becomes ink value ones) (becomes ink value 0) old
+      ∙ ap {B = Option ℕ} (λ (v : ℕ). cond left none (some v)) (mask-rop (ink .rop0) value (ink .fore) old))
 
 -- n bytes of a mask do for a pixel of n bytes
 low-gives : (s : Surface) (p : Px) (keep flip adds old : ℕ) (st : State)
@@ -100,7 +95,7 @@ paint-dab s f g (p ∷ ps) h st =
     ap (λ (next : State). paint s (map (λ p. touch p (f p)) ps) next) (h p (List·Memᴰ·head refl) st)
     ∙ paint-dab s f g ps (λ q i. h q (List·Memᴰ·tail i)) (dab s p (g p (st .mem)) st)
 
-module _ (ink : Ink) (pattern : List ℕ) (x y rows : ℕ) (m : Masks) (of : MasksOf ink pattern x y rows m) where
+module _ (ink : Ink) (pattern : List ℕ) (x y rows : ℕ) {old : Tables} (m : Tables) (of : MasksOf ink pattern x y rows old m) where
   abbrev n : ℕ
   n = ink .target .bytes
 
@@ -110,7 +105,7 @@ module _ (ink : Ink) (pattern : List ℕ) (x y rows : ℕ) (m : Masks) (of : Mas
   row-sound j l i h =
       let k = j % 8 * 8 + i in
       let b : k < rows * 8 = omega arith in
-      rw (of .keep k b, of .flip k b, of .adds k b) (mask-sound ink pattern (patternColumn ink (x + k % 8)) (patternRow ink (y + k / 8)) n)
+      rw (of .keep .made k b, of .flip .made k b, of .adds .made k b) (mask-sound ink (patternValue ink pattern (x + k % 8) (y + k / 8)) (patternBit pattern (patternColumn ink (x + k % 8)) (patternRow ink (y + k / 8))) n)
 
   -- and give its pixels what the fill gives them
   pixel-fills : ink .dstKey ≡ false → (j : ℕ) → j % 8 < rows → (p : Px) → x ≤ p .x → p .y ≡ y + j → (st : State)
@@ -125,9 +120,9 @@ module _ (ink : Ink) (pattern : List ℕ) (x y rows : ℕ) (m : Masks) (of : Mas
       let same = ap₂ (maskOf ink pattern) column row in
       let there = maskOf ink pattern (patternColumn ink (p .x)) (patternRow ink (p .y)) in
       let old = readPx (st .mem) (ink .target) (p .x) (p .y) in
-      rw (of .keep k b ∙ ap (λ (t : Mask). t .keep % 256 ^ n) same, of .flip k b ∙ ap (λ (t : Mask). t .flip % 256 ^ n) same, of .adds k b ∙ ap (λ (t : Mask). t .adds) same)
+      rw (of .keep .made k b ∙ ap (λ (t : Mask). t .keep % 256 ^ n) same, of .flip .made k b ∙ ap (λ (t : Mask). t .flip % 256 ^ n) same, of .adds .made k b ∙ ap (λ (t : Mask). t .adds) same)
       (low-gives (ink .target) p (there .keep) (there .flip) (there .adds) old st
-      ∙ ap (λ (o : Option ℕ). dab (ink .target) p o st) (mask-fills ink pattern (patternColumn ink (p .x)) (patternRow ink (p .y)) old key))
+      ∙ ap (λ (o : Option ℕ). dab (ink .target) p o st) (mask-fills ink (patternValue ink pattern (p .x) (p .y)) (patternBit pattern (patternColumn ink (p .x)) (patternRow ink (p .y))) old key))
 
   -- and so the rectangle's
   pub rect-fills : ink .dstKey ≡ false → (w h : ℕ) → ((j : ℕ) → j < h → j % 8 < rows) → (st : State)

@@ -8,7 +8,13 @@ use lib.ListN.{length, getD}
 use Rattle.surface.specs.declared.Surface.{Surface}
 use Rattle.surface.specs.Asked.{Colour}
 use Rattle.runs.specs.Asked.{RowOn}
-use Rattle.tint.specs.Masking.{ones, maskIn}
+use Rattle.tint.specs.Masking.{ones, maskIn, Tables}
+
+-- as long as 64 masks want, of four bytes at most
+pub record Whole (t : Tables) : Type 0 where
+  pub keeps : length (t .keep) ≡ 256
+  pub flips : length (t .flip) ≡ 256
+  pub counts : length (t .adds) ≡ 64
 
 -- a mask for n bytes that counts a pixel, or leaves it
 pub record Sound (n keep flip adds : ℕ) : Type 0 where

@@ -4,7 +4,7 @@ use mathlib.Core.Path.{_≡_}
 use mathlib.Core.Bool.{Bool, true, false, cond}
 use mathlib.Core.List.{List, map}
 use mathlib.Core.Option.{Option, none, some}
-use Prim.Native.Nat.{ℕ, zero, suc, _+_, _-_, _*_, _/_, _%_, _^_, _<_}
+use Prim.Native.Nat.{ℕ, zero, suc, _+_, _-_, _*_, _/_, _%_, _^_, _<_, _≤_}
 use lib.Dec.{eqb, ltb}
 use lib.Bits.{bitAnd, bitXor}
 use lib.ListN.{length, getD, set}
@@ -17,7 +17,6 @@ use Rattle.paint.specs.Paint.{Touch, touch}
 use Rattle.paint.specs.Mix.{fillSource}
 use Rattle.ink.specs.Pattern.{patternColumn, patternRow, patternBit, patternIn}
 use Rattle.tint.specs.declared.Mask.{Mask}
-use Rattle.tint.specs.declared.Masks.{Masks}
 
 -- all the bits of a pixel
 abbrev pub ones : ℕ
@@ -40,14 +39,17 @@ abbrev pub maskBy : Bool → ℕ → ℕ → Mask
 maskBy true fromOnes fromZeros = mask ones 0 0
 maskBy false fromOnes fromZeros = mask (bitXor fromOnes fromZeros) fromZeros 1
 
--- what a fill without a target key makes of an old pixel, at a column and a row of the pattern
-abbrev pub becomes : Ink → List ℕ → ℕ → ℕ → ℕ → ℕ
-becomes ink pattern column row old = ropBits 32 (ink .rop0) (patternIn ink pattern column row) (ink .fore) old
+-- what a fill without a target key makes of an old pixel where the pattern has this value
+abbrev pub becomes : Ink → ℕ → ℕ → ℕ
+becomes ink value old = ropBits 32 (ink .rop0) value (ink .fore) old
 
--- its mask there
-unfoldable pub maskOf : Ink → List ℕ → ℕ → ℕ → Mask
-maskOf ink pattern column row =
-    maskBy (fillSource ink (patternBit pattern column row) .left) (becomes ink pattern column row ones) (becomes ink pattern column row 0)
+-- its mask there, for a pattern that has this bit if it is mono
+unfoldable pub maskFor : Ink → ℕ → ℕ → Mask
+maskFor ink value bit = maskBy (fillSource ink bit .left) (becomes ink value ones) (becomes ink value 0)
+
+-- the mask at a column and a row of the pattern
+abbrev pub maskOf : Ink → List ℕ → ℕ → ℕ → Mask
+maskOf ink pattern column row = maskFor ink (patternIn ink pattern column row) (patternBit pattern column row)
 
 -- ---- masks as bytes, in a table for pixels of n bytes
 
@@ -87,10 +89,34 @@ maskRows h = cond (ltb h 8) h 8
 abbrev pub maskHere : Ink → List ℕ → ℕ → ℕ → ℕ → Mask
 maskHere ink pattern x y k = maskOf ink pattern (patternColumn ink (x + k % 8)) (patternRow ink (y + k / 8))
 
--- tables of masks, of which number k is that of pixel (x + k % 8, y + k / 8), in the first rows of eight
-pub record MasksOf (ink : Ink) (pattern : List ℕ) (x y rows : ℕ) (m : Masks) : Type 0 where
-  pub keep : (k : ℕ) → k < rows * 8 → maskIn (ink .target .bytes) (m .keep) k ≡ maskHere ink pattern x y k .keep % 256 ^ ink .target .bytes
-  pub flip : (k : ℕ) → k < rows * 8 → maskIn (ink .target .bytes) (m .flip) k ≡ maskHere ink pattern x y k .flip % 256 ^ ink .target .bytes
-  pub adds : (k : ℕ) → k < rows * 8 → getD (m .adds) k 0 ≡ maskHere ink pattern x y k .adds
-  pub keeps : length (m .keep) ≡ 256
-  pub flips : length (m .flip) ≡ 256
+-- a table for pixels of n bytes whose first masks have become these, so many; the bytes after them are as they were, and bytes stay bytes
+pub record Table (n many : ℕ) (masks : ℕ → ℕ) (old new : List ℕ) : Type 0 where
+  pub made : (k : ℕ) → k < many → maskIn n new k ≡ masks k % 256 ^ n
+  pub rest : (a : ℕ) → many * n ≤ a → getD new a 0 ≡ getD old a 0
+  pub long : length new ≡ length old
+  pub bytes : ((a : ℕ) → getD old a 0 < 256) → (a : ℕ) → getD new a 0 < 256
+
+-- the same of a table with a number for each pixel
+pub record Numbers (many : ℕ) (numbers : ℕ → ℕ) (old new : List ℕ) : Type 0 where
+  pub made : (k : ℕ) → k < many → getD new k 0 ≡ numbers k
+  pub rest : (k : ℕ) → many ≤ k → getD new k 0 ≡ getD old k 0
+  pub long : length new ≡ length old
+
+-- the tables of masks, in their three parts
+pub record Tables : Type 0 where
+  pub keep : List ℕ
+  pub flip : List ℕ
+  pub adds : List ℕ
+
+abbrev pub tables : List ℕ → List ℕ → List ℕ → Tables
+tables keep flip adds = record { keep = keep; flip = flip; adds = adds }
+
+-- tables whose first masks have become those of pixels from (x, y) on, so many in rows of eight
+pub record MadeOf (ink : Ink) (pattern : List ℕ) (x y many : ℕ) (old new : Tables) : Type 0 where
+  pub keep : Table (ink .target .bytes) many (λ k. maskHere ink pattern x y k .keep) (old .keep) (new .keep)
+  pub flip : Table (ink .target .bytes) many (λ k. maskHere ink pattern x y k .flip) (old .flip) (new .flip)
+  pub adds : Numbers many (λ k. maskHere ink pattern x y k .adds) (old .adds) (new .adds)
+
+-- the first rows of them
+abbrev pub MasksOf : Ink → List ℕ → ℕ → ℕ → ℕ → Tables → Tables → Type 0
+MasksOf ink pattern x y rows old new = MadeOf ink pattern x y (rows * 8) old new

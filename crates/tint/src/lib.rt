@@ -8,11 +8,9 @@ ghost use lib.ListN.{length};
 ghost use Rattle.surface.specs.Asked.{Colour};
 ghost use Rattle.surface.specs.Pixels.{across, rect};
 ghost use Rattle.paint.specs.Paint.{state, paint};
-ghost use Rattle.ink.specs.Pattern.{patternBit, patternIn};
-ghost use Rattle.ink.specs.Asked.{Cell};
 ghost use Rattle.runs.specs.Asked.{RectOn};
-ghost use Rattle.tint.specs.Masking.{blended, maskOf, maskRows, tintings, downTints, MasksOf};
-ghost use Rattle.tint.specs.Asked.{RowsSound, CanTint};
+ghost use Rattle.tint.specs.Masking.{blended, maskFor, maskRows, tintings, downTints, tables, MasksOf};
+ghost use Rattle.tint.specs.Asked.{Whole, RowsSound, CanTint};
 
 // The bits of a pixel that are kept, those that are then turned over, and 1 if the pixel is written.
 pub struct Mask {
@@ -21,41 +19,16 @@ pub struct Mask {
     pub adds: u32,
 }
 
-// The masks of eight rows of eight pixels, as bytes in the target's format.
-pub struct Masks {
-    pub keep: [u8; 256],
-    pub flip: [u8; 256],
-    pub adds: [u32; 64],
-}
-
 fn wide(x: u8) -> u32
     ensures { λ r. ⌜ r ≡ x ⌝ }
 {
     x as u32
 }
 
-// The pattern's value at a column and a row, where its bit is known.
-fn value_at(ink: Ink, pattern: &[u8; 256], bit: u32, column: u32, row: u32) -> u32
-    requires { ⌜ Cell (ink .target .bytes) column row × (bit ≡ patternBit (now pattern) column row) ⌝ }
-    ensures { λ r. ⌜ r ≡ patternIn ink (now (pattern .entry)) column row ⌝ }
+// The mask of a fill where the pattern has this value, and this bit if it is mono.
+fn mask_of(ink: Ink, value: u32, bit: u32) -> Mask
+    ensures { λ r. ⌜ r ≡ maskFor ink value bit ⌝ }
 {
-    if ink.mono {
-        if bit == 1 {
-            return ink.fore;
-        }
-        return ink.back;
-    }
-    let n = ink.target.bytes;
-    let at = ((row * 8 + column) * n) as usize;
-    surface::get_bytes(pattern, at, n)
-}
-
-// The mask of a fill there.
-fn mask_at(ink: Ink, pattern: &[u8; 256], column: u32, row: u32) -> Mask
-    requires { ⌜ Cell (ink .target .bytes) column row ⌝ }
-    ensures { λ r. ⌜ r ≡ maskOf ink (now (pattern .entry)) column row ⌝ }
-{
-    let bit = ink::bit_of(wide(pattern[row as usize]), column);
     if ink.clear & (ink.mono & (bit == 0)) {
         return Mask {
             keep: 0xffff_ffff,
@@ -63,7 +36,6 @@ fn mask_at(ink: Ink, pattern: &[u8; 256], column: u32, row: u32) -> Mask
             adds: 0,
         };
     }
-    let value = value_at(ink, pattern, bit, column, row);
     let flip = raster::raster(ink.rop0, value, ink.fore, 0);
     Mask {
         keep: raster::raster(ink.rop0, value, ink.fore, 0xffff_ffff) ^ flip,
@@ -72,30 +44,38 @@ fn mask_at(ink: Ink, pattern: &[u8; 256], column: u32, row: u32) -> Mask
     }
 }
 
-// The masks of the first rows, at most eight, from pixel (x, y) on.
-pub fn masks_at(ink: Ink, pattern: &[u8; 256], x: u32, y: u32, rows: u32) -> Masks
-    requires { ⌜ Colour (ink .target) × (x ≤ 2 ^ 13) × (y ≤ 2 ^ 13) × (rows ≤ 8) ⌝ }
-    ensures { λ r. ⌜ MasksOf ink (now (pattern .entry)) x y rows r ⌝ }
+// The masks of the first rows, at most eight, of eight pixels from (x, y) on, in the target's format, put at the start of three tables.
+pub fn masks_at(
+    keep: &mut [u8; 256],
+    flip: &mut [u8; 256],
+    adds: &mut [u32; 64],
+    ink: Ink,
+    pattern: [u8; 256],
+    x: u32,
+    y: u32,
+    rows: u32,
+)
+    requires { ⌜ Colour (ink .target) × (x ≤ 2 ^ 13) × (y ≤ 2 ^ 13) × (rows ≤ 8) × Whole (tables (now keep) (now flip) (now adds)) ⌝ }
+    ensures { λ _. ⌜ MasksOf ink pattern x y rows (tables (now (keep .entry)) (now (flip .entry)) (now (adds .entry))) (tables (now (keep .exit)) (now (flip .exit)) (now (adds .exit))) ⌝ }
 {
     let n = ink.target.bytes;
-    let mut keep = [0u8; 256];
-    let mut flip = [0u8; 256];
-    let mut adds = [0u32; 64];
-    let mut k = 0;
-    while k < rows * 8 {
-        let column = ink::pattern_column(ink, x + k % 8);
-        let row = ink::pattern_row(ink, y + k / 8);
-        let m = mask_at(ink, pattern, column, row);
-        let at = (k * n) as usize;
-        surface::put_bytes(&mut keep, at, n, m.keep);
-        surface::put_bytes(&mut flip, at, n, m.flip);
-        adds[k as usize] = m.adds;
-        k += 1;
-    }
-    Masks {
-        keep: keep,
-        flip: flip,
-        adds: adds,
+    let values = ink::values_at(ink, pattern, x, y, rows);
+    let mut j = 0;
+    while j < rows {
+        let row = ink::pattern_row(ink, y + j);
+        let byte = wide(pattern[row as usize]);
+        let mut i = 0;
+        while i < 8 {
+            let bit = ink::bit_of(byte, ink::pattern_column(ink, x + i));
+            let k = j * 8 + i;
+            let m = mask_of(ink, values[k as usize], bit);
+            let at = (k * n) as usize;
+            surface::put_bytes(keep, at, n, m.keep);
+            surface::put_bytes(flip, at, n, m.flip);
+            adds[k as usize] = m.adds;
+            i += 1;
+        }
+        j += 1;
     }
 }
 

@@ -198,10 +198,10 @@ pub fn wash_rows(
     ensures { λ r. ⌜ state (now (mem .exit)) r ≡ paint (ink .target) (fillings ink pattern (rect false false x y w h)) (state (now (mem .entry)) 0) ⌝ }
 {
     let rows = tint::mask_rows(h);
-    let m = tint::masks_at(ink, &pattern, x, y, rows);
-    let keep = m.keep;
-    let flip = m.flip;
-    let adds = m.adds;
+    let mut keep = [0u8; 256];
+    let mut flip = [0u8; 256];
+    let mut adds = [0u32; 64];
+    tint::masks_at(&mut keep, &mut flip, &mut adds, ink, pattern, x, y, rows);
     let s = ink.target;
     if !s.tiled {
         return tint::tint_rows(mem, s, &keep, &flip, &adds, x, y, w, h);
