@@ -102,6 +102,12 @@ placed-moved raw size =
 plus-last : (p q n : ℕ) → (pos p -ℤ pos q) +ℤ pos n ≡ pos (p + n) -ℤ pos q
 plus-last p q n = +ℤ-assoc (pos p) (negℤ (pos q)) (pos n) ∙ ap (λ z. pos p +ℤ z) (+ℤ-comm (negℤ (pos q)) (pos n)) ∙ sym (+ℤ-assoc (pos p) (pos n) (negℤ (pos q)))
 
+-- the signed reading, counted from the origin, is the natural one
+pub origin-signed : (raw : ℕ) → pos origin +ℤ signedOf raw ≡ pos (placed raw)
+origin-signed raw =
+    +ℤ-comm (pos origin) (signedOf raw) ∙ ap (λ z. z +ℤ pos origin) (signed-placed raw) ∙ plus-last (placed raw) origin origin
+    ∙ rw (le-ltb (placed raw + origin) origin (omega arith)) (ap pos (omega arith))
+
 pub signed-moved : (raw size : ℕ) → signedOf (moved raw size) +ℤ pos (8192 * wraps raw size) ≡ signedOf raw +ℤ pos size
 signed-moved raw size =
     ap (λ z. z +ℤ pos (8192 * wraps raw size)) (signed-placed (moved raw size))

@@ -11,11 +11,11 @@ pub fn signed13(raw: u32) -> i32
     if v < 4096 { v as i32 } else { v as i32 - 8192 }
 }
 
-// The same position as a natural number, with the origin at 16384.
+// The same position as a natural number: read as signed, with the origin at 16384.
 pub fn place13(raw: u32) -> u32
     ensures { λ r. ⌜ r ≡ placed raw ⌝ }
 {
-    (raw % 8192 + 4096) % 8192 + 12288
+    (16384 + signed13(raw)) as u32
 }
 
 // A position moved by a size, wrapped within its 13 bits.
