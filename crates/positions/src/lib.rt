@@ -4,7 +4,7 @@ ghost use Prim.Native.Nat.{_<_};
 ghost use Rattle.positions.specs.Position.{signedOf, placed, moved, stepped, steppedXY};
 
 // The low 13 bits as a signed number.
-pub fn signed13(raw: u32) -> i32
+fn signed13(raw: u32) -> i32
     ensures { λ r. ⌜ r ≡ signedOf raw ⌝ }
 {
     let v = raw % 8192;
@@ -19,7 +19,7 @@ pub fn place13(raw: u32) -> u32
 }
 
 // A position moved by a size, wrapped within its 13 bits.
-pub fn step13(raw: u32, size: u32) -> u32
+fn step13(raw: u32, size: u32) -> u32
     ensures { λ r. ⌜ r ≡ moved raw size ⌝ }
 {
     (raw % 8192 + size % 8192) % 8192
