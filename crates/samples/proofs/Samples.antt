@@ -30,7 +30,7 @@ use Rattle.command.specs.Decode.{inkOf, fillTask, copyTask}
 use Rattle.table.specs.Table.{allOnAt, fillVerdict, copyVerdict}
 use Rattle.acts.specs.Deed.{rectEnded, carrying}
 use Rattle.engine.specs.Step.{freshEngine, refusal, storedIn, carried, commanded, toRegister, written}
-use Rattle.samples.specs.Sheet.{Line, marked, markedWrites, thumbnails, rowSmears, columnSmears, keyed, keyedSmears, smears, tiles, sheet}
+use Rattle.samples.specs.Sheet.{Line, marked, playedLines, thumbnails, rowSmears, columnSmears, keyed, keyedSmears, smears, tiles, sheet}
 
 -- the lines of a list hold
 abbrev Hold : List Line → Type 0
@@ -43,9 +43,9 @@ marked-hold : Hold marked
 unfolding ropBit ropBits rowBytes byteAt monoBit rowPixels firstByte byteCount inMemory onSurface across allOn targetOf rowLength stepOf dataBytes dataWords viewAnswer far towards xMajor longer shorter aside place pointAt pointsFrom pointCount points stepped after styleAfter bitsOf valueOf whole run byByte byBytes byWord signedOf steppedXY
 marked-hold = refl
 
-writes-hold : Hold markedWrites
+played-hold : Hold playedLines
 unfolding rowBytes byteAt rowPixels firstByte byteCount inMemory onSurface across allOn targetOf steppedXY ropBit ropBits byteOf readBytes writeBytes readPx writePx rect patternBit patternPixel patternIn dab paint fillSource chosen mixed sourcePlace sourceBy giving kept putReg placeOf freshBank stored clipOf cutAt fillCut inkOf fillTask fillVerdict rectEnded carrying freshEngine refusal storedIn carried commanded toRegister written
-writes-hold = refl
+played-hold = refl
 
 thumbnails-hold : Hold thumbnails
 unfolding scaled
@@ -79,6 +79,6 @@ tiles-hold = refl
 
 pub samples : map (λ line. line .given) sheet ≡ map (λ line. line .said) sheet
 samples =
-    joined marked (markedWrites ++ (thumbnails ++ (smears ++ tiles))) marked-hold
-    (joined markedWrites (thumbnails ++ (smears ++ tiles)) writes-hold
+    joined marked (playedLines ++ (thumbnails ++ (smears ++ tiles))) marked-hold
+    (joined playedLines (thumbnails ++ (smears ++ tiles)) played-hold
     (joined thumbnails (smears ++ tiles) thumbnails-hold (joined smears tiles smears-hold tiles-hold)))

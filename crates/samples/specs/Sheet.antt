@@ -129,13 +129,13 @@ marked =
     ∷ is ((origin - placed (steppedXY 4095 1 true false)) ∷ []) (4096 ∷ [])
     -- host mono 9 by 2: packing 1 needs 1 word, packing 3 needs 2
     ∷ is (map (λ packing. dataWords 0 (stepOf packing 0 9 0) 9 2) (1 ∷ 3 ∷ [])) (1 ∷ 2 ∷ [])
-    -- 24 bpp, stride 7: x = 1 taken, x = 2 refused 7
+    -- 24 bpp, stride 7, of a view: x = 1 taken, x = 2 refused 7
     ∷ is (map (λ x. viewAnswer 65536 0 0x40007 x 0 1) (1 ∷ 2 ∷ [])) (0 ∷ 7 ∷ [])
     ∷ []
 
-abbrev pub markedWrites : List Line
-markedWrites =
-    -- the same, of a fill
+abbrev pub playedLines : List Line
+playedLines =
+    -- 24 bpp, stride 7, of a fill: x = 1 taken, x = 2 refused 7
     is (map (filledAt 0 0x40007) (1 ∷ 2 ∷ [])) (0 ∷ 7 ∷ [])
     -- clip min 1, max 1: nothing, of a fill of four pixels, (1, 1) among them
     ∷ is (clipped abcd 0x10001 0x10001) (65 ∷ 66 ∷ 67 ∷ 68 ∷ 0 ∷ 0 ∷ [])
@@ -189,4 +189,4 @@ tiles =
     ∷ []
 
 abbrev pub sheet : List Line
-sheet = marked ++ (markedWrites ++ (thumbnails ++ (smears ++ tiles)))
+sheet = marked ++ (playedLines ++ (thumbnails ++ (smears ++ tiles)))
