@@ -4,10 +4,10 @@ use Prim.Native.Nat.{ℕ, suc, _+_, _-_, _*_, _/_, _%_, _^_, _≤_, _<_}
 use native.Mathlib.Nat.{lt-trans, mod-add-mod}
 use native.Mathlib.Omega.{arith}
 use mathlib.Core.Bool.{Bool, true, false}
-use mathlib.Core.Path.{_≡_, refl, sym, ap, _∙_}
+use mathlib.Core.Path.{_≡_, refl, sym, ap, subst⁻¹, _∙_}
 use borrow.Author.Tests.{lt-ltb, le-ltb, ltb-true, ltb-false}
 use lib.Dec.{lit<, ltb, le→leb}
-use lib.IntN.{pos, negsuc, negℤ, _+ℤ_, _-ℤ_, +ℤ-assoc, +ℤ-comm}
+use lib.IntN.{ℤ, pos, negsuc, negℤ, _+ℤ_, _-ℤ_, +ℤ-assoc, +ℤ-comm}
 use lib.Signed.{_≤ℤ_, leZ-yes}
 use mir.Syntax.{w32}
 use mir.Val.{toZ, SFits}
@@ -23,9 +23,6 @@ as-signed v h = toZ-pos w32 (lt-trans h (lit< tt))
 
 pub less-8192 : (v : ℕ) → v < 8192 → pos v -ℤ pos 8192 ≡ negsuc (8192 - suc v)
 less-8192 v h = rw (lt-ltb v 8192 h)
-
-pub fits-signed : (v : ℕ) → v < 8192 → SFits w32 (toZ w32 v -ℤ pos 8192)
-fits-signed v h = rw (as-signed v h, less-8192 v h) (record { sfits = lt-trans {m = 8192} (omega arith) (lit< tt) })
 
 -- ---- the signed reading and the natural one, below 4096 and from there on
 
@@ -50,6 +47,27 @@ low-or-high {X} v f g = by-test (ltb v 4096) refl
     by-test : (t : Bool) → ltb v 4096 ≡ t → X
     by-test true e = f (ltb-true v 4096 e)
     by-test false e = g (ltb-false v 4096 e)
+
+-- the 13 bits turned by half their range, and that half taken away again
+abbrev pub turned : ℕ → ℕ
+turned raw = (raw % 8192 + 4096) % 8192
+
+turned-signed : (raw : ℕ) → pos (turned raw) -ℤ pos 4096 ≡ signedOf raw
+turned-signed raw =
+    low-or-high (raw % 8192)
+    (λ h. let e : turned raw ≡ raw % 8192 + 4096 = omega arith in
+    rw (e, le-ltb (raw % 8192 + 4096) 4096 (omega arith)) (ap pos (omega arith) ∙ sym (signed-low raw h)))
+    (λ h. let e : turned raw ≡ raw % 8192 - 4096 = omega arith in
+    rw (e, lt-ltb (raw % 8192 - 4096) 4096 (omega arith)) (ap negsuc (omega arith) ∙ sym (signed-high raw h)))
+
+pub turned-value : (raw : ℕ) → toZ w32 (turned raw) -ℤ pos 4096 ≡ signedOf raw
+turned-value raw = ap (λ z. z -ℤ pos 4096) (as-signed (turned raw) (omega arith)) ∙ turned-signed raw
+
+pub signed-fits : (raw : ℕ) → SFits w32 (signedOf raw)
+signed-fits raw =
+    low-or-high (raw % 8192)
+    (λ h. subst⁻¹ (λ (z : ℤ). SFits w32 z) (signed-low raw h) (record { sfits = lt-trans {m = 8192} (omega arith) (lit< tt) }))
+    (λ h. subst⁻¹ (λ (z : ℤ). SFits w32 z) (signed-high raw h) (record { sfits = lt-trans {m = 8192} (omega arith) (lit< tt) }))
 
 pub signed-placed : (raw : ℕ) → signedOf raw ≡ pos (placed raw) -ℤ pos origin
 signed-placed raw =

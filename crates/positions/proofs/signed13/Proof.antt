@@ -1,32 +1,26 @@
--- `signed13` meets its contract: 13 bits, and 8192 less where the topmost is set, fit an `i32`.
+-- `signed13` meets its contract: the 13 bits turned by half their range, and that half taken away, are the signed number, which fits an `i32`.
 -- Assumes nothing.
 use borrow.Author.Needs.{needs}
-use Prim.Native.Nat.{_%_}
-use mathlib.Core.Path.{_∙_}
-use native.Mathlib.Omega.{arith}
-use borrow.Author.Tests.{lt-ltb, le-ltb}
+use mathlib.Core.Path.{subst⁻¹, _∙_}
+use lib.IntN.{ℤ}
+use mir.Syntax.{w32}
+use mir.Val.{SFits}
 use mir.Facts.{toZ-ofZ}
-use Rattle.positions.specs.Position.{signedOf}
-use Rattle.positions.proofs.PositionLaws.{as-signed, fits-signed}
+use Rattle.positions.proofs.PositionLaws.{turned-value, signed-fits}
 use Rattle.positions.proofs.signed13.Statement.{statement}
 use Rattle.positions.proofs.signed13.Tie as tie
+
+add-result : tie.Need-add-result
+add-result c = search needs
 
 cast-result : tie.Need-cast-result
 cast-result c = search needs
 
-cast-result-2 : tie.Need-cast-result-2
-cast-result-2 c = search needs
-
 sub-result : tie.Need-sub-result
-sub-result c = fits-signed (c .before .args .raw % 8192) (omega arith)
+sub-result c = subst⁻¹ (λ (z : ℤ). SFits w32 z) (turned-value (c .args .raw)) (signed-fits (c .args .raw))
 
 returns : tie.Need-returns
-unfolding signedOf
-returns c = as-signed (c .before .args .raw % 8192) (omega arith) ∙ simp (lt-ltb _ _ (c .if1 .taken))
-
-returns-2 : tie.Need-returns-2
-unfolding signedOf
-returns-2 c = toZ-ofZ (fits-signed (c .before .args .raw % 8192) (omega arith)) ∙ rw (as-signed (c .before .args .raw % 8192) (omega arith)) (simp (le-ltb _ _ (c .if1 .left)))
+returns c = toZ-ofZ (sub-result c) ∙ turned-value (c .args .raw)
 
 pub signed13-spec : {M : Type 1} → statement M
-signed13-spec = tie.close (tie.spec cast-result cast-result-2 sub-result returns returns-2)
+signed13-spec = tie.close (tie.spec add-result cast-result sub-result returns)
