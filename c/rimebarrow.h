@@ -18,8 +18,9 @@
      7  a pixel is off its surface
      8  a screen copy between two surfaces whose spans meet, or a stretch copy whose spans meet
    and one more, of these functions alone:
-   255  the state has another length than RIMEBARROW_STATE_SIZE, or rimebarrow_open did not make it
-   Whatever is answered with a number other than 0 has changed nothing. */
+   255  the state has another length than RIMEBARROW_STATE_SIZE, another mark in its first word, or a word at 04 that is neither 0 nor 1. Any other
+        bytes are taken as an engine's, also where rimebarrow_open did not make them
+   A call that is answered with a number other than 0 has changed no byte of state and memory; a refused view puts 0 into its two numbers. */
 #ifndef RIMEBARROW_H
 #define RIMEBARROW_H
 
