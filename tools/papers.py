@@ -139,6 +139,7 @@ def check_reading() -> list[str]:
     wanted = definitions.rest()
     met: dict[Key, int] = {}
     wrong = []
+    total = 0
     for number, row in enumerate(rows_of("docs/READING.md")):
         path = next((name for cell in row for name in names_in(cell) if re.fullmatch(r"crates/\w+/(specs/\w+\.antt|src/lib\.rt)", name)), None)
         if path is None or len(row) != 4:
@@ -154,8 +155,10 @@ def check_reading() -> list[str]:
                 wrong.append(f"READING: no demand rests on {key[2]} of {path}")
             met[key] = number
         count = sum(len(definitions.lines.get(key, [])) for key in keys)
+        total += count
         if row[3] != str(count):
             wrong.append(f"READING: {', '.join(key[2] for key in keys)} of {path} have {count} lines, not {row[3]}")
+    wrong += [f"READING: {total} lines in all, not {said}" for said in re.findall(r"(\d+) lines in all", text_of("docs/READING.md")) if int(said) != total]
     wrong += [f"READING does not name {name} of {crate}, {file}" for crate, file, name in sorted(wanted - met.keys())]
     for key, number in met.items():
         late = [use[2] for use in definitions.uses.get(key, ()) if met.get(use, -1) > number]

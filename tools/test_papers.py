@@ -108,6 +108,7 @@ class Papers(unittest.TestCase):
     def test_reading(self):
         check = papers.check_reading
         self.says(check, "does not name low", reading="\n".join(line for line in READING.splitlines() if "`low`" not in line))
+        self.says(check, "13 lines in all, not 14", reading="14 lines in all\n\n" + READING)
         self.says(check, "have 2 lines, not 3", reading=READING.replace("| 2 |", "| 3 |"))
         self.says(check, "no demand rests on unused", reading=READING.replace("`low` | `crates/engine/specs/Base.antt` | 2", "`low`, `unused` | `crates/engine/specs/Base.antt` | 4"))
         self.says(check, "twice", reading=READING.replace("`written`,", "`written`, `written`,").replace("| 11 |", "| 14 |"))
