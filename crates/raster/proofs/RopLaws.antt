@@ -6,7 +6,6 @@ use Prim.Native.Nat.{ℕ, zero, suc, _+_, _-_, _*_, _/_, _%_, _^_, _≤_, _<_}
 use native.Mathlib.Nat.{mod-lt, mod-one, suc-add, pow-suc}
 use native.Mathlib.Omega.{arith}
 use lib.Arith.{digits-lt, digits-div, digits-mod}
-use lib.Dec.{eqb}
 use borrow.Author.Tests.{eqb-true}
 use Rattle.raster.specs.Rop.{ropBit, ropBits, patternFree}
 use Rattle.colour.proofs.Bits.{Bit, off, on, bit, eight, two-pos, join, mod-suc, mod-half, mod-odd, alike}

@@ -10,7 +10,6 @@ use lib.Arith.{digits-div, digits-mod}
 use Rattle.surface.proofs.Bytes.{product-lt}
 use Rattle.surface.proofs.Lists.{by-cases}
 use Rattle.scale.specs.declared.Scale.{Scale}
-use Rattle.scale.specs.declared.Walk.{Walk}
 use Rattle.scale.specs.Scale.{scaled, walkAt, walking, nextOf}
 use Rattle.scale.specs.Asked.{OnScale, Steps}
 

@@ -1,8 +1,7 @@
 -- `ink::low_bytes` meets its contract: at each number of bytes.
 -- Assumes nothing.
 use native.Mathlib.Omega.{arith}
-use native.Mathlib.Nat.{mod-eq-of-lt}
-use mathlib.Core.Path.{_≡_, refl, sym, subst⁻¹}
+use mathlib.Core.Path.{_≡_, refl, subst⁻¹}
 use Prim.Native.Nat.{ℕ, _%_, _^_}
 use Rattle.ink.proofs.low_bytes.Statement.{statement}
 use Rattle.ink.proofs.low_bytes.Tie as tie

@@ -1,7 +1,6 @@
 -- `place13` meets its contract: the signed number, counted from the origin, is a natural one that fits.
 -- Assumes nothing.
 use borrow.Author.Needs.{needs}
-use Prim.Native.Nat.{ℕ, _^_, _<_}
 use mathlib.Core.Path.{_≡_, ap, subst⁻¹, _∙_}
 use native.Mathlib.Nat.{lt-trans}
 use native.Mathlib.Omega.{arith}
@@ -12,7 +11,7 @@ use mir.Val.{toZ, ofZ, SFits}
 use mir.Facts.{toZ-ofZ}
 use Rattle.surface.specs.Pixels.{origin}
 use Rattle.positions.specs.Position.{placed}
-use Rattle.positions.proofs.PositionLaws.{origin-signed, placed-to}
+use Rattle.positions.proofs.PositionLaws.{origin-signed}
 use Rattle.positions.proofs.place13.Statement.{statement}
 use Rattle.positions.proofs.place13.Tie as tie
 

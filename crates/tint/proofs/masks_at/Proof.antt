@@ -2,11 +2,10 @@
 -- Assumes nothing.
 use native.Mathlib.Omega.{arith}
 use borrow.Author.Needs.{needs}
-use mathlib.Core.Path.{_≡_, ap₂, subst⁻¹, _∙_}
-use mathlib.Core.List.{List}
+use mathlib.Core.Path.{_≡_, ap₂, _∙_}
 use Prim.Native.Nat.{ℕ, _+_, _-_, _*_, _/_, _%_, _<_, _≤_}
 use lib.ListN.{length}
-use Rattle.ink.specs.Pattern.{patternColumn, patternRow, patternBit, patternValue}
+use Rattle.ink.specs.Pattern.{patternColumn, patternRow, patternBit}
 use Rattle.tint.specs.Masking.{maskFor, maskHere, Tables, tables, MadeOf}
 use Rattle.tint.proofs.ByteLaws.{one-more, made-none, made-more}
 use Rattle.tint.proofs.FillLaws.{bit-there}
