@@ -74,9 +74,14 @@ filled-more values c v f h e g k l =
     (λ q. getD-set-other values c k v 0 q ∙ g k (omega arith))
 
 -- ---- what a contract says is one list
+
+-- two lists of n entries, each of which a rule settles
+pub entries-once : (n : ℕ) (rule : ℕ → ℕ) {a b : List ℕ} → length a ≡ n → length b ≡ n
+    → ((i : ℕ) → i < n → getD a i 0 ≡ rule i) → ((i : ℕ) → i < n → getD b i 0 ≡ rule i) → a ≡ b
+entries-once n rule {a} {b} long long′ f g = ext-getD 0 a b (long ∙ sym long′) (λ i l. f i (omega arith) ∙ sym (g i (omega arith)))
+
 pub row-once : {ink : Ink} {pattern : List ℕ} {row : ℕ} {a b : List ℕ} → RowOf ink pattern row a → RowOf ink pattern row b → a ≡ b
-row-once {a = a} {b = b} f g =
-    ext-getD 0 a b (f .long ∙ sym (g .long)) (λ i l. let c : i < 8 = omega (arith, f .long) in f .at i c ∙ sym (g .at i c))
+row-once f g = entries-once 8 _ (f .long) (g .long) (f .at) (g .at)
 
 pub values-once : {ink : Ink} {pattern : List ℕ} {x y rows : ℕ} {a b : List ℕ} → ValuesOf ink pattern x y rows a → ValuesOf ink pattern x y rows b → a ≡ b
 values-once {rows = rows} {a = a} {b = b} f g =
