@@ -84,7 +84,7 @@ module _ (s : Surface) (rows : s .tiled ≡ false) (x y a : ℕ) (e : a ≡ byte
 
 -- ---- a pixel of three bytes, wherever they lie
 module _ (at : ℕ → ℕ) (n v : ℕ) (m : List ℕ) (e : n ≡ 3) where
-  pub three-read : getD m (at 0) 0 + 256 * (getD m (at 1) 0 + 256 * getD m (at 2) 0) ≡ readBytes m at 0 n
+  pub three-read : getD m (at 0) 0 + getD m (at 1) 0 * 0x100 + getD m (at 2) 0 * 0x10000 ≡ readBytes m at 0 n
   unfolding readBytes
   three-read = rw e (omega arith)
 
@@ -99,15 +99,15 @@ module _ (at n : ℕ) (m : List ℕ) where
   unfolding readBytes
   get-one e = rw (e, add-zero at) (omega arith)
 
-  pub get-two : n ≡ 2 → getD m at 0 + 256 * getD m (at + 1) 0 ≡ readBytes m (λ k. at + k) 0 n
+  pub get-two : n ≡ 2 → getD m at 0 + getD m (at + 1) 0 * 0x100 ≡ readBytes m (λ k. at + k) 0 n
   unfolding readBytes
   get-two e = rw (e, add-zero at) (omega arith)
 
-  pub get-three : n ≡ 3 → getD m at 0 + 256 * (getD m (at + 1) 0 + 256 * getD m (at + 2) 0) ≡ readBytes m (λ k. at + k) 0 n
+  pub get-three : n ≡ 3 → getD m at 0 + getD m (at + 1) 0 * 0x100 + getD m (at + 2) 0 * 0x10000 ≡ readBytes m (λ k. at + k) 0 n
   unfolding readBytes
   get-three e = rw (e, add-zero at) (omega arith)
 
-  pub get-four : n ≡ 4 → getD m at 0 + 256 * (getD m (at + 1) 0 + 256 * (getD m (at + 2) 0 + 256 * getD m (at + 3) 0)) ≡ readBytes m (λ k. at + k) 0 n
+  pub get-four : n ≡ 4 → getD m at 0 + getD m (at + 1) 0 * 0x100 + getD m (at + 2) 0 * 0x10000 + getD m (at + 3) 0 * 0x1000000 ≡ readBytes m (λ k. at + k) 0 n
   unfolding readBytes
   get-four e = rw (e, add-zero at) (omega arith)
 

@@ -93,14 +93,14 @@ pub fn get_bytes(mem: &[u8], at: usize, n: u32) -> u32
     }
     let b1 = get_byte(mem, at + 1);
     if n == 2 {
-        return b0 + 256 * b1;
+        return b0 + b1 * 0x100;
     }
     let b2 = get_byte(mem, at + 2);
     if n == 3 {
-        return b0 + 256 * (b1 + 256 * b2);
+        return b0 + b1 * 0x100 + b2 * 0x1_0000;
     }
     let b3 = get_byte(mem, at + 3);
-    b0 + 256 * (b1 + 256 * (b2 + 256 * b3))
+    b0 + b1 * 0x100 + b2 * 0x1_0000 + b3 * 0x100_0000
 }
 
 // The n bytes from an address on become those of v.
@@ -136,7 +136,7 @@ fn get_three(mem: &[u8], s: Surface, x: u32, y: u32) -> u32
     let b0 = get_byte(mem, at0);
     let b1 = get_byte(mem, at1);
     let b2 = get_byte(mem, at2);
-    b0 + 256 * (b1 + 256 * b2)
+    b0 + b1 * 0x100 + b2 * 0x1_0000
 }
 
 fn put_three(mem: &mut [u8], s: Surface, x: u32, y: u32, v: u32)
