@@ -10,7 +10,8 @@ use Rattle.surface.specs.Pixels.{rect}
 use Rattle.sweep.specs.declared.Task.{Task}
 use Rattle.ink.specs.declared.Ink.{Ink}
 use Rattle.paint.specs.declared.Clip.{Clip}
-use Rattle.paint.specs.Paint.{State, state, paint}
+use Rattle.paint.specs.declared.Tally.{Tally}
+use Rattle.paint.specs.Paint.{State, tallied, state, paint}
 use Rattle.sweep.specs.Copy.{inTurn}
 use Rattle.sweep.specs.Asked.{CanPaint, Orderly}
 use Rattle.scale.specs.declared.Stretch.{Stretch}
@@ -46,7 +47,7 @@ module _ (d : Deed) (b : Bank) (k : Blit) (m : List ℕ) (u : ℕ) (e : u ≡ d 
   unfolding judged
   judged-yes x z h = rw (← e, z, h)
 
-pub carried-out : {b b′ : Bank} {st : State} {m : List ℕ} {n : ℕ} (k : Blit) → b′ ≡ b → state m n ≡ st → made b′ k (state m n) ≡ made b k st
+pub carried-out : {b b′ : Bank} {st : State} {m : List ℕ} {n : Tally} (k : Blit) → b′ ≡ b → tallied m n ≡ st → made b′ k (tallied m n) ≡ made b k st
 carried-out k p q = ap₂ (λ (b : Bank) (st : State). made b k st) p q
 
 -- ---- rectangles

@@ -5,7 +5,7 @@ use mathlib.Core.List.{List}
 use Prim.Native.Nat.{ℕ, _+_}
 use lib.Dec.{eqb, leb, ltb}
 use lib.ListN.{length}
-use Rattle.paint.specs.Paint.{State, state, Touch, paint}
+use Rattle.paint.specs.Paint.{State, tallied, state, Touch, paint}
 use Rattle.sweep.specs.Copy.{inTurn}
 use Rattle.scale.specs.Stretch.{stretched}
 use Rattle.line.specs.Line.{points, pointCount}
@@ -58,7 +58,7 @@ paintedBy b ts m = paint (target (b .regs)) ts (state m 0)
 
 -- ---- a command's outcome
 
--- the registers, the host blit, and the memory and the count that painting left
+-- the registers, the host blit, and the memory and the tally that painting left
 pub record Made : Type 0 where
   pub bank : Bank
   pub blit : Blit
@@ -74,7 +74,7 @@ pub record Deed : Type 0 where
 
 -- what a function of this crate left
 abbrev pub deed : Act → List ℕ → Deed
-deed a m = record { verdict = a .number; makes = made (a .bank) (a .blit) (state m (a .count)) }
+deed a m = record { verdict = a .number; makes = made (a .bank) (a .blit) (tallied m (a .tally)) }
 
 -- refused: registers, host blit and memory as they were given
 unfoldable pub judged : Deed → Bank → Blit → List ℕ → Deed

@@ -1,8 +1,10 @@
 // The commands: each carried out on the registers and the memory, or refused by the number of its row in the table of answers.
 use bank::Bank;
+use paint::Tally;
 ghost use mathlib.Core.Path.{_≡_};
 ghost use lib.ListN.{length};
-ghost use Rattle.paint.specs.Paint.{state};
+ghost use Rattle.paint.specs.Tally.{tally};
+ghost use Rattle.paint.specs.Paint.{tallied};
 ghost use Rattle.acts.specs.Deed.{noBlit, rectEnded, lineEnded, touchedByWord, paintedBy, deed, judged, filling, copying, stretching, lining, opening, feeding, carrying, aimed, starting};
 ghost use Rattle.acts.specs.Asked.{Feeds};
 
@@ -13,12 +15,12 @@ pub struct Blit {
     pub waiting: bool,
 }
 
-// What became of a command: the row that refuses it, or 0; the registers and the host blit after it; how many pixels were written.
+// What became of a command: the row that refuses it, or 0; the registers and the host blit after it; the tally of the pixels written.
 pub struct Act {
     pub number: u32,
     pub bank: Bank,
     pub blit: Blit,
-    pub count: u32,
+    pub tally: Tally,
 }
 
 pub fn no_blit() -> Blit
@@ -55,13 +57,13 @@ fn end_line(bank: Bank, style: u32) -> Bank
 
 // A command that paints nothing: refused by the row of that number, or 0 where none refuses it.
 fn unpainted(number: u32, bank: Bank, blit: Blit) -> Act
-    ensures { λ r. ⌜ r ≡ record { number = number; bank = bank; blit = blit; count = 0 } ⌝ }
+    ensures { λ r. ⌜ r ≡ record { number = number; bank = bank; blit = blit; tally = tally 0 } ⌝ }
 {
     Act {
         number: number,
         bank: bank,
         blit: blit,
-        count: 0,
+        tally: Tally { count: 0 },
     }
 }
 
@@ -76,12 +78,12 @@ fn fill(bank: Bank, blit: Blit, mem: &mut [u8]) -> Act
     let cut = cuts::fill_cut(regs);
     let task = command::fill_task(regs);
     let pattern = bank.pattern;
-    let count = rect::fill_rect(mem, task, pattern, cut.w, cut.h);
+    let tally = rect::fill_rect(mem, task, pattern, cut.w, cut.h);
     Act {
         number: 0,
         bank: end_rect(bank),
         blit: blit,
-        count: count,
+        tally: tally,
     }
 }
 
@@ -98,12 +100,12 @@ fn copy(bank: Bank, blit: Blit, mem: &mut [u8]) -> Act
     let pattern = bank.pattern;
     let toLeft = cuts::from_right(regs);
     let toTop = cuts::from_bottom(regs);
-    let count = rect::copy_rect(mem, task, pattern, c.w, c.h, toLeft, toTop);
+    let tally = rect::copy_rect(mem, task, pattern, c.w, c.h, toLeft, toTop);
     Act {
         number: 0,
         bank: end_rect(bank),
         blit: blit,
-        count: count,
+        tally: tally,
     }
 }
 
@@ -118,13 +120,13 @@ fn stretch(bank: Bank, blit: Blit, mem: &mut [u8]) -> Act
     let c = cuts::fill_cut(regs);
     let t = command::decode_stretch(regs);
     let pattern = bank.pattern;
-    let count = stretch::paint_stretch(mem, t, pattern, c.x, c.y, c.w, c.h);
+    let tally = stretch::paint_stretch(mem, t, pattern, c.x, c.y, c.w, c.h);
     let stepped = end_rect(bank);
     Act {
         number: 0,
         bank: stepped,
         blit: blit,
-        count: count,
+        tally: tally,
     }
 }
 
@@ -142,11 +144,12 @@ fn draw(bank: Bank, blit: Blit, mem: &mut [u8]) -> Act
     let pen = command::decode_pen(regs);
     let pattern = bank.pattern;
     let drawn = strokes::paint_line(mem, ink, pattern, clip, l, pen, regs.lineStyle);
+    let tally = drawn.tally;
     Act {
         number: 0,
         bank: end_line(bank, drawn.style),
         blit: blit,
-        count: drawn.count,
+        tally: tally,
     }
 }
 
@@ -171,10 +174,10 @@ fn begin(bank: Bank, blit: Blit, mem: &[u8]) -> Act
     unpainted(0, end_rect(bank), no_blit())
 }
 
-// The pixels that a word of data finishes; how many were written.
-fn paint_word(bank: Bank, blit: Blit, mem: &mut [u8], word: u32) -> u32
+// The pixels that a word of data finishes; the tally of those written.
+fn paint_word(bank: Bank, blit: Blit, mem: &mut [u8], word: u32) -> Tally
     requires { ⌜ Feeds bank blit (length (now mem)) ⌝ }
-    ensures { λ r. ⌜ state (now (mem .exit)) r ≡ paintedBy bank (touchedByWord bank blit word) (now (mem .entry)) ⌝ }
+    ensures { λ r. ⌜ tallied (now (mem .exit)) r ≡ paintedBy bank (touchedByWord bank blit word) (now (mem .entry)) ⌝ }
 {
     let regs = bank.regs;
     let feed = command::decode_feed(regs);
@@ -205,7 +208,7 @@ fn feed(bank: Bank, blit: Blit, mem: &mut [u8], word: u32) -> Act
     if words <= taken {
         return unpainted(0, end_rect(bank), no_blit());
     }
-    let count = paint_word(bank, blit, mem, word);
+    let tally = paint_word(bank, blit, mem, word);
     if taken + 1 < words {
         return Act {
             number: 0,
@@ -215,14 +218,14 @@ fn feed(bank: Bank, blit: Blit, mem: &mut [u8], word: u32) -> Act
                 taken: taken + 1,
                 last: word,
             },
-            count: count,
+            tally: tally,
         };
     }
     Act {
         number: 0,
         bank: end_rect(bank),
         blit: no_blit(),
-        count: count,
+        tally: tally,
     }
 }
 

@@ -1,45 +1,31 @@
--- Laws of pixels from bits: one pixel, a turn of each loop, and a byte read once for all its pixels.
+-- Laws of pixels from bits: the two colours, a pixel by where it begins, and a byte read once for all its pixels.
 -- Assumes nothing.
 use mathlib.Core.Path.{_≡_, refl, sym, ap, _∙_}
 use mathlib.Core.Bool.{Bool, true, false, cond, _&&_}
 use mathlib.Core.List.{List}
 use mathlib.Core.Option.{Option, none, some}
-use Prim.Native.Nat.{ℕ, _+_, _-_, _*_, _/_, _%_, _^_, _<_, _≤_}
+use Prim.Native.Nat.{ℕ, _+_, _-_, _*_, _/_, _%_, _<_, _≤_}
 use native.Mathlib.Decide.{ℕ-discrete}
 use native.Mathlib.Omega.{arith}
 use lib.Dec.{eqb}
 use lib.ListN.{getD}
-use borrow.Author.Tests.{eq-eqb, ne-eqb}
 use Rattle.surface.specs.declared.Surface.{Surface}
-use Rattle.surface.specs.Place.{byteAt, byteOf, monoBit, writeBytes}
+use Rattle.surface.specs.Place.{byteAt, byteOf, monoBit}
 use Rattle.surface.specs.Asked.{Held}
 use Rattle.surface.specs.Pixels.{Px, px, across}
 use Rattle.surface.proofs.Run.{in-rows, pixel-held, run-pixel}
 use Rattle.surface.proofs.Rects.{same-px, in-across}
 use Rattle.surface.proofs.Lists.{In, by-cases}
 use Rattle.spans.proofs.Spans.{IsByte}
-use Rattle.paint.specs.Paint.{State, state, dab, dabAt, paint}
+use Rattle.paint.specs.declared.Tally.{Tally}
+use Rattle.paint.specs.Paint.{State, dab, dabAt, paint}
+use Rattle.paint.specs.Asked.{Room}
 use Rattle.paint.proofs.Owners.{of-byte, dab-leaves}
 use Rattle.paint.proofs.Turns.{paint-while, dab-at}
 use Rattle.runs.specs.Asked.{RowOn}
-use Rattle.bits.specs.declared.Plain.{Plain}
 use Rattle.bits.specs.declared.Mono.{Mono}
 use Rattle.bits.specs.Bits.{coloured, bitOf, byteTouches, monoGiving, monoly}
 use Rattle.bits.specs.Asked.{RowMono, CanMono}
-
--- ---- one pixel
-module _ (at n bit count : ℕ) (p : Plain) (m : List ℕ) where
-  pub bit-fore : {m′ : List ℕ} → bit ≡ 1 → m′ ≡ writeBytes (λ k. at + k) 0 n (p .fore) m → state m′ (count + 1) ≡ dabAt at n (coloured p bit) (state m count)
-  unfolding coloured dabAt
-  bit-fore e w = rw (eq-eqb bit 1 e, w)
-
-  pub bit-left : (bit ≡ 1 → ⊥) → p .clear ≡ true → state m count ≡ dabAt at n (coloured p bit) (state m count)
-  unfolding coloured dabAt
-  bit-left e c = rw (ne-eqb bit 1 e, c)
-
-  pub bit-back : {m′ : List ℕ} → (bit ≡ 1 → ⊥) → p .clear ≡ false → m′ ≡ writeBytes (λ k. at + k) 0 n (p .back) m → state m′ (count + 1) ≡ dabAt at n (coloured p bit) (state m count)
-  unfolding coloured dabAt
-  bit-back e c w = rw (ne-eqb bit 1 e, c, w)
 
 -- the two colours as a source has them
 pub bit-given : (bit fore back : ℕ) (clear : Bool) → bit < 2
@@ -55,20 +41,15 @@ bit-given bit fore back clear h = by-cases (ℕ-discrete bit 1) (λ e. rw e (one
     none-of false = refl
 
 -- ---- a pixel of the row, by where it begins
-pub run-held : (s : Surface) → s .tiled ≡ false → (len x y m count i n at : ℕ) → RowOn s len x m y count → i < m → n ≡ s .bytes → at ≡ byteOf s x y 0 → Held (at + i * n) n len
-run-held s flat len x y m count i n at row h e a =
-    rw e (pixel-held (in-rows flat) (row .on (x + i) (omega arith) (omega arith)) (at + i * s .bytes) (run-pixel s flat x y at a i))
+module _ (s : Surface) (flat : s .tiled ≡ false) (x y i n at : ℕ) (bytes : n ≡ s .bytes) (first : at ≡ byteOf s x y 0) where
+  pub run-held : {len m : ℕ} → RowOn s len x m y → i < m → Held (at + i * n) n len
+  run-held row h = rw bytes (pixel-held (in-rows flat) (row .on (x + i) (omega arith) (omega arith)) (at + i * s .bytes) (run-pixel s flat x y at first i))
 
-pub bit-turn : (p : Plain) → p .target .tiled ≡ false → (byte k x y i n at : ℕ) (st st′ : State) → n ≡ p .target .bytes → at ≡ byteOf (p .target) x y 0
-    → st′ ≡ dabAt (at + i * n) n (coloured p (bitOf byte (k + i))) st → st′ ≡ dab (p .target) (px (x + i) y) (coloured p (bitOf byte (k + (x + i - x)))) st
-bit-turn p flat byte k x y i n at st st′ e a d =
-    let z : x + i - x ≡ i = omega arith in
-    d ∙ ap (λ (b : ℕ). dabAt (at + i * b) b (coloured p (bitOf byte (k + i))) st) e
-    ∙ dab-at (p .target) (in-rows flat) (px (x + i) y) (at + i * p .target .bytes) (coloured p (bitOf byte (k + i))) st (run-pixel (p .target) flat x y at a i)
-    ∙ ap (λ (c : ℕ). dab (p .target) (px (x + i) y) (coloured p (bitOf byte (k + c))) st) (sym z)
+  pub run-dab : (o : Option ℕ) (st : State) → dabAt (at + i * n) n o st ≡ dab s (px (x + i) y) o st
+  run-dab o st = rw bytes (dab-at s (in-rows flat) (px (x + i) y) (at + i * s .bytes) o st (run-pixel s flat x y at first i))
 
 -- ---- a byte read once
-module _ (t : Mono) (w j len n : ℕ) (row : RowMono t w j len n) where
+module _ {t : Mono} {w j len : ℕ} {n : Tally} (row : RowMono t w j len n) where
   abbrev target : Surface
   target = t .plain .target
 
@@ -112,16 +93,16 @@ module _ (t : Mono) (w j len n : ℕ) (row : RowMono t w j len n) where
       (λ q k o s g. dab-leaves target (row .colour .some) q o s (place i) (away i m q li lm k) ∙ g) st e
 
 -- ---- a rectangle that can be copied has its rows ready
-pub mono-line : {t : Mono} {w h len : ℕ} → CanMono t w h len → (j n : ℕ) → j < h → n + w < 2 ^ 32 → RowMono t w j len n
-mono-line {t} {w} {h} {len} can j n l room = record {
+pub mono-line : {t : Mono} {w h len : ℕ} → CanMono t w h len → (j : ℕ) {n : Tally} → j < h → Room n w → RowMono t w j len n
+mono-line {t} {w} {h} {len} can j l room = record {
   flat = can .flat;
   fromFlat = can .fromFlat;
   colour = can .colour;
   target = record {
     wide = can .wide;
-    room = room;
     on = λ i a b. record { colour = can .colour; on = let e : t .x + (i - t .x) ≡ i = omega arith in rw e at (can .target (i - t .x) j (omega arith) l) };
   };
+  room = room;
   small = can .small;
   mono = can .mono;
   wide = can .sourceWide;

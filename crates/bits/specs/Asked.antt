@@ -5,15 +5,18 @@ use mathlib.Core.Bool.{true, false}
 use Prim.Native.Nat.{ℕ, _+_, _/_, _^_, _<_, _≤_}
 use Rattle.surface.specs.Place.{byteAt, byteOf, onSurface}
 use Rattle.surface.specs.Asked.{Small, Colour}
+use Rattle.paint.specs.declared.Tally.{Tally}
+use Rattle.paint.specs.Asked.{Room}
 use Rattle.runs.specs.Asked.{RowOn}
 use Rattle.bits.specs.declared.Mono.{Mono}
 
--- row j of a rectangle of w columns, in a memory of len bytes, after n pixels that were written: on both surfaces, and no byte of its source is one of its target
-pub record RowMono (t : Mono) (w j len n : ℕ) : Type 0 where
+-- row j of a rectangle of w columns, in a memory of len bytes, where n tells of the pixels before it: on both surfaces, and no byte of its source is one of its target
+pub record RowMono (t : Mono) (w j len : ℕ) (n : Tally) : Type 0 where
   pub flat : t .plain .target .tiled ≡ false
   pub fromFlat : t .from .tiled ≡ false
   pub colour : Colour (t .plain .target)
-  pub target : RowOn (t .plain .target) len (t .x) w (t .y + j) n
+  pub target : RowOn (t .plain .target) len (t .x) w (t .y + j)
+  pub room : Room n w
   pub small : Small (t .from)
   pub mono : t .from .bytes ≡ 0
   pub wide : t .sx + w ≤ 2 ^ 15

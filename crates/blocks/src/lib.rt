@@ -1,11 +1,12 @@
 // Rectangles of bytes moved block by block. A block is what lies in one tile, or all of it where the surface is in rows.
+use paint::Tally;
 use surface::Surface;
 ghost use mathlib.Core.Path.{_≡_};
 ghost use mathlib.Core.Bool.{true, false};
 ghost use Prim.Native.Nat.{_+_, _*_, _%_, _<_, _≤_};
 ghost use lib.ListN.{length};
 ghost use Rattle.surface.specs.Pixels.{across, rect};
-ghost use Rattle.paint.specs.Paint.{state, paint};
+ghost use Rattle.paint.specs.Paint.{state, tallied, paint};
 ghost use Rattle.runs.specs.Runs.{evenly};
 ghost use Rattle.runs.specs.Asked.{RowOn, RectOn};
 ghost use Rattle.blocks.specs.Blocks.{Put, originByte, Laid, pitch};
@@ -132,7 +133,7 @@ pub fn move_blocks(mem: &mut [u8], b: Way, n: usize, h: usize)
 
 // The w pixels of row y from x0 on, each of value v.
 fn solid_line(mem: &mut [u8], s: Surface, v: u32, x0: u32, w: u32, y: u32)
-    requires { ⌜ RowOn s (length (now mem)) x0 w y 0 ⌝ }
+    requires { ⌜ RowOn s (length (now mem)) x0 w y ⌝ }
     ensures { λ _. ⌜ state (now (mem .exit)) w ≡ paint s (evenly v (across false x0 w y)) (state (now (mem .entry)) 0) ⌝ }
 {
     let end = x0 + w;
@@ -144,9 +145,9 @@ fn solid_line(mem: &mut [u8], s: Surface, v: u32, x0: u32, w: u32, y: u32)
 }
 
 // A rectangle of one value, whatever the layout: its first row pixel by pixel; then the rows that are there go on below, as many again each time.
-pub fn solid_blocks(mem: &mut [u8], s: Surface, v: u32, x0: u32, y0: u32, w: u32, h: u32) -> u32
+pub fn solid_blocks(mem: &mut [u8], s: Surface, v: u32, x0: u32, y0: u32, w: u32, h: u32) -> Tally
     requires { ⌜ RectOn s (length (now mem)) x0 y0 w h × ((0 < w) × (0 < h)) ⌝ }
-    ensures { λ r. ⌜ state (now (mem .exit)) r ≡ paint s (evenly v (rect false false x0 y0 w h)) (state (now (mem .entry)) 0) ⌝ }
+    ensures { λ r. ⌜ tallied (now (mem .exit)) r ≡ paint s (evenly v (rect false false x0 y0 w h)) (state (now (mem .entry)) 0) ⌝ }
 {
     let bytes = surface::wide(s.bytes);
     let x = surface::wide(x0) * bytes;
@@ -168,5 +169,6 @@ pub fn solid_blocks(mem: &mut [u8], s: Surface, v: u32, x0: u32, y0: u32, w: u32
         move_blocks(mem, b, n, k);
         j += k;
     }
-    w * h
+    let count = w * h;
+    Tally { count: count }
 }

@@ -130,7 +130,7 @@ module _ (r : Regs) (len : ℕ) where
 -- ---- one command
 pub record Painting (r : Regs) (ts : List Touch) (m : List ℕ) (s : Step) : Type 0 where
   pub memory : s .memory ≡ paint (target r) ts (state m 0) .mem
-  pub count : countOf (s .answer) ≡ paint (target r) ts (state m 0) .count
+  pub count : countOf (s .answer) ≡ paint (target r) ts (state m 0) .tally .count
   pub touched : (p : Px) → In p (map (λ t. t .at) ts) → In p (coveredBy r) × (0 < target r .bytes)
 
 pub record Carried (r : Regs) (ts : List Touch) (m : List ℕ) (s : Step) : Type 0 where

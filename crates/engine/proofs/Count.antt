@@ -2,16 +2,15 @@
 -- Assumes nothing.
 use mathlib.Core.Path.{_≡_, sym, subst, _∙_}
 use mathlib.Core.Bool.{cond, _&&_}
-use mathlib.Core.List.{List, [], _∷_, map, List·Memᴰ}
+use mathlib.Core.List.{List, [], map, List·Memᴰ}
 use mathlib.Core.Option.{Option, none, some}
-use Prim.Native.Nat.{ℕ, _+_, _<_, _≤_}
-use native.Mathlib.Omega.{arith}
+use Prim.Native.Nat.{ℕ, _<_, _≤_}
+use native.Mathlib.Nat.{zero-add}
 use lib.Dec.{eqb, ltb}
-use lib.ListN.{length}
-use Rattle.surface.specs.declared.Surface.{Surface}
-use Rattle.surface.specs.Place.{writePx}
 use Rattle.surface.specs.Pixels.{Px}
-use Rattle.paint.specs.Paint.{state, Touch, dab, paint}
+use Rattle.paint.specs.Tally.{tally}
+use Rattle.paint.specs.Paint.{Touch}
+use Rattle.paint.proofs.Frame.{count-wrote}
 use Rattle.registers.specs.declared.Regs.{Regs}
 use Rattle.registers.specs.declared.Place.{Place}
 use Rattle.registers.specs.declared.Place.the-variants.{Register, Pattern, Launch, Nowhere}
@@ -24,27 +23,15 @@ use Rattle.cuts.specs.Cut.{bit, number, covered, copyOrder, fillCut}
 use Rattle.engine.specs.declared.Engine.{Engine}
 use Rattle.engine.specs.Step.{Step, regs, storedIn, written}
 use Rattle.engine.specs.Orders.{launching, orderAt, order, carriedTouches, launchedTouches, touchesAt, touchesOf, coveredBy}
-use Rattle.engine.specs.Promises.{given, wrote, Paints, CountsWritten, TouchesCovered, WordCovered}
+use Rattle.engine.specs.Promises.{Paints, CountsWritten, TouchesCovered, WordCovered}
 use Rattle.engine.proofs.Short.{copyTouches, stretchTouches, fillTouches, drawTouches, wordTouches}
 use Rattle.acts.proofs.Cases.{by-test, pick, by-tests, by-number}
 use Rattle.engine.proofs.Orders.{the-same, nothing-ordered}
 use Rattle.engine.proofs.Commands.{PaintingOf, covered-none, covered-copy, covered-stretch, covered-fill, covered-line, covered-other, rect-pixels, stretch-pixels, line-pixels, write-written}
 
-counts-from : (s : Surface) (ts : List Touch) (m : List ℕ) (n : ℕ) → paint s ts (state m n) .count ≡ n + length (wrote s ts m)
-unfolding paint wrote dab
-counts-from s [] m n = omega arith
-counts-from s (t ∷ ts) m n = by (λ left k. counts-from s ts left k) (t .gives m)
-  where
-    by : ((left : List ℕ) (k : ℕ) → paint s ts (state left k) .count ≡ k + length (wrote s ts left)) → (o : Option ℕ)
-        → paint s ts (dab s (t .at) o (state m n)) .count ≡ n + length (given o (t .at) (wrote s ts (dab s (t .at) o (state m 0) .mem)))
-    by rest none = rest m n
-    by rest (some v) =
-        let h = rest (writePx m s (t .at .x) (t .at .y) v) (n + 1) in
-        omega (arith, h)
-
 paints : (r : Option Regs) (ts : List Touch) (m : List ℕ) (s : Step) → PaintingOf r ts m s → Paints r ts m s
 paints none ts m s p = p
-paints (some r) ts m s p = (p .memory, p .count ∙ let h = counts-from (target r) ts m 0 in omega (arith, h))
+paints (some r) ts m s p = (p .memory, p .count ∙ count-wrote (target r) ts m (tally 0) ∙ zero-add _)
 
 pub counts-written : CountsWritten
 counts-written e m o d z = paints (order e o d) (touchesOf e m o d) m (written e m o d) (write-written e m o d .paints z)

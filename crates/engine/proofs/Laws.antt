@@ -30,7 +30,7 @@ settled-deed : (e : Engine) (a : Act) (m : List ℕ) → outcome (settled e a) m
 unfolding settled
 settled-deed e a m =
     by-test
-    (λ t. outcome (cond t (record { engine = record { bank = a .bank; blit = a .blit; opened = e .opened }; answer = Taken (a .count) }) (record { engine = e; answer = refusal (a .number) })) m ≡ cond t (making e (deed a m .makes)) (step e m (refusal (a .number)))) (eqb (a .number) 0)
+    (λ t. outcome (cond t (record { engine = record { bank = a .bank; blit = a .blit; opened = e .opened }; answer = Taken (a .tally .count) }) (record { engine = e; answer = refusal (a .number) })) m ≡ cond t (making e (deed a m .makes)) (step e m (refusal (a .number)))) (eqb (a .number) 0)
     (λ _. refl) (λ _. refl)
 
 judged-settling : (e : Engine) (d : Deed) (b : Bank) (k : Blit) (m : List ℕ) → settling e (judged d b k m) ≡ judging e e m d

@@ -4,17 +4,15 @@ use mathlib.Core.Path.{_≡_, refl, sym, ap, subst⁻¹, _∙_}
 use mathlib.Core.Logic.{⊎-elim}
 use mathlib.Core.Bool.{true, false}
 use mathlib.Core.List.{List, [], _∷_, _++_, List·Memᴰ, List·Memᴰ·not-nil, List·Memᴰ·append-cases, List·Memᴰ·eq-of-singleton}
-use mathlib.Core.Option.{Option, none, some}
 use Prim.Native.Nat.{ℕ, zero, suc, _+_, _-_, _^_, _<_, _≤_}
 use native.Mathlib.Omega.{arith}
 use lib.Dec.{ltb}
 use lib.ListN.{length}
 use borrow.Author.Tests.{eq-eqb, le-ltb, ltb-true, ltb-false}
-use Rattle.surface.specs.declared.Surface.{Surface}
-use Rattle.surface.specs.Place.{writePx}
 use Rattle.surface.proofs.OnLaws.{pos-of-ne}
-use Rattle.paint.specs.Paint.{State, state, Touch, dab, paint}
-use Rattle.paint.proofs.Frame.{paint-length}
+use Rattle.paint.specs.Tally.{tally}
+use Rattle.paint.specs.Paint.{State, state, paint}
+use Rattle.paint.proofs.Frame.{paint-length, painted-after}
 use Rattle.host.specs.declared.Feed.{Feed}
 use Rattle.host.specs.Host.{Pixel, byWord, wordsOf}
 use Rattle.host.specs.Stream.{before, byWords}
@@ -40,21 +38,6 @@ use Rattle.engine.specs.Writes.{Run, run, played, counted, sent}
 use Rattle.engine.specs.Promises.{Sends, AllWords, WaitingWhole, OpenedWhole}
 use Rattle.engine.proofs.Short.{wordTouches}
 use Rattle.engine.proofs.Played.{played-last, counted-last}
-
--- ---- painting that starts from a count
-paint-more : (s : Surface) (ts : List Touch) (m : List ℕ) (n k : ℕ) → paint s ts (state m (n + k)) ≡ state (paint s ts (state m k) .mem) (n + paint s ts (state m k) .count)
-unfolding paint dab
-paint-more s [] m n k = refl
-paint-more s (t ∷ ts) m n k = by-gift (λ left j. paint-more s ts left n j) (t .gives m)
-  where
-    by-gift : ((left : List ℕ) (j : ℕ) → paint s ts (state left (n + j)) ≡ state (paint s ts (state left j) .mem) (n + paint s ts (state left j) .count)) → (o : Option ℕ)
-        → paint s ts (dab s (t .at) o (state m (n + k)))
-        ≡ state (paint s ts (dab s (t .at) o (state m k)) .mem) (n + paint s ts (dab s (t .at) o (state m k)) .count)
-    by-gift rest none = rest m k
-    by-gift rest (some v) =
-        let left = writePx m s (t .at .x) (t .at .y) v in
-        let same : n + k + 1 ≡ n + (k + 1) = omega arith in
-        ap (λ (j : ℕ). paint s ts (state left j)) same ∙ rest left (k + 1)
 
 -- ---- one word
 record Fed (e : Engine) (m : List ℕ) (d : ℕ) (s : Step) : Type 0 where
@@ -150,13 +133,10 @@ module _ (e : Engine) (m : List ℕ) (os ws : ℕ → ℕ) (sends : Sends e m os
     unfolding byWords
     word-painted =
         let count = counted (r .answers) in
-        let same : count + 0 ≡ count = omega arith in
         let s = target (regs (r .engine)) in
         let ts = wordTouches (r .engine) (ws n) in
         ap (state (next .memory)) (counted-last (r .answers) (next .answer))
-        ∙ ap (λ (st : State). state (st .mem) (count + st .count)) (fed-next .painted)
-        ∙ sym (paint-more s ts (r .memory) count 0)
-        ∙ ap (λ (k : ℕ). paint s ts (state (r .memory) k)) same
+        ∙ painted-after s ts (r .memory) (tally count) (fed-next .painted)
         ∙ ap (λ (f : State → State). f (state (r .memory) count)) word-paints
         ∙ ap (draws (byWord feed (before ws n) (ws n) n)) (far .painted)
         ∙ sym (drawn-append (inkOf (regs e)) (e .bank .pattern) (clipOf (regs e)) feed (byWords ws feed n) (byWord feed (before ws n) (ws n) n) (state m 0))

@@ -14,7 +14,7 @@ use Rattle.surface.specs.Pixels.{Px, NotBefore, origin}
 use Rattle.spans.specs.Span.{allOn, addresses, spanOf, meet}
 use Rattle.views.specs.View.{viewAnswer, viewStart, viewed, further}
 use Rattle.paint.specs.Clip.{inClip}
-use Rattle.paint.specs.Paint.{state, Touch, dab, paint}
+use Rattle.paint.specs.Paint.{state, Touch, paint, wrote}
 use Rattle.sweep.specs.Copy.{asBefore}
 use Rattle.registers.specs.declared.Regs.{Regs}
 use Rattle.bank.specs.declared.Reading.{Reading}
@@ -243,15 +243,6 @@ OpenedWhole = (e : Engine) (m : List ℕ) (os ws : ℕ → ℕ) → Sends e m os
     → 0 < wordsOf (feedOf (regs e)) → AllWords e m os ws
 
 -- ---- Count. The count is the number of covered pixels written
-
--- the pixels that are given a value, of those touched in turn
-abbrev pub given : Option ℕ → Px → List Px → List Px
-given none p ps = ps
-given (some v) p ps = p ∷ ps
-
-unfoldable pub wrote : Surface → List Touch → List ℕ → List Px
-wrote s [] m = []
-wrote s (t ∷ ts) m = given (t .gives m) (t .at) (wrote s ts (dab s (t .at) (t .gives m) (state m 0) .mem))
 
 -- a taken write that has no command carried out leaves the memory and counts nothing; one that has paints what it touches, and counts what it wrote
 abbrev pub Paints : Option Regs → List Touch → List ℕ → Step → Type 0

@@ -82,7 +82,7 @@ step e m a = record { engine = e; memory = m; answer = a }
 
 -- carried out: the engine, with the memory and the count that painting left
 abbrev pub done : Engine → State → Step
-done e st = step e (st .mem) (Taken (st .count))
+done e st = step e (st .mem) (Taken (st .tally .count))
 
 -- ---- the commands: a refusal gives back the engine as it was before the write
 abbrev pub making : Engine → Made → Step
@@ -134,5 +134,5 @@ readFrom e o = readAt (e .bank) o
 unfoldable pub settled : Engine → Act → Outcome
 settled e a =
     cond (eqb (a .number) 0)
-    (record { engine = record { bank = a .bank; blit = a .blit; opened = e .opened }; answer = Taken (a .count) })
+    (record { engine = record { bank = a .bank; blit = a .blit; opened = e .opened }; answer = Taken (a .tally .count) })
     (record { engine = e; answer = refusal (a .number) })

@@ -118,7 +118,7 @@ impl Engine {
                 blit: blit,
                 opened: self.opened,
             },
-            answer: Answer::Taken(act.count),
+            answer: Answer::Taken(act.tally.count),
         }
     }
 

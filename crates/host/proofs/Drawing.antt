@@ -1,26 +1,35 @@
--- Laws of drawing: pixels drawn one list after the other, one pixel, one turn of the loops over pixels and bytes, and how many are written.
+-- Laws of drawing: pixels drawn one list after the other, one pixel, how many are written, and the loops that draw a list from its front.
 -- Assumes nothing.
 use mathlib.Core.Path.{_≡_, refl, sym, ap, _∙_}
 use mathlib.Core.Bool.{Bool, true, false, cond}
-use mathlib.Core.List.{List, [], _∷_, _++_}
-use Prim.Native.Nat.{ℕ, suc, _+_, _-_, _/_, _%_, _<_, _≤_}
+use mathlib.Core.List.{List, [], _∷_, _++_, append-assoc}
+use Prim.Native.Nat.{ℕ, zero, suc, _+_, _-_, _*_, _/_, _%_, _^_, _<_, _≤_}
+use native.Mathlib.Nat.{add-zero, zero-add, suc-add}
 use native.Mathlib.Omega.{arith}
+use native.Mathlib.Decide.{decLt}
 use borrow.Author.Tests.{lt-ltb, le-ltb}
-use lib.ListN.{length}
+use lib.ListN.{length, length-append}
 use Rattle.surface.specs.Place.{readPx}
 use Rattle.surface.specs.Pixels.{origin}
+use Rattle.surface.proofs.Lists.{by-cases}
 use Rattle.ink.specs.declared.Ink.{Ink}
 use Rattle.paint.specs.declared.Clip.{Clip}
 use Rattle.paint.specs.declared.Source.{Source}
-use Rattle.paint.specs.Paint.{State, state, dab, Touch, paint}
+use Rattle.paint.specs.declared.Tally.{Tally}
+use Rattle.paint.specs.Tally.{tally}
+use Rattle.paint.specs.Paint.{State, tallied, state, dab, Touch, paint}
 use Rattle.paint.specs.Mix.{mixed}
 use Rattle.ink.specs.Pattern.{patternValue}
 use Rattle.paint.specs.Clip.{inClip, pixelAt}
+use Rattle.paint.specs.Asked.{Room}
+use Rattle.paint.proofs.Tallies.{Upto, upto-none, upto-then, upto-more, room-first}
 use Rattle.paint.proofs.Turns.{paint-append}
-use Rattle.paint.proofs.Frame.{count-most}
+use Rattle.paint.proofs.Loops.{painted-length, painted-upto}
 use Rattle.host.specs.declared.Feed.{Feed}
 use Rattle.host.specs.Host.{Pixel, pixel, valueOf, whole, run, byByte, byBytes, byWord}
+use Rattle.host.specs.Asked.{Sizes}
 use Rattle.host.specs.Draw.{hostSource, hostTouches, drawn}
+use Rattle.host.proofs.Places.{whole-width}
 
 -- ---- one list after the other
 in-front : (b : Bool) (t : Touch) (ts us vs : List Touch) → vs ≡ ts ++ us → cond b (t ∷ vs) vs ≡ cond b (t ∷ ts) ts ++ us
@@ -28,7 +37,7 @@ in-front true t ts us vs e = ap (λ (l : List Touch). t ∷ l) e
 in-front false t ts us vs e = e
 
 module _ (ink : Ink) (pattern : List ℕ) (c : Clip) (feed : Feed) where
-  pub touches-append : (ps qs : List Pixel)
+  touches-append : (ps qs : List Pixel)
       → hostTouches ink pattern c feed (ps ++ qs) ≡ hostTouches ink pattern c feed ps ++ hostTouches ink pattern c feed qs
   unfolding hostTouches
   touches-append [] qs = refl
@@ -41,81 +50,133 @@ module _ (ink : Ink) (pattern : List ℕ) (c : Clip) (feed : Feed) where
       ap (λ (ts : List Touch). paint (ink .target) ts st) (touches-append ps qs)
       ∙ paint-append (ink .target) (hostTouches ink pattern c feed ps) (hostTouches ink pattern c feed qs) st
 
-  -- a turn draws the front of what is left
-  pub turn : (ps rest all : List Pixel) (st st′ : State) → all ≡ ps ++ rest → st′ ≡ drawn ink pattern c feed ps st
-      → drawn ink pattern c feed rest st′ ≡ drawn ink pattern c feed all st
-  turn ps rest all st st′ e q =
-      ap (drawn ink pattern c feed rest) q ∙ sym (drawn-append ps rest st) ∙ ap (λ (l : List Pixel). drawn ink pattern c feed l st) (sym e)
-
   -- ---- one pixel
-  pub pixel-put : (i j v p n : ℕ) (s : Source) (m : List ℕ) (st : State) → inClip c (feed .x + i) (feed .y + j) ≡ true
+  pub pixel-put : (i j v p : ℕ) (s : Source) (m : List ℕ) (n : Tally) (st : State) → inClip c (feed .x + i) (feed .y + j) ≡ true
       → p ≡ patternValue ink pattern (feed .x + i - origin) (feed .y + j - origin) → s ≡ hostSource ink feed v
       → st ≡ dab (ink .target) (pixelAt (feed .x + i) (feed .y + j))
-      (mixed ink p s (readPx m (ink .target) (feed .x + i - origin) (feed .y + j - origin))) (state m n)
-      → st ≡ drawn ink pattern c feed (pixel i j v ∷ []) (state m n)
+      (mixed ink p s (readPx m (ink .target) (feed .x + i - origin) (feed .y + j - origin))) (tallied m n)
+      → st ≡ drawn ink pattern c feed (pixel i j v ∷ []) (tallied m n)
   unfolding hostTouches paint
-  pixel-put i j v p n s m st e a b d = rw e (rw (← a, ← b) d)
+  pixel-put i j v p s m n st e a b d = rw e (rw (← a, ← b) d)
 
-  pub pixel-past : (i j v n : ℕ) (m : List ℕ) → inClip c (feed .x + i) (feed .y + j) ≡ false
-      → state m n ≡ drawn ink pattern c feed (pixel i j v ∷ []) (state m n)
+  pub pixel-past : (i j v : ℕ) (st : State) → inClip c (feed .x + i) (feed .y + j) ≡ false → st ≡ drawn ink pattern c feed (pixel i j v ∷ []) st
   unfolding hostTouches paint
-  pixel-past i j v n m e = rw e
+  pixel-past i j v st e = rw e
 
-  -- ---- the pixels that are left of a byte's
-  module _ (last word o : ℕ) where
-    pub run-turn : (i e v : ℕ) (st st′ : State) → i < e → v ≡ valueOf feed last word (o % 4) i
-        → st′ ≡ drawn ink pattern c feed (pixel i (o / feed .step) v ∷ []) st
-        → drawn ink pattern c feed (run feed last word o (i + 1) (e - (i + 1))) st′ ≡ drawn ink pattern c feed (run feed last word o i (e - i)) st
-    unfolding run
-    run-turn i e v st st′ l a q =
-        let k : e - i ≡ suc (e - (i + 1)) = omega arith in
-        turn (pixel i (o / feed .step) v ∷ []) (run feed last word o (i + 1) (e - (i + 1))) (run feed last word o i (e - i)) st st′ (rw (k, a)) q
+  -- ---- none, and how many
+  pub none-drawn : {ps : List Pixel} (st : State) → ps ≡ [] → st ≡ drawn ink pattern c feed ps st
+  unfolding hostTouches paint
+  none-drawn st e = rw e
 
-    pub run-done : (i e : ℕ) (st : State) → e ≤ i → drawn ink pattern c feed (run feed last word o i (e - i)) st ≡ st
-    unfolding run hostTouches paint
-    run-done i e st l = let k : e - i ≡ 0 = omega arith in rw k
+  touches-length : (ps : List Pixel) → length (hostTouches ink pattern c feed ps) ≤ length ps
+  unfolding hostTouches
+  touches-length [] = omega arith
+  touches-length (p ∷ ps) = by-test (inClip c (feed .x + p .i) (feed .y + p .j)) _ (hostTouches ink pattern c feed ps) (touches-length ps)
+    where
+      by-test : (b : Bool) (t : Touch) (ts : List Touch) → length ts ≤ length ps → length (cond b (t ∷ ts) ts) ≤ suc (length ps)
+      by-test true t ts l = omega arith
+      by-test false t ts l = omega arith
 
-    pub run-starts : (a e : ℕ) (st : State) → o / feed .step < feed .height → a ≡ whole feed (o % feed .step) → e ≡ whole feed (o % feed .step + 1)
-        → drawn ink pattern c feed (run feed last word o a (e - a)) st ≡ drawn ink pattern c feed (byByte feed last word o) st
-    unfolding byByte
-    run-starts a e st l p q = rw (lt-ltb _ _ l, p, q)
+  drawn-upto : (ps : List Pixel) (m : List ℕ) (n : Tally) {m′ : List ℕ} {r : Tally} → tallied m′ r ≡ drawn ink pattern c feed ps (tallied m n) → Upto n (length ps) r
+  drawn-upto ps m n put = upto-more (painted-upto (ink .target) (hostTouches ink pattern c feed ps) m n put) (touches-length ps)
 
-    pub byte-none : (st : State) → feed .height ≤ o / feed .step → st ≡ drawn ink pattern c feed (byByte feed last word o) st
-    unfolding byByte hostTouches paint
-    byte-none st l = rw (le-ltb _ _ l)
+-- ---- a loop that draws: what is left, drawn on the state now, is all of it drawn on the state at the start, and at most k pixels were written
+pub record DrawLeft (ink : Ink) (pattern : List ℕ) (c : Clip) (feed : Feed) (all : List Pixel) (m₀ : List ℕ) (n : Tally) (k : ℕ) (rest : List Pixel) (m : List ℕ) (r : Tally)
+    : Type 0 where
+  pub draws : drawn ink pattern c feed rest (tallied m r) ≡ drawn ink pattern c feed all (tallied m₀ n)
+  pub long : length m ≡ length m₀
+  pub upto : Upto n k r
 
-  -- ---- the bytes that are left of a word's
-  module _ (last word b : ℕ) where
-    pub bytes-turn : (t : ℕ) (st st′ : State) → t < 4 → st′ ≡ drawn ink pattern c feed (byByte feed last word (b + t)) st
-        → drawn ink pattern c feed (byBytes feed last word (b + (t + 1)) (4 - (t + 1))) st′
-        ≡ drawn ink pattern c feed (byBytes feed last word (b + t) (4 - t)) st
+module _ {ink : Ink} {pattern : List ℕ} {c : Clip} {feed : Feed} {all : List Pixel} {m₀ : List ℕ} {n : Tally} where
+  pub draw-begins : {k : ℕ} {rest : List Pixel} → rest ≡ all → DrawLeft ink pattern c feed all m₀ n k rest m₀ n
+  draw-begins e = record {
+    draws = ap (λ (ps : List Pixel). drawn ink pattern c feed ps (tallied m₀ n)) e;
+    long = refl;
+    upto = upto-more (upto-none n) (omega arith);
+  }
+
+  module _ {k : ℕ} {rest : List Pixel} {m : List ℕ} {r : Tally} (left : DrawLeft ink pattern c feed all m₀ n k rest m r) where
+    -- a turn draws the front of what is left
+    pub draw-goes-on : (ps rest′ : List Pixel) {k′ : ℕ} {m′ : List ℕ} {r′ : Tally} → rest ≡ ps ++ rest′ → k + length ps ≤ k′
+        → tallied m′ r′ ≡ drawn ink pattern c feed ps (tallied m r) → DrawLeft ink pattern c feed all m₀ n k′ rest′ m′ r′
+    draw-goes-on ps rest′ e fits put = record {
+      draws = ap (drawn ink pattern c feed rest′) put ∙ sym (drawn-append ink pattern c feed ps rest′ (tallied m r))
+          ∙ ap (λ (l : List Pixel). drawn ink pattern c feed l (tallied m r)) (sym e) ∙ left .draws;
+      long = painted-length (ink .target) (hostTouches ink pattern c feed ps) m r put ∙ left .long;
+      upto = upto-more (upto-then (left .upto) (drawn-upto ink pattern c feed ps m r put)) fits;
+    }
+
+    pub draw-ended : rest ≡ [] → tallied m r ≡ drawn ink pattern c feed all (tallied m₀ n)
+    draw-ended e = none-drawn ink pattern c feed (tallied m r) e ∙ left .draws
+
+-- ---- the pixels of a byte, and the bytes of a word
+module _ (feed : Feed) (last word : ℕ) where
+  pub run-turn : (o i e v : ℕ) → i < e → v ≡ valueOf feed last word (o % 4) i
+      → run feed last word o i (e - i) ≡ (pixel i (o / feed .step) v ∷ []) ++ run feed last word o (i + 1) (e - (i + 1))
+  unfolding run
+  run-turn o i e v l a = let k : e - i ≡ suc (e - (i + 1)) = omega arith in rw (k, a)
+
+  pub run-done : (o i e : ℕ) → e ≤ i → run feed last word o i (e - i) ≡ []
+  unfolding run
+  run-done o i e l = let k : e - i ≡ 0 = omega arith in rw k
+
+  run-length : (o i n : ℕ) → length (run feed last word o i n) ≡ n
+  unfolding run
+  run-length o i zero = refl
+  run-length o i (suc n) = ap suc (run-length o (i + 1) n)
+
+  pub byte-run : (o : ℕ) {a e : ℕ} → o / feed .step < feed .height → a ≡ whole feed (o % feed .step) → e ≡ whole feed (o % feed .step + 1)
+      → run feed last word o a (e - a) ≡ byByte feed last word o
+  unfolding byByte
+  byte-run o l p q = rw (lt-ltb _ _ l, p, q)
+
+  pub byte-none : (o : ℕ) → feed .height ≤ o / feed .step → byByte feed last word o ≡ []
+  unfolding byByte
+  byte-none o l = rw (le-ltb _ _ l)
+
+  byte-length : (o : ℕ) → length (byByte feed last word o) ≤ feed .width
+  byte-length o =
+      by-cases (decLt (o / feed .step) (feed .height))
+      (λ l. rw (← byte-run o l refl refl, run-length) (omega (arith, whole-width feed (o % feed .step + 1))))
+      (λ l. rw (byte-none o (omega arith)) (omega arith))
+
+  bytes-length : feed .width ≤ 2 ^ 13 → (o n : ℕ) → length (byBytes feed last word o n) ≤ 2 ^ 13 * n
+  unfolding byBytes
+  bytes-length w o zero = omega arith
+  bytes-length w o (suc n) = omega (arith, length-append (byByte feed last word o) (byBytes feed last word (o + 1) n), byte-length o, bytes-length w (o + 1) n)
+
+  bytes-append : (o m n : ℕ) → byBytes feed last word o (m + n) ≡ byBytes feed last word o m ++ byBytes feed last word (o + m) n
+  unfolding byBytes
+  bytes-append o zero n = rw (add-zero o, zero-add n)
+  bytes-append o (suc m) n =
+      let p : o + suc m ≡ o + 1 + m = omega arith in
+      rw (suc-add, p)
+      (ap (λ (t : List Pixel). byByte feed last word o ++ t) (bytes-append (o + 1) m n)
+      ∙ sym (append-assoc (byByte feed last word o) (byBytes feed last word (o + 1) m) (byBytes feed last word (o + 1 + m) n)))
+
+-- ---- the loop over the bytes of word number k: t of them are taken
+pub record WordLeft (ink : Ink) (pattern : List ℕ) (c : Clip) (feed : Feed) (last word k : ℕ) (m₀ : List ℕ) (t : ℕ) (m : List ℕ) (r : Tally) : Type 0 where
+  pub left : DrawLeft ink pattern c feed (byWord feed last word k) m₀ (tally 0) (2 ^ 13 * t) (byBytes feed last word (4 * k + t) (4 - t)) m r
+
+module _ {ink : Ink} {pattern : List ℕ} {c : Clip} {feed : Feed} {last word k : ℕ} {m₀ : List ℕ} where
+  pub word-begins : WordLeft ink pattern c feed last word k m₀ 0 m₀ (tally 0)
+  unfolding byWord
+  word-begins = record { left = draw-begins (ap (λ (o : ℕ). byBytes feed last word o 4) (add-zero (4 * k))) }
+
+  module _ {t : ℕ} {m : List ℕ} {r : Tally} (now : WordLeft ink pattern c feed last word k m₀ t m r) where
+    pub word-room : Sizes feed → t < 4 → Room r (feed .width)
+    word-room sizes more = room-first (now .left .upto) (omega (arith, sizes .width))
+
+    pub word-takes : Sizes feed → (n : ℕ) {m′ : List ℕ} {r′ : Tally} → t + n ≤ 4
+        → tallied m′ r′ ≡ drawn ink pattern c feed (byBytes feed last word (4 * k + t) n) (tallied m r) → WordLeft ink pattern c feed last word k m₀ (t + n) m′ r′
+    word-takes sizes n fits put =
+        let e : 4 - t ≡ n + (4 - (t + n)) = omega arith in
+        let a : 4 * k + (t + n) ≡ 4 * k + t + n = omega arith in
+        record {
+          left = draw-goes-on (now .left) (byBytes feed last word (4 * k + t) n) _ (rw (e, a) (bytes-append feed last word (4 * k + t) n (4 - (t + n))))
+              (omega (arith, bytes-length feed last word (omega (arith, sizes .width)) (4 * k + t) n)) put;
+        }
+
+    pub word-ended : 4 ≤ t → tallied m r ≡ drawn ink pattern c feed (byWord feed last word k) (state m₀ 0)
     unfolding byBytes
-    bytes-turn t st st′ l q =
-        let k : 4 - t ≡ suc (4 - (t + 1)) = omega arith in
-        let a : b + (t + 1) ≡ b + t + 1 = omega arith in
-        turn (byByte feed last word (b + t)) (byBytes feed last word (b + (t + 1)) (4 - (t + 1))) (byBytes feed last word (b + t) (4 - t)) st st′ (rw (k, a)) q
-
-    pub bytes-done : (t : ℕ) (st : State) → 4 ≤ t → drawn ink pattern c feed (byBytes feed last word (b + t) (4 - t)) st ≡ st
-    unfolding byBytes hostTouches paint
-    bytes-done t st l = let k : 4 - t ≡ 0 = omega arith in rw k
-
--- ---- how many are written
-pub touches-length : (ink : Ink) (pattern : List ℕ) (c : Clip) (feed : Feed) (ps : List Pixel) → length (hostTouches ink pattern c feed ps) ≤ length ps
-unfolding hostTouches
-touches-length ink pattern c feed [] = omega arith
-touches-length ink pattern c feed (p ∷ ps) =
-    by-test (inClip c (feed .x + p .i) (feed .y + p .j)) _ (hostTouches ink pattern c feed ps) (touches-length ink pattern c feed ps)
-  where
-    by-test : (b : Bool) (t : Touch) (ts : List Touch) → length ts ≤ length ps → length (cond b (t ∷ ts) ts) ≤ suc (length ps)
-    by-test true t ts l = omega arith
-    by-test false t ts l = omega arith
-
--- a word writes at most the pixels that it finishes
-pub count-at-most : (ink : Ink) (pattern : List ℕ) (c : Clip) (feed : Feed) (last word k : ℕ) (m : List ℕ)
-    → paint (ink .target) (hostTouches ink pattern c feed (byWord feed last word k)) (state m 0) .count ≤ length (byWord feed last word k)
-count-at-most ink pattern c feed last word k m =
-    omega (
-      arith,
-      count-most (ink .target) (hostTouches ink pattern c feed (byWord feed last word k)) (state m 0),
-      touches-length ink pattern c feed (byWord feed last word k),
-    )
+    word-ended all = let e : 4 - t ≡ 0 = omega arith in draw-ended (now .left) (rw e)

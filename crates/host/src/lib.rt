@@ -2,13 +2,14 @@
 use ink::Ink;
 use paint::Clip;
 use paint::Source;
+use paint::Tally;
 ghost use mathlib.Core.Path.{_≡_};
 ghost use mathlib.Core.List.{[], _∷_};
-ghost use Prim.Native.Nat.{_+_, _-_, _*_, _/_, _%_, _^_, _<_, _≤_};
+ghost use Prim.Native.Nat.{_+_, _-_, _*_, _/_, _%_, _^_, _<_};
 ghost use lib.ListN.{length};
 ghost use Rattle.formats.specs.Step.{bitsPer, dataWords};
-ghost use Rattle.paint.specs.Paint.{state, paint};
-ghost use Rattle.paint.specs.Mix.{source};
+ghost use Rattle.paint.specs.Paint.{state, tallied, paint};
+ghost use Rattle.paint.specs.Asked.{Room};
 ghost use Rattle.host.specs.Host.{pixel, valueOf, whole, byByte, byWord};
 ghost use Rattle.host.specs.Asked.{Sizes, Opened, Waits};
 ghost use Rattle.host.specs.Draw.{hostSource, hostTouches, drawn};
@@ -108,7 +109,7 @@ fn source_of(ink: Ink, feed: Feed, v: u32) -> Source
     paint::colour_source(ink, bytes, v)
 }
 
-// Pixel (i, j) of value v, after n that were written.
+// Pixel (i, j) of value v, after those that n tells of.
 fn host_pixel(
     mem: &mut [u8],
     ink: Ink,
@@ -118,10 +119,10 @@ fn host_pixel(
     i: u32,
     j: u32,
     v: u32,
-    n: u32,
-) -> u32
-    requires { ⌜ Opened ink c feed (length (now mem)) × ((i < feed .width) × ((j < feed .height) × (n < 2 ^ 16))) ⌝ }
-    ensures { λ r. ⌜ (state (now (mem .exit)) r ≡ drawn ink pattern c feed (pixel i j v ∷ []) (state (now (mem .entry)) n)) × (r ≤ n + 1) ⌝ }
+    n: Tally,
+) -> Tally
+    requires { ⌜ Opened ink c feed (length (now mem)) × ((i < feed .width) × ((j < feed .height) × Room n 1)) ⌝ }
+    ensures { λ r. ⌜ tallied (now (mem .exit)) r ≡ drawn ink pattern c feed (pixel i j v ∷ []) (tallied (now (mem .entry)) n) ⌝ }
 {
     let x = feed.x + i;
     let y = feed.y + j;
@@ -145,10 +146,10 @@ fn host_byte(
     last: u32,
     word: u32,
     o: u32,
-    n: u32,
-) -> u32
-    requires { ⌜ Opened ink c feed (length (now mem)) × (n + feed .width < 2 ^ 16) ⌝ }
-    ensures { λ r. ⌜ (state (now (mem .exit)) r ≡ drawn ink pattern c feed (byByte feed last word o) (state (now (mem .entry)) n)) × (r ≤ n + feed .width) ⌝ }
+    n: Tally,
+) -> Tally
+    requires { ⌜ Opened ink c feed (length (now mem)) × Room n (feed .width) ⌝ }
+    ensures { λ r. ⌜ tallied (now (mem .exit)) r ≡ drawn ink pattern c feed (byByte feed last word o) (tallied (now (mem .entry)) n) ⌝ }
 {
     let step = feed.step;
     let j = o / step;
@@ -168,7 +169,7 @@ fn host_byte(
     r
 }
 
-// The pixels that word number `taken` finishes; `last` is the word before it. How many were written.
+// The pixels that word number `taken` finishes; `last` is the word before it. The tally of those written.
 pub fn host_word(
     mem: &mut [u8],
     ink: Ink,
@@ -178,11 +179,11 @@ pub fn host_word(
     taken: u32,
     last: u32,
     word: u32,
-) -> u32
+) -> Tally
     requires { ⌜ Waits ink c feed (length (now mem)) taken ⌝ }
-    ensures { λ r. ⌜ state (now (mem .exit)) r ≡ paint (ink .target) (hostTouches ink pattern c feed (byWord feed last word taken)) (state (now (mem .entry)) 0) ⌝ }
+    ensures { λ r. ⌜ tallied (now (mem .exit)) r ≡ paint (ink .target) (hostTouches ink pattern c feed (byWord feed last word taken)) (state (now (mem .entry)) 0) ⌝ }
 {
-    let mut n = 0;
+    let mut n = Tally { count: 0 };
     let mut t = 0;
     while t < 4 {
         n = host_byte(mem, ink, pattern, c, feed, last, word, 4 * taken + t, n);

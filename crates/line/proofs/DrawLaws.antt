@@ -6,6 +6,7 @@ use mathlib.Core.Bool.{Bool, true, false, not, _&&_, _||_, and-true}
 use mathlib.Core.List.{List, [], _∷_, map, List·Memᴰ, List·Memᴰ·head, List·Memᴰ·tail, List·Memᴰ·not-nil, List·Memᴰ·cases-cons, Memᴰ·map}
 use Prim.Native.Nat.{ℕ, zero, suc, _+_, _-_, _<_, _≤_, min, max}
 use native.Mathlib.Omega.{arith}
+use lib.ListN.{length}
 use Rattle.surface.specs.declared.Surface.{Surface}
 use Rattle.surface.specs.Place.{onSurface, readPx}
 use Rattle.surface.specs.Pixels.{Px, rect, origin}
@@ -16,7 +17,7 @@ use Rattle.surface.proofs.Rects.{Distinct, rect-in}
 use Rattle.spans.proofs.Corner.{all-each, each-all}
 use Rattle.paint.specs.declared.Clip.{Clip}
 use Rattle.ink.specs.declared.Ink.{Ink}
-use Rattle.paint.specs.Paint.{State, state, dab, Touch, paint}
+use Rattle.paint.specs.Paint.{State, dab, Touch, paint}
 use Rattle.ink.specs.Pattern.{patternValue}
 use Rattle.paint.specs.Mix.{bitSource, mixed}
 use Rattle.paint.specs.Clip.{inClip, pixelAt}
@@ -120,17 +121,22 @@ module _ (s : Surface) (len : ℕ) (c : Clip) (p : Point) where
   unfolding lineOff allOn coveredPoints
   off-clipped h = rw h
 
-module _ (ink : Ink) (pattern : List ℕ) (c : Clip) (pen : Pen) (p : Point) (style n : ℕ) (m : List ℕ) where
-  pub paint-covered : {bit k : ℕ} {m′ : List ℕ} → inClip c (p .x) (p .y) ≡ true → bit ≡ stippleBit pen style
-      → state m′ k ≡ dab (ink .target) (pixelAt (p .x) (p .y))
-      (mixed ink (patternValue ink pattern (p .x - origin) (p .y - origin)) (bitSource ink bit) (readPx m (ink .target) (p .x - origin) (p .y - origin))) (state m n)
-      → state m′ k ≡ paint (ink .target) (lineTouches ink pattern c pen style (p ∷ [])) (state m n)
+module _ (ink : Ink) (pattern : List ℕ) (c : Clip) (pen : Pen) (p : Point) (style : ℕ) (st : State) where
+  pub paint-covered : {bit : ℕ} {st′ : State} → inClip c (p .x) (p .y) ≡ true → bit ≡ stippleBit pen style
+      → st′ ≡ dab (ink .target) (pixelAt (p .x) (p .y))
+      (mixed ink (patternValue ink pattern (p .x - origin) (p .y - origin)) (bitSource ink bit) (readPx (st .mem) (ink .target) (p .x - origin) (p .y - origin))) st
+      → st′ ≡ paint (ink .target) (lineTouches ink pattern c pen style (p ∷ [])) st
   unfolding paint lineTouches
   paint-covered h b e = rw (h, ← b) e
 
-  pub paint-clipped : inClip c (p .x) (p .y) ≡ false → state m n ≡ paint (ink .target) (lineTouches ink pattern c pen style (p ∷ [])) (state m n)
+  pub paint-clipped : inClip c (p .x) (p .y) ≡ false → st ≡ paint (ink .target) (lineTouches ink pattern c pen style (p ∷ [])) st
   unfolding paint lineTouches
   paint-clipped h = rw h
+
+-- no more is touched than a point
+pub one-touch : (ink : Ink) (pattern : List ℕ) (c : Clip) (pen : Pen) (p : Point) (style : ℕ) → length (lineTouches ink pattern c pen style (p ∷ [])) ≤ 1
+unfolding lineTouches
+one-touch ink pattern c pen p style = either (inClip c (p .x) (p .y)) (λ e. rw e (omega arith)) (λ e. rw e (omega arith))
 
 -- ---- one point, and the others
 module _ (s : Surface) (len : ℕ) (c : Clip) (p : Point) (ps : List Point) where

@@ -3,12 +3,13 @@
 use mathlib.Core.Bool.{true}
 use mathlib.Core.List.{[], _∷_}
 use mathlib.Core.Path.{_≡_}
-use Prim.Native.Nat.{ℕ, _+_, _<_, _≤_, _^_}
-use Rattle.paint.specs.Asked.{Bits12}
+use Prim.Native.Nat.{ℕ, _<_, _≤_}
+use Rattle.paint.specs.Asked.{Room, Bits12}
 use Rattle.surface.specs.declared.Surface.{Surface}
 use Rattle.surface.specs.Asked.{Small, Colour}
 use Rattle.spans.specs.Span.{allOn}
 use Rattle.paint.specs.declared.Clip.{Clip}
+use Rattle.paint.specs.declared.Tally.{Tally}
 use Rattle.line.specs.declared.Point.{Point}
 use Rattle.line.specs.declared.Line.{Line}
 use Rattle.line.specs.Line.{points}
@@ -38,9 +39,9 @@ pub record Drawable (s : Surface) (len : ℕ) (c : Clip) (l : Line) : Type 0 whe
   pub line : Placed l
   pub on : allOn s len (coveredPoints c (points l)) ≡ true
 
--- the same of a single point, where n pixels were written before it
-pub record DrawablePoint (s : Surface) (len : ℕ) (c : Clip) (p : Point) (n : ℕ) : Type 0 where
+-- the same of a single point, where n tells of the pixels before it
+pub record DrawablePoint (s : Surface) (len : ℕ) (c : Clip) (p : Point) (n : Tally) : Type 0 where
   pub surface : Colour s
   pub clip : Bits12 c
   pub on : allOn s len (coveredPoints c (p ∷ [])) ≡ true
-  pub room : n + 1 < 2 ^ 32
+  pub room : Room n 1

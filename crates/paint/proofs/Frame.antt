@@ -1,9 +1,10 @@
--- Whatever is painted: only bytes of the pixels touched change, memory keeps its length and stays a memory of bytes, and no more pixels are counted than touched.
+-- Whatever is painted: only bytes of the pixels touched change, memory keeps its length and stays a memory of bytes, no more pixels are told than touched, and the
+-- count is that of the pixels written.
 -- Assumes nothing.
 use mathlib.Core.Path.{_≡_, refl, sym, ap, subst, _∙_}
 use mathlib.Core.List.{List, [], _∷_, map, List·Memᴰ·head, List·Memᴰ·tail}
 use mathlib.Core.Option.{Option, none, some}
-use Prim.Native.Nat.{ℕ, zero, suc, _+_, _/_, _%_, _<_, _≤_}
+use Prim.Native.Nat.{ℕ, zero, suc, _+_, _/_, _%_, _<_}
 use native.Mathlib.Omega.{arith}
 use native.Mathlib.Decide.{ℕ-discrete, decLt}
 use lib.ListN.{length, getD, set}
@@ -13,7 +14,10 @@ use Rattle.surface.specs.Place.{byteOf, writeBytes, writePx}
 use Rattle.surface.specs.Pixels.{Px}
 use Rattle.surface.proofs.Lists.{In, by-cases}
 use Rattle.spans.proofs.Spans.{IsByte}
-use Rattle.paint.specs.Paint.{State, Touch, touch, dab, paint}
+use Rattle.paint.specs.declared.Tally.{Tally}
+use Rattle.paint.specs.Tally.{noted}
+use Rattle.paint.specs.Paint.{State, tallied, state, Touch, touch, dab, paint, given, wrote}
+use Rattle.paint.proofs.Tallies.{Upto, upto-none, upto-noted, upto-then, upto-more}
 use Rattle.paint.proofs.Owners.{dab-leaves, dab-length}
 
 -- the pixels of a list of touches
@@ -38,17 +42,50 @@ pub pixels-of : (f : Px → List ℕ → Option ℕ) (ps : List Px) → pixels (
 pixels-of f [] = refl
 pixels-of f (p ∷ ps) = ap (λ (qs : List Px). p ∷ qs) (pixels-of f ps)
 
--- ---- the count
-counts-one : (s : Surface) (p : Px) (o : Option ℕ) (st : State) → dab s p o st .count ≤ st .count + 1
+-- ---- the tally
+pub dab-upto : (s : Surface) (p : Px) (o : Option ℕ) (st : State) → Upto (st .tally) 1 (dab s p o st .tally)
 unfolding dab
-counts-one s p none st = omega arith
-counts-one s p (some v) st = omega arith
+dab-upto s p none st = upto-more (upto-none (st .tally)) (omega arith)
+dab-upto s p (some v) st = upto-noted 1 (st .tally)
 
-pub count-most : (s : Surface) (ts : List Touch) (st : State) → paint s ts st .count ≤ st .count + length ts
+pub paint-upto : (s : Surface) (ts : List Touch) (st : State) → Upto (st .tally) (length ts) (paint s ts st .tally)
 unfolding paint
-count-most s [] st = omega arith
-count-most s (t ∷ ts) st =
-    omega (arith, counts-one s (t .at) (t .gives (st .mem)) st, count-most s ts (dab s (t .at) (t .gives (st .mem)) st))
+paint-upto s [] st = upto-none (st .tally)
+paint-upto s (t ∷ ts) st =
+    let put = dab s (t .at) (t .gives (st .mem)) st in
+    upto-more (upto-then (dab-upto s (t .at) (t .gives (st .mem)) st) (paint-upto s ts put)) (omega arith)
+
+-- what is painted, and what it adds to the tally, is the same after any tally
+abbrev pub after : Tally → State → State
+after n st = tallied (st .mem) (noted (st .tally .count) n)
+
+dab-after : (s : Surface) (p : Px) (o : Option ℕ) (n : Tally) (st : State) → dab s p o (after n st) ≡ after n (dab s p o st)
+unfolding dab
+dab-after s p none n st = refl
+dab-after s p (some v) n st = let e : n .count + st .tally .count + 1 ≡ n .count + (st .tally .count + 1) = omega arith in rw e
+
+pub paint-after : (s : Surface) (ts : List Touch) (n : Tally) (st : State) → paint s ts (after n st) ≡ after n (paint s ts st)
+unfolding paint
+paint-after s [] n st = refl
+paint-after s (t ∷ ts) n st =
+    ap (paint s ts) (dab-after s (t .at) (t .gives (st .mem)) n st) ∙ paint-after s ts n (dab s (t .at) (t .gives (st .mem)) st)
+
+pub painted-after : (s : Surface) (ts : List Touch) (m : List ℕ) (n : Tally) {m′ : List ℕ} {k : ℕ} → state m′ k ≡ paint s ts (state m 0)
+    → tallied m′ (noted k n) ≡ paint s ts (tallied m n)
+painted-after s ts m n e =
+    let start : n .count + 0 ≡ n .count = omega arith in
+    ap (after n) e ∙ sym (paint-after s ts n (state m 0)) ∙ ap (λ (k : ℕ). paint s ts (state m k)) start
+
+-- the count is the number of pixels written
+pub count-wrote : (s : Surface) (ts : List Touch) (m : List ℕ) (n : Tally) → paint s ts (tallied m n) .tally .count ≡ n .count + length (wrote s ts m)
+unfolding paint wrote dab
+count-wrote s [] m n = omega arith
+count-wrote s (t ∷ ts) m n = by (λ left k. count-wrote s ts left k) (t .gives m)
+  where
+    by : ((left : List ℕ) (k : Tally) → paint s ts (tallied left k) .tally .count ≡ k .count + length (wrote s ts left)) → (o : Option ℕ)
+        → paint s ts (dab s (t .at) o (tallied m n)) .tally .count ≡ n .count + length (given o (t .at) (wrote s ts (dab s (t .at) o (state m 0) .mem)))
+    by rest none = rest m n
+    by rest (some v) = let h = rest (writePx m s (t .at .x) (t .at .y) v) (noted 1 n) in omega (arith, h)
 
 -- ---- a memory of bytes
 abbrev pub Bytes : List ℕ → Type 0

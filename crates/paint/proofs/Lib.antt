@@ -1,6 +1,8 @@
+pub mod Tallies
 pub mod MixLaws
 pub mod Turns
 pub mod Owners
-pub mod Settle
 pub mod Frame
+pub mod Loops
+pub mod Settle
 pub mod ClipLaws

@@ -1,35 +1,25 @@
--- Laws of one covered pixel: a pixel that is left, and one that is put there by the steps of the code.
+-- Laws of one covered pixel: what it is given, by the steps of the code, where no raster operation looks at the pattern, and where it gets its source.
 -- Assumes nothing.
 use mathlib.Core.Path.{_≡_, refl, sym, ap, _∙_}
 use mathlib.Core.Bool.{Bool, true, false, cond, not, _&&_}
 use mathlib.Core.Option.{Option, none, some}
-use mathlib.Core.List.{List}
-use Prim.Native.Nat.{ℕ, _+_, _%_, _^_, _<_}
+use Prim.Native.Nat.{ℕ, _%_, _^_, _<_}
 use native.Mathlib.Nat.{mod-eq-of-lt}
 use lib.Dec.{eqb}
 use borrow.Author.Tests.{eqb-true}
 use Rattle.raster.specs.Rop.{ropBits, patternFree}
 use Rattle.keys.specs.Key.{keyMatch}
 use Rattle.raster.proofs.RopLaws.{copies, pattern-free}
-use Rattle.surface.specs.Place.{readPx, writePx}
-use Rattle.surface.specs.Pixels.{px}
 use Rattle.surface.proofs.OnLaws.{and-left, and-right}
 use Rattle.ink.specs.declared.Ink.{Ink}
 use Rattle.paint.specs.declared.Source.{Source}
-use Rattle.paint.specs.Paint.{state, dab}
 use Rattle.paint.specs.Mix.{source, chosen, targetMatch, patternless, mixed, direct}
 
-pub left-alone : (ink : Ink) (pattern : ℕ) (s : Source) (x y n : ℕ) (m : List ℕ) → s .left ≡ true
-    → state m n ≡ dab (ink .target) (px x y) (mixed ink pattern s (readPx m (ink .target) x y)) (state m n)
-unfolding mixed dab
-left-alone ink pattern s x y n m e = rw e
-
-pub put-there : (ink : Ink) (pattern : ℕ) (s : Source) (x y n : ℕ) (m m′ : List ℕ) {old code v : ℕ} {match : Bool} → s .left ≡ false
-    → old ≡ readPx m (ink .target) x y → match ≡ targetMatch ink old → code ≡ chosen ink (s .key) match → v ≡ ropBits 32 code pattern (s .value) old
-    → m′ ≡ writePx m (ink .target) x y v
-    → state m′ (n + 1) ≡ dab (ink .target) (px x y) (mixed ink pattern s (readPx m (ink .target) x y)) (state m n)
-unfolding mixed dab
-put-there ink pattern s x y n m m′ e o t k r w = rw (e, ← o, ← t, ← k, ← r, w)
+-- a pixel is given what the steps of the code make
+pub mixed-by : (ink : Ink) (pattern : ℕ) (s : Source) {old code v now : ℕ} {match : Bool} → old ≡ now → match ≡ targetMatch ink old → code ≡ chosen ink (s .key) match
+    → v ≡ ropBits 32 code pattern (s .value) old → cond (s .left) none (some v) ≡ mixed ink pattern s now
+unfolding mixed
+mixed-by ink pattern s o t k r = rw (← o, ← t, ← k, ← r)
 
 -- ---- a pattern that no raster operation looks at
 pub pattern-unread : (ink : Ink) (p q : ℕ) (s : Source) (old : ℕ) → patternless ink ≡ true → mixed ink p s old ≡ mixed ink q s old

@@ -16,7 +16,8 @@ use Rattle.surface.specs.Pixels.{Px}
 use Rattle.surface.proofs.Lists.{In, Pairs}
 use Rattle.surface.proofs.Rects.{Distinct}
 use Rattle.spans.proofs.Spans.{IsByte}
-use Rattle.paint.specs.Paint.{State, state, Touch, touch, dab, paint}
+use Rattle.paint.specs.declared.Tally.{Tally}
+use Rattle.paint.specs.Paint.{State, tallied, state, Touch, touch, dab, paint}
 use Rattle.paint.proofs.Owners.{one-owner, dab-leaves, dab-length, dab-agree, owner}
 
 -- what a pixel is given, from the memory that its source is read in and from the memory now
@@ -48,20 +49,20 @@ abbrev pub counted : Option ℕ → ℕ
 counted none = 0
 counted (some v) = 1
 
-unfoldable pub tally : (Px → ℕ) → List Px → ℕ
-tally f [] = 0
-tally f (p ∷ ps) = f p + tally f ps
+unfoldable pub summed : (Px → ℕ) → List Px → ℕ
+summed f [] = 0
+summed f (p ∷ ps) = f p + summed f ps
 
 -- the pixels have what their steps give from m, each as if it were the only one, and all else is as it was
 pub record Settled (s : Surface) (brush : Brush) (m : List ℕ) (ps : List Px) (st st′ : State) : Type 0 where
   pub given : (p : Px) → In p ps → (a : ℕ) → IsByte s p a → getD (st′ .mem) a 0 ≡ getD (dab s p (brush m m p) (state m 0) .mem) a 0
   pub others : (a : ℕ) → ((p : Px) → In p ps → IsByte s p a → ⊥) → getD (st′ .mem) a 0 ≡ getD (st .mem) a 0
   pub long : length (st′ .mem) ≡ length (st .mem)
-  pub counts : st′ .count ≡ st .count + tally (λ p. counted (brush m m p)) ps
+  pub counts : st′ .tally .count ≡ st .tally .count + summed (λ p. counted (brush m m p)) ps
 
-dab-counts : (s : Surface) (p : Px) (o : Option ℕ) (st : State) → dab s p o st .count ≡ st .count + counted o
+dab-counts : (s : Surface) (p : Px) (o : Option ℕ) (st : State) → dab s p o st .tally .count ≡ st .tally .count + counted o
 unfolding dab
-dab-counts s p none st = sym (add-zero (st .count))
+dab-counts s p none st = sym (add-zero (st .tally .count))
 dab-counts s p (some v) st = refl
 
 module _ (s : Surface) (colour : 0 < s .bytes) (brush : Brush) (Reads : Px → ℕ → Type 0) (loc : Local s brush Reads) where
@@ -77,19 +78,19 @@ module _ (s : Surface) (colour : 0 < s .bytes) (brush : Brush) (Reads : Px → �
       ∙ in-place-from m ps (dab s p (brush m (st .mem) p) st) (u .1)
       (λ q i a r. dab-leaves s colour p (brush m (st .mem) p) st a (u .0 q i a r) ∙ h q (List·Memᴰ·tail i) a r)
 
-  pub in-place : (ps : List Px) (m : List ℕ) (n : ℕ) → Pairs (Unread s Reads) ps → paint s (inPlace brush ps) (state m n) ≡ paint s (from brush m ps) (state m n)
-  in-place ps m n u = in-place-from m ps (state m n) u (λ q i a r. refl)
+  pub in-place : (ps : List Px) (m : List ℕ) (n : Tally) → Pairs (Unread s Reads) ps → paint s (inPlace brush ps) (tallied m n) ≡ paint s (from brush m ps) (tallied m n)
+  in-place ps m n u = in-place-from m ps (tallied m n) u (λ q i a r. refl)
 
   -- ---- what it comes to
   settled-from : (m : List ℕ) (ps : List Px) (st : State) → Distinct ps → Columns s ps → length (st .mem) ≡ length m
       → ((q : Px) → In q ps → (a : ℕ) → IsByte s q a → getD (st .mem) a 0 ≡ getD m a 0)
       → Settled s brush m ps st (paint s (from brush m ps) st)
-  unfolding paint tally
+  unfolding paint summed
   settled-from m [] st d c l h = record {
     given = λ p i. absurd (List·Memᴰ·not-nil i);
     others = λ a f. refl;
     long = refl;
-    counts = sym (add-zero (st .count));
+    counts = sym (add-zero (st .tally .count));
   }
   settled-from m (p ∷ ps) st d c l h =
       let o = brush m (st .mem) p in
@@ -111,30 +112,30 @@ module _ (s : Surface) (colour : 0 < s .bytes) (brush : Brush) (Reads : Px → �
         counts = let f : counted o ≡ counted (brush m m p) = ap counted e in omega (arith, r .counts, dab-counts s p o st);
       }
 
-  pub settled : (m : List ℕ) (ps : List Px) (n : ℕ) → Distinct ps → Columns s ps → Settled s brush m ps (state m n) (paint s (from brush m ps) (state m n))
-  settled m ps n d c = settled-from m ps (state m n) d c refl (λ q i a b. refl)
+  pub settled : (m : List ℕ) (ps : List Px) (n : Tally) → Distinct ps → Columns s ps → Settled s brush m ps (tallied m n) (paint s (from brush m ps) (tallied m n))
+  settled m ps n d c = settled-from m ps (tallied m n) d c refl (λ q i a b. refl)
 
 -- ---- any order
 without : {p : Px} {ps : List Px} → In p ps → List Px
 without (List·Memᴰ·head {x} {xs} e) = xs
 without (List·Memᴰ·tail {x} {xs} i) = x ∷ without i
 
-tally-without : (f : Px → ℕ) {p : Px} {ps : List Px} (i : In p ps) → tally f ps ≡ f p + tally f (without i)
-unfolding tally without
-tally-without f (List·Memᴰ·head {x} {xs} e) = ap (λ (q : Px). f q + tally f xs) (sym e)
-tally-without f (List·Memᴰ·tail {x} {xs} i) = omega (arith, tally-without f i)
+summed-without : (f : Px → ℕ) {p : Px} {ps : List Px} (i : In p ps) → summed f ps ≡ f p + summed f (without i)
+unfolding summed without
+summed-without f (List·Memᴰ·head {x} {xs} e) = ap (λ (q : Px). f q + summed f xs) (sym e)
+summed-without f (List·Memᴰ·tail {x} {xs} i) = omega (arith, summed-without f i)
 
 kept : {p : Px} {ps : List Px} (i : In p ps) (q : Px) → (q ≡ p → ⊥) → In q ps → In q (without i)
 unfolding without
 kept (List·Memᴰ·head {x} {xs} e) q n j = ⊎-elim (λ w. absurd (n (w ∙ sym e))) (λ k. k) (List·Memᴰ·cases-cons j)
 kept (List·Memᴰ·tail {x} {xs} i) q n j = ⊎-elim (λ w. List·Memᴰ·head w) (λ k. List·Memᴰ·tail (kept i q n k)) (List·Memᴰ·cases-cons j)
 
-tally-le : (f : Px → ℕ) (ps qs : List Px) → Distinct ps → ((p : Px) → In p ps → In p qs) → tally f ps ≤ tally f qs
-unfolding tally
-tally-le f [] qs d h = omega arith
-tally-le f (p ∷ ps) qs d h =
+summed-le : (f : Px → ℕ) (ps qs : List Px) → Distinct ps → ((p : Px) → In p ps → In p qs) → summed f ps ≤ summed f qs
+unfolding summed
+summed-le f [] qs d h = omega arith
+summed-le f (p ∷ ps) qs d h =
     let i = h p (List·Memᴰ·head refl) in
-    omega (arith, tally-without f i, tally-le f ps (without i) (d .1) (λ q j. kept i q (λ e. d .0 q j (sym e)) (h q (List·Memᴰ·tail j))))
+    omega (arith, summed-without f i, summed-le f ps (without i) (d .1) (λ q j. kept i q (λ e. d .0 q j (sym e)) (h q (List·Memᴰ·tail j))))
 
 settled-same : (s : Surface) (brush : Brush) (m : List ℕ) (ps qs : List Px) (st a b : State) → Distinct ps → Distinct qs
     → ((p : Px) → In p ps → In p qs) → ((p : Px) → In p qs → In p ps) → Settled s brush m ps st a → Settled s brush m qs st b → a ≡ b
@@ -142,14 +143,14 @@ settled-same s brush m ps qs st a b dp dq f g ha hb =
     let mems : a .mem ≡ b .mem = ext-getD 0 (a .mem) (b .mem) (ha .long ∙ sym (hb .long))
     (λ i l. ⊎-elim (λ r. ha .given (r .0) (r .1) i (r .2) ∙ sym (hb .given (r .0) (f (r .0) (r .1)) i (r .2)))
     (λ h. ha .others i h ∙ sym (hb .others i (λ p j. h p (g p j)))) (owner s ps i)) in
-    let t : tally (λ p. counted (brush m m p)) ps ≡ tally (λ p. counted (brush m m p)) qs =
-    le-antisymm (tally-le (λ p. counted (brush m m p)) ps qs dp f) (tally-le (λ p. counted (brush m m p)) qs ps dq g) in
-    let counts : a .count ≡ b .count = omega (arith, ha .counts, hb .counts) in
+    let t : summed (λ p. counted (brush m m p)) ps ≡ summed (λ p. counted (brush m m p)) qs =
+    le-antisymm (summed-le (λ p. counted (brush m m p)) ps qs dp f) (summed-le (λ p. counted (brush m m p)) qs ps dq g) in
+    let counts : a .tally .count ≡ b .tally .count = omega (arith, ha .counts, hb .counts) in
     λ i. state (mems i) (counts i)
 
-pub any-order : (s : Surface) → 0 < s .bytes → (brush : Brush) (Reads : Px → ℕ → Type 0) → Local s brush Reads → (m : List ℕ) (ps qs : List Px) (n : ℕ)
+pub any-order : (s : Surface) → 0 < s .bytes → (brush : Brush) (Reads : Px → ℕ → Type 0) → Local s brush Reads → (m : List ℕ) (ps qs : List Px) (n : Tally)
     → Distinct ps → Distinct qs → ((p : Px) → In p ps → In p qs) → ((p : Px) → In p qs → In p ps) → Columns s ps
-    → paint s (from brush m ps) (state m n) ≡ paint s (from brush m qs) (state m n)
+    → paint s (from brush m ps) (tallied m n) ≡ paint s (from brush m qs) (tallied m n)
 any-order s colour brush Reads loc m ps qs n dp dq f g c =
-    settled-same s brush m ps qs (state m n) (paint s (from brush m ps) (state m n)) (paint s (from brush m qs) (state m n)) dp dq f g
+    settled-same s brush m ps qs (tallied m n) (paint s (from brush m ps) (tallied m n)) (paint s (from brush m qs) (tallied m n)) dp dq f g
     (settled s colour brush Reads loc m ps n dp c) (settled s colour brush Reads loc m qs n dq (λ p i. c p (g p i)))

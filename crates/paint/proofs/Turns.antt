@@ -10,7 +10,8 @@ use Rattle.surface.specs.declared.Surface.{Surface}
 use Rattle.surface.specs.Place.{byteOf}
 use Rattle.surface.specs.Pixels.{Px, px, across, rect}
 use Rattle.surface.proofs.Run.{InPiece, write-run}
-use Rattle.paint.specs.Paint.{State, state, Touch, touch, dab, dabAt, paint, nth}
+use Rattle.paint.specs.Tally.{noted}
+use Rattle.paint.specs.Paint.{State, tallied, Touch, touch, dab, dabAt, paint, nth}
 
 -- ---- what remains after i turns
 abbrev first : Bool → ℕ → ℕ → ℕ
@@ -113,7 +114,7 @@ paint-while s f g Holds (p ∷ ps) h k st holds =
 pub dab-at : (s : Surface) → InPiece s → (p : Px) (a : ℕ) (o : Option ℕ) (st : State) → a ≡ byteOf s (p .x) (p .y) 0 → dabAt a (s .bytes) o st ≡ dab s p o st
 unfolding dabAt dab
 dab-at s piece p a none st e = refl
-dab-at s piece p a (some v) st e = ap (λ (m : List ℕ). state m (st .count + 1)) (write-run s piece (p .x) (p .y) a e v (st .mem))
+dab-at s piece p a (some v) st e = ap (λ (m : List ℕ). tallied m (noted 1 (st .tally))) (write-run s piece (p .x) (p .y) a e v (st .mem))
 
 -- ---- several pixels of a row at once
 across-append : (x m n y : ℕ) → across false x (m + n) y ≡ across false x m y ++ across false (x + m) n y

@@ -4,6 +4,7 @@ use Prim.Native.Nat.{ℕ, _+_, _^_, _<_}
 use Rattle.surface.specs.Asked.{OnColour}
 use Rattle.ink.specs.declared.Ink.{Ink}
 use Rattle.paint.specs.declared.Clip.{Clip}
+use Rattle.paint.specs.declared.Tally.{Tally}
 
 -- a clip as its registers keep it
 pub record Bits12 (c : Clip) : Type 0 where
@@ -12,7 +13,11 @@ pub record Bits12 (c : Clip) : Type 0 where
   pub top : c .top < 2 ^ 12
   pub bottom : c .bottom < 2 ^ 12
 
--- a pixel that is on the target, where n were written before it
-pub record Ready (ink : Ink) (len x y n : ℕ) : Type 0 where
+-- a tally n that can tell of k pixels more
+pub record Room (n : Tally) (k : ℕ) : Type 0 where
+  pub count : n .count + k < 2 ^ 32
+
+-- a pixel that is on the target, where n tells of those before it
+pub record Ready (ink : Ink) (len x y : ℕ) (n : Tally) : Type 0 where
   pub on : OnColour (ink .target) len x y
-  pub room : n + 1 < 2 ^ 32
+  pub room : Room n 1

@@ -33,7 +33,7 @@ unfoldable pub fillSource : Ink → ℕ → Source
 fillSource ink bit = source (ink .fore) false (ink .clear && (ink .mono && eqb bit 0))
 
 -- its value, or nothing where the pixel is left
-unfoldable pub sourced : Source → Option ℕ
+abbrev pub sourced : Source → Option ℕ
 sourced s = cond (s .left) none (some (s .value))
 
 -- ---- the raster operation: a source match adds 2 to its number, a target match adds 1

@@ -1,4 +1,4 @@
--- Painting: pixels touched one after the other, each given a value or left unwritten; the memory and the count of pixels written.
+-- Painting: pixels touched one after the other, each given a value or left unwritten; the memory, the tally of the pixels written, and which they are.
 -- Assumes nothing.
 use mathlib.Core.Bool.{Bool, true, false}
 use mathlib.Core.List.{List, [], _∷_}
@@ -7,23 +7,29 @@ use Prim.Native.Nat.{ℕ, _+_, _-_}
 use Rattle.surface.specs.declared.Surface.{Surface}
 use Rattle.surface.specs.Place.{writeBytes, writePx}
 use Rattle.surface.specs.Pixels.{Px}
+use Rattle.paint.specs.declared.Tally.{Tally}
+use Rattle.paint.specs.Tally.{tally, noted}
 
 pub record State : Type 0 where
   pub mem : List ℕ
-  pub count : ℕ
+  pub tally : Tally
 
+abbrev pub tallied : List ℕ → Tally → State
+tallied m n = record { mem = m; tally = n }
+
+-- a memory, and how many pixels were written
 abbrev pub state : List ℕ → ℕ → State
-state m n = record { mem = m; count = n }
+state m n = tallied m (tally n)
 
--- the one store: pixel p is given a value, and counted, or it is left
+-- the one store: pixel p is given a value, and told in the tally, or it is left
 unfoldable pub dab : Surface → Px → Option ℕ → State → State
 dab s p none st = st
-dab s p (some v) st = state (writePx (st .mem) s (p .x) (p .y) v) (st .count + 1)
+dab s p (some v) st = tallied (writePx (st .mem) s (p .x) (p .y) v) (noted 1 (st .tally))
 
 -- the same of n bytes from an address on
 unfoldable pub dabAt : ℕ → ℕ → Option ℕ → State → State
 dabAt at n none st = st
-dabAt at n (some v) st = state (writeBytes (λ k. at + k) 0 n v (st .mem)) (st .count + 1)
+dabAt at n (some v) st = tallied (writeBytes (λ k. at + k) 0 n v (st .mem)) (noted 1 (st .tally))
 
 -- a pixel, and what it is given in the memory as it is then
 pub record Touch : Type 0 where
@@ -36,6 +42,15 @@ touch p g = record { at = p; gives = g }
 unfoldable pub paint : Surface → List Touch → State → State
 paint s [] st = st
 paint s (t ∷ ts) st = paint s ts (dab s (t .at) (t .gives (st .mem)) st)
+
+-- the pixels that are given a value, of those touched in turn: these are the ones written
+abbrev pub given : Option ℕ → Px → List Px → List Px
+given none p ps = ps
+given (some v) p ps = p ∷ ps
+
+unfoldable pub wrote : Surface → List Touch → List ℕ → List Px
+wrote s [] m = []
+wrote s (t ∷ ts) m = given (t .gives m) (t .at) (wrote s ts (dab s (t .at) (t .gives m) (state m 0) .mem))
 
 -- the place number i of n from `at`: from the low end, or from the high end
 abbrev pub nth : Bool → ℕ → ℕ → ℕ → ℕ

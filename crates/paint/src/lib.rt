@@ -1,15 +1,25 @@
-// What changes memory: one covered pixel; and the place whose turn it is, of a row or a column of them. Nothing here knows a register's offset or an answer's number.
+// What changes memory: one covered pixel, stored and told in the tally, or left; and the place whose turn it is, of a row or a column of them. Nothing here
+// knows a register's offset or an answer's number.
 use ink::Ink;
+use surface::Surface;
 ghost use mathlib.Core.Path.{_≡_};
-ghost use mathlib.Core.Bool.{false};
+ghost use mathlib.Core.Bool.{false, cond};
+ghost use mathlib.Core.Option.{none, some};
 ghost use Prim.Native.Nat.{_+_, _-_, _/_, _^_, _<_, _≤_};
 ghost use lib.ListN.{length};
 ghost use Rattle.surface.specs.Place.{readPx};
 ghost use Rattle.surface.specs.Pixels.{px};
-ghost use Rattle.paint.specs.Paint.{state, dab, nth};
+ghost use Rattle.surface.specs.Asked.{Held, OnColour};
+ghost use Rattle.paint.specs.Tally.{noted};
+ghost use Rattle.paint.specs.Paint.{tallied, dab, dabAt, nth};
 ghost use Rattle.paint.specs.Mix.{source, colourSource, bitSource, chosen, targetMatch, mixed, direct, patternless};
-ghost use Rattle.paint.specs.Asked.{Ready, Bits12};
+ghost use Rattle.paint.specs.Asked.{Room, Ready, Bits12};
 ghost use Rattle.paint.specs.Clip.{inClip};
+
+// What is told of the pixels written so far: how many they are.
+pub struct Tally {
+    pub count: u32,
+}
 
 // A pixel's source: its value in the target's format, whether it matches the source key, and whether the pixel is left unwritten.
 pub struct Source {
@@ -122,18 +132,54 @@ pub fn is_patternless(ink: Ink) -> bool
         & (raster::is_pattern_free(ink.rop2) & raster::is_pattern_free(ink.rop3))
 }
 
-// A pixel by itself: it is given what pattern, source and target make, and counted, or it is left.
-pub fn put_source(mem: &mut [u8], ink: Ink, pattern: u32, x: u32, y: u32, s: Source, n: u32) -> u32
-    requires { ⌜ Ready ink (length (now mem)) x y n ⌝ }
-    ensures { λ r. ⌜ (state (now (mem .exit)) r ≡ dab (ink .target) (px x y) (mixed ink pattern s (readPx (now (mem .entry)) (ink .target) x y)) (state (now (mem .entry)) n)) × (r ≤ n + 1) ⌝ }
+// The tally after k pixels more were written.
+pub fn note(n: Tally, k: u32) -> Tally
+    requires { ⌜ Room n k ⌝ }
+    ensures { λ r. ⌜ r ≡ noted k n ⌝ }
 {
-    if s.left {
+    Tally { count: n.count + k }
+}
+
+// The one store: the pixel at (x, y) becomes v and is told, or it is left.
+pub fn put_value(mem: &mut [u8], s: Surface, x: u32, y: u32, left: bool, v: u32, n: Tally) -> Tally
+    requires { ⌜ OnColour s (length (now mem)) x y × Room n 1 ⌝ }
+    ensures { λ r. ⌜ tallied (now (mem .exit)) r ≡ dab s (px x y) (cond left none (some v)) (tallied (now (mem .entry)) n) ⌝ }
+{
+    if left {
         return n;
     }
+    surface::put_pixel(mem, s, x, y, v);
+    note(n, 1)
+}
+
+// The same of a pixel of so many bytes from an address on.
+pub fn put_value_at(mem: &mut [u8], at: usize, bytes: u32, left: bool, v: u32, n: Tally) -> Tally
+    requires { ⌜ Held at bytes (length (now mem)) × Room n 1 ⌝ }
+    ensures { λ r. ⌜ tallied (now (mem .exit)) r ≡ dabAt at bytes (cond left none (some v)) (tallied (now (mem .entry)) n) ⌝ }
+{
+    if left {
+        return n;
+    }
+    surface::put_bytes(mem, at, bytes, v);
+    note(n, 1)
+}
+
+// A pixel by itself: it is given what pattern, source and target make, or it is left.
+pub fn put_source(
+    mem: &mut [u8],
+    ink: Ink,
+    pattern: u32,
+    x: u32,
+    y: u32,
+    s: Source,
+    n: Tally,
+) -> Tally
+    requires { ⌜ Ready ink (length (now mem)) x y n ⌝ }
+    ensures { λ r. ⌜ tallied (now (mem .exit)) r ≡ dab (ink .target) (px x y) (mixed ink pattern s (readPx (now (mem .entry)) (ink .target) x y)) (tallied (now (mem .entry)) n) ⌝ }
+{
     let target = ink.target;
     let old = surface::get_pixel(mem, target, x, y);
     let code = choose(ink, s.key, matches_target(ink, old));
     let v = raster::raster(code, pattern, s.value, old);
-    surface::put_pixel(mem, target, x, y, v);
-    n + 1
+    put_value(mem, target, x, y, s.left, v, n)
 }

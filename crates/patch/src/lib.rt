@@ -1,11 +1,11 @@
 // Rectangles filled or copied with each pixel by itself, whatever the layouts of the surfaces.
 use paint::Source;
+use paint::Tally;
 use sweep::Task;
 ghost use mathlib.Core.Path.{_≡_};
-ghost use Prim.Native.Nat.{_+_, _≤_};
 ghost use lib.ListN.{length};
 ghost use Rattle.surface.specs.Pixels.{px, across, rect};
-ghost use Rattle.paint.specs.Paint.{state, paint};
+ghost use Rattle.paint.specs.Paint.{state, tallied, paint};
 ghost use Rattle.sweep.specs.Copy.{sourceBy, inTurn};
 ghost use Rattle.sweep.specs.Asked.{HasSource, RowReady, CanPaint};
 ghost use Rattle.patch.specs.Row.{inRow};
@@ -29,7 +29,7 @@ fn source_at(mem: &[u8], t: Task, bit: u32, x: u32, y: u32) -> Source
     paint::colour_source(ink, bytes, surface::get_pixel(mem, from, sx, sy))
 }
 
-// The w pixels of row y, from the left or from the right, after n that were written; `values` and `bits` are of the pattern's row there.
+// The w pixels of row y, from the left or from the right, after those that n tells of; `values` and `bits` are of the pattern's row there.
 fn paint_across(
     mem: &mut [u8],
     t: Task,
@@ -38,10 +38,10 @@ fn paint_across(
     w: u32,
     y: u32,
     back: bool,
-    n: u32,
-) -> u32
+    n: Tally,
+) -> Tally
     requires { ⌜ RowReady t w y (length (now mem)) n ⌝ }
-    ensures { λ r. ⌜ (state (now (mem .exit)) r ≡ paint (t .ink .target) (inRow t values bits (across back (t .x) w y)) (state (now (mem .entry)) n)) × (r ≤ n + w) ⌝ }
+    ensures { λ r. ⌜ tallied (now (mem .exit)) r ≡ paint (t .ink .target) (inRow t values bits (across back (t .x) w y)) (tallied (now (mem .entry)) n) ⌝ }
 {
     let ink = t.ink;
     let mut r = n;
@@ -65,12 +65,12 @@ pub fn paint_rows(
     h: u32,
     toLeft: bool,
     toTop: bool,
-) -> u32
+) -> Tally
     requires { ⌜ CanPaint t w h (length (now mem)) ⌝ }
-    ensures { λ r. ⌜ state (now (mem .exit)) r ≡ paint (t .ink .target) (inTurn t pattern (rect toLeft toTop (t .x) (t .y) w h)) (state (now (mem .entry)) 0) ⌝ }
+    ensures { λ r. ⌜ tallied (now (mem .exit)) r ≡ paint (t .ink .target) (inTurn t pattern (rect toLeft toTop (t .x) (t .y) w h)) (state (now (mem .entry)) 0) ⌝ }
 {
     let ink = t.ink;
-    let mut n = 0;
+    let mut n = Tally { count: 0 };
     let mut j = 0;
     while j < h {
         let y = paint::place(toTop, t.y, h, j);

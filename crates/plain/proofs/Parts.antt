@@ -1,53 +1,51 @@
--- Laws of drawing a part of a row: one turn of the loops over its pixels, and over the parts that a word has.
+-- The loops over a stretch of a row's pixels: what is left of it, drawn on the state now, is all of it drawn on the state at the start.
 -- Assumes nothing.
-use mathlib.Core.Path.{sym, _≡_}
+use mathlib.Core.Path.{_≡_, refl, sym}
 use mathlib.Core.List.{List, [], _∷_}
-use Prim.Native.Nat.{ℕ, suc, _+_, _-_, _*_, _%_, _<_, _≤_}
+use Prim.Native.Nat.{ℕ, _+_, _-_, _%_, _<_, _≤_}
 use native.Mathlib.Omega.{arith}
 use Rattle.ink.specs.declared.Ink.{Ink}
 use Rattle.paint.specs.declared.Clip.{Clip}
-use Rattle.paint.specs.Paint.{State, paint}
+use Rattle.paint.specs.declared.Tally.{Tally}
+use Rattle.paint.specs.Paint.{tallied}
+use Rattle.paint.specs.Asked.{Room}
+use Rattle.paint.proofs.Tallies.{room-left}
 use Rattle.host.specs.declared.Feed.{Feed}
-use Rattle.host.specs.Host.{lastByteOf, pixel, valueOf, byBytes}
-use Rattle.host.specs.Draw.{hostTouches, drawn}
+use Rattle.host.specs.Host.{lastByteOf, pixel, valueOf}
+use Rattle.host.specs.Draw.{drawn}
+use Rattle.host.proofs.Drawing.{DrawLeft, draw-begins, draw-goes-on, draw-ended}
 use Rattle.plain.specs.Plain.{stretch}
-use Rattle.plain.proofs.Stretch.{bytes-append, past-none, stretch-append}
-use Rattle.host.proofs.Drawing.{turn}
+use Rattle.plain.proofs.Stretch.{stretch-append, stretch-length}
 
-module _ (ink : Ink) (pattern : List ℕ) (c : Clip) (feed : Feed) where
-  -- ---- the pixels that are left of a row's part
-  module _ (last word j : ℕ) where
-    pub stretch-turn : (i e v : ℕ) (st st′ : State) → i < e → v ≡ valueOf feed last word (lastByteOf feed i j % 4) i
-        → st′ ≡ drawn ink pattern c feed (pixel i j v ∷ []) st
-        → drawn ink pattern c feed (stretch feed last word j (i + 1) (e - (i + 1))) st′ ≡ drawn ink pattern c feed (stretch feed last word j i (e - i)) st
+-- the pixels of row j from start up to end, those before pixel i drawn
+pub record StretchLeft (ink : Ink) (pattern : List ℕ) (c : Clip) (feed : Feed) (last word j start end : ℕ) (m₀ : List ℕ) (n : Tally) (i : ℕ) (m : List ℕ) (r : Tally) : Type 0 where
+  pub left : DrawLeft ink pattern c feed (stretch feed last word j start (end - start)) m₀ n (i - start) (stretch feed last word j i (end - i)) m r
+  pub low : start ≤ i
+
+module _ {ink : Ink} {pattern : List ℕ} {c : Clip} {feed : Feed} {last word j start end : ℕ} {m₀ : List ℕ} {n : Tally} where
+  pub stretch-begins : StretchLeft ink pattern c feed last word j start end m₀ n start m₀ n
+  stretch-begins = record { left = draw-begins refl; low = omega arith }
+
+  module _ {i : ℕ} {m : List ℕ} {r : Tally} (now : StretchLeft ink pattern c feed last word j start end m₀ n i m r) where
+    pub stretch-room : (k : ℕ) → Room n (end - start) → i + k ≤ end → Room r k
+    stretch-room k room fits = room-left room (now .left .upto) (omega (arith, now .low))
+
+    -- k pixels at once
+    pub stretch-takes : (k : ℕ) {m′ : List ℕ} {r′ : Tally} → i + k ≤ end → tallied m′ r′ ≡ drawn ink pattern c feed (stretch feed last word j i k) (tallied m r)
+        → StretchLeft ink pattern c feed last word j start end m₀ n (i + k) m′ r′
+    stretch-takes k fits put =
+        let e : end - i ≡ k + (end - (i + k)) = omega arith in
+        record {
+          left = draw-goes-on (now .left) (stretch feed last word j i k) _ (rw e (sym (stretch-append feed last word j i k (end - (i + k)))))
+              (omega (arith, now .low, stretch-length feed last word j i k)) put;
+          low = omega (arith, now .low);
+        }
+
+    pub stretch-goes-on : (v : ℕ) {m′ : List ℕ} {r′ : Tally} → i < end → v ≡ valueOf feed last word (lastByteOf feed i j % 4) i
+        → tallied m′ r′ ≡ drawn ink pattern c feed (pixel i j v ∷ []) (tallied m r) → StretchLeft ink pattern c feed last word j start end m₀ n (i + 1) m′ r′
     unfolding stretch
-    stretch-turn i e v st st′ l a q =
-        let k : e - i ≡ suc (e - (i + 1)) = omega arith in
-        turn ink pattern c feed (pixel i j v ∷ []) (stretch feed last word j (i + 1) (e - (i + 1))) (stretch feed last word j i (e - i)) st st′ (rw (k, a)) q
+    stretch-goes-on v more e put = stretch-takes 1 (omega arith) (rw (← e) put)
 
-    -- m pixels at once
-    pub stretch-part : (i e m : ℕ) (st st′ : State) → i + m ≤ e → st′ ≡ drawn ink pattern c feed (stretch feed last word j i m) st
-        → drawn ink pattern c feed (stretch feed last word j (i + m) (e - (i + m))) st′ ≡ drawn ink pattern c feed (stretch feed last word j i (e - i)) st
-    stretch-part i e m st st′ l q =
-        let k : e - i ≡ m + (e - (i + m)) = omega arith in
-        turn ink pattern c feed (stretch feed last word j i m) (stretch feed last word j (i + m) (e - (i + m))) (stretch feed last word j i (e - i)) st st′
-        (rw k (sym (stretch-append feed last word j i m (e - (i + m))))) q
-
-    pub stretch-done : (i e : ℕ) (st : State) → e ≤ i → drawn ink pattern c feed (stretch feed last word j i (e - i)) st ≡ st
-    unfolding stretch hostTouches paint
-    stretch-done i e st l = let k : e - i ≡ 0 = omega arith in rw k
-
-  -- ---- the bytes that are left of a word's, m at once
-  module _ (last word b : ℕ) where
-    pub part-turn : (t m : ℕ) (st st′ : State) → t + m ≤ 4 → st′ ≡ drawn ink pattern c feed (byBytes feed last word (b + t) m) st
-        → drawn ink pattern c feed (byBytes feed last word (b + (t + m)) (4 - (t + m))) st′
-        ≡ drawn ink pattern c feed (byBytes feed last word (b + t) (4 - t)) st
-    part-turn t m st st′ l q =
-        let k : 4 - t ≡ m + (4 - (t + m)) = omega arith in
-        let a : b + (t + m) ≡ b + t + m = omega arith in
-        turn ink pattern c feed (byBytes feed last word (b + t) m) (byBytes feed last word (b + (t + m)) (4 - (t + m))) (byBytes feed last word (b + t) (4 - t)) st st′
-        (rw (k, a) (bytes-append feed last word (b + t) m (4 - (t + m)))) q
-
-    pub bytes-past : (t n : ℕ) (st : State) → 0 < feed .step → feed .height * feed .step ≤ b + t → drawn ink pattern c feed (byBytes feed last word (b + t) n) st ≡ st
-    unfolding hostTouches paint
-    bytes-past t n st s l = rw (past-none feed last word s (b + t) n l)
+    pub stretch-ended : end ≤ i → tallied m r ≡ drawn ink pattern c feed (stretch feed last word j start (end - start)) (tallied m₀ n)
+    unfolding stretch
+    stretch-ended all = let e : end - i ≡ 0 = omega arith in draw-ended (now .left) (rw e)

@@ -2,18 +2,17 @@
 -- Assumes nothing.
 use mathlib.Core.Path.{_≡_, refl, sym, ap, ap₂, subst, _∙_}
 use mathlib.Core.Bool.{Bool, true, false, cond}
-use mathlib.Core.Option.{Option}
+use mathlib.Core.Option.{Option, none, some}
 use mathlib.Core.List.{List, [], _∷_}
 use Prim.Native.Nat.{ℕ, _+_, _-_, _^_, _<_}
 use lib.Dec.{eqb}
 use Rattle.surface.specs.declared.Surface.{Surface}
-use Rattle.surface.specs.Place.{writePx}
 use Rattle.surface.specs.Asked.{Colour, OnColour}
 use Rattle.surface.specs.Pixels.{Px, origin}
 use Rattle.ink.specs.declared.Ink.{Ink}
 use Rattle.paint.specs.declared.Clip.{Clip}
 use Rattle.paint.specs.declared.Source.{Source}
-use Rattle.paint.specs.Paint.{State, state, dab, Touch, touch, paint}
+use Rattle.paint.specs.Paint.{State, dab, Touch, touch, paint}
 use Rattle.paint.specs.Mix.{source, bitSource, colourSource, mixed, direct}
 use Rattle.paint.specs.Clip.{inClip, pixelAt}
 use Rattle.paint.proofs.MixLaws.{direct-low, direct-mixed}
@@ -93,14 +92,8 @@ plain-waits {ink} {p} {c} {feed} {len} same w = record {
 }
 
 -- ---- one pixel
-module _ (p : Plain) (c : Clip) (feed : Feed) (i j v value n : ℕ) (left : Bool) (m : List ℕ) (inside : inClip c (feed .x + i) (feed .y + j) ≡ true)
-    (e : source value false left ≡ hostSource (plainInk p) feed v) where
-  pub plain-left : left ≡ true → state m n ≡ drawn (plainInk p) [] c feed (pixel i j v ∷ []) (state m n)
-  unfolding hostTouches paint mixed dab
-  plain-left l = rw (inside, ← e, l)
-
-  pub plain-put : (m′ : List ℕ) → left ≡ false → value < 2 ^ 32 → m′ ≡ writePx m (p .target) (feed .x + i - origin) (feed .y + j - origin) value
-      → state m′ (n + 1) ≡ drawn (plainInk p) [] c feed (pixel i j v ∷ []) (state m n)
-  unfolding hostTouches paint dab plainInk
-  plain-put m′ l small w =
-      rw (inside, ← e, direct-mixed (plainInk p) _ value _ left (plain-direct p) small, l) (ap (λ (k : List ℕ). state k (n + 1)) w)
+pub plain-put : (p : Plain) (c : Clip) (feed : Feed) (i j v : ℕ) (st : State) {value : ℕ} {left : Bool} {st′ : State} → inClip c (feed .x + i) (feed .y + j) ≡ true → value < 2 ^ 32
+    → source value false left ≡ hostSource (plainInk p) feed v → st′ ≡ dab (p .target) (pixelAt (feed .x + i) (feed .y + j)) (cond left none (some value)) st
+    → st′ ≡ drawn (plainInk p) [] c feed (pixel i j v ∷ []) st
+unfolding hostTouches paint plainInk
+plain-put p c feed i j v st {value} {left} inside small e put = rw (inside, ← e, direct-mixed (plainInk p) _ value _ left (plain-direct p) small) put

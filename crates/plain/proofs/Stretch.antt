@@ -1,28 +1,24 @@
--- Bytes of a word that lie in one row finish a stretch of its pixels; bytes split into two parts, and bytes past the last row, which finish none.
+-- Bytes of a word that lie in one row finish a stretch of its pixels; bytes past the last row finish none.
 -- Assumes nothing.
 use mathlib.Core.Path.{_≡_, refl, sym, ap, ap₂, _∙_}
-use mathlib.Core.List.{List, [], _∷_, _++_, append-assoc}
-use Prim.Native.Nat.{ℕ, zero, suc, _+_, _-_, _*_, _/_, _%_, _<_, _≤_}
+use mathlib.Core.List.{List, [], _∷_, _++_}
+use Prim.Native.Nat.{ℕ, zero, suc, _+_, _-_, _*_, _/_, _%_, _^_, _<_, _≤_}
 use native.Mathlib.Nat.{le-div-iff-mul-le, add-zero, zero-add, suc-add}
 use native.Mathlib.Omega.{arith}
 use borrow.Author.Tests.{lt-ltb, le-ltb}
 use lib.Arith.{digits-div, digits-mod}
+use lib.ListN.{length}
+use Rattle.paint.specs.declared.Tally.{Tally}
+use Rattle.paint.specs.Asked.{Room}
+use Rattle.paint.proofs.Tallies.{room-less}
 use Rattle.host.specs.declared.Feed.{Feed}
-use Rattle.host.specs.Host.{lastByteOf, Pixel, pixel, valueOf, whole, run, byByte, byBytes}
+use Rattle.host.specs.Asked.{Rows}
+use Rattle.host.specs.Host.{lastColumn, lastByteOf, Pixel, pixel, valueOf, whole, run, byByte, byBytes}
 use Rattle.plain.specs.Plain.{stretch}
-use Rattle.plain.specs.Asked.{Part, Within}
-use Rattle.host.proofs.Places.{whole-width, whole-more, whole-rises, column-in, column-of}
+use Rattle.plain.specs.Asked.{Part, Here, Within}
+use Rattle.host.proofs.Places.{whole-width, whole-more, whole-rises, column-in, column-of, column-held}
 
 module _ (f : Feed) (last word : ℕ) where
-  pub bytes-append : (o m n : ℕ) → byBytes f last word o (m + n) ≡ byBytes f last word o m ++ byBytes f last word (o + m) n
-  unfolding byBytes
-  bytes-append o zero n = rw (add-zero o, zero-add n)
-  bytes-append o (suc m) n =
-      let p : o + suc m ≡ o + 1 + m = omega arith in
-      rw (suc-add, p)
-      (ap (λ (t : List Pixel). byByte f last word o ++ t) (bytes-append (o + 1) m n)
-      ∙ sym (append-assoc (byByte f last word o) (byBytes f last word (o + 1) m) (byBytes f last word (o + 1 + m) n)))
-
   pub past-none : 0 < f .step → (o n : ℕ) → f .height * f .step ≤ o → byBytes f last word o n ≡ []
   unfolding byBytes byByte
   past-none s o zero l = refl
@@ -36,6 +32,11 @@ module _ (f : Feed) (last word : ℕ) where
   stretch-append j i (suc m) n =
       let p : i + suc m ≡ i + 1 + m = omega arith in
       rw (suc-add, p) (ap (λ (t : List Pixel). pixel i j (valueOf f last word (lastByteOf f i j % 4) i) ∷ t) (stretch-append j (i + 1) m n))
+
+  pub stretch-length : (j i n : ℕ) → length (stretch f last word j i n) ≡ n
+  unfolding stretch
+  stretch-length j i zero = refl
+  stretch-length j i (suc n) = ap suc (stretch-length j (i + 1) n)
 
   run-stretch : (o j i n : ℕ) → o / f .step ≡ j → ((a : ℕ) → i ≤ a → a < i + n → lastByteOf f a j ≡ o) → run f last word o i n ≡ stretch f last word j i n
   unfolding run stretch
@@ -74,27 +75,25 @@ module _ (f : Feed) (last word : ℕ) where
       → stretch f last word j start (end - start) ≡ byBytes f last word (j * f .step + c) m
   part-bytes t j c m start end p a b = rw (a, b) (sym (bytes-stretch m (j * f .step + c) j c refl (p .held) (p .row)))
 
--- the last bytes of the pixels that a part finishes
-pub part-within : (f : Feed) (t j c m n start end : ℕ) → Part f t j c m → n + f .width < 65536 → start ≡ whole f c → end ≡ whole f (c + m) → Within f t j c start end n
+-- ---- the last bytes of the pixels
+pub here-small : {f : Feed} {t j c i : ℕ} → Rows f → i < f .width → Here f t j c i → t + lastColumn f i < 2 ^ 18
+here-small {f} {i = i} rows inside here = omega (arith, here, column-held f i inside, rows .held, rows .sizes .step)
+
+-- of those that a part finishes
+pub part-within : (f : Feed) (t j c m start end : ℕ) {n : Tally} → Part f t j c m → Room n (f .width) → start ≡ whole f c → end ≡ whole f (c + m) → Within f t j c start end n
 unfolding lastByteOf
-part-within f t j c m n start end p room a b = record {
+part-within f t j c m start end p room a b = record {
   row = p .row;
-  first = omega (arith, whole-width f c);
   past = omega (arith, whole-width f (c + m));
-  room = omega (arith, whole-width f (c + m));
-  low = λ i l u. column-in f c m i (omega arith) (omega arith) .0;
-  high = λ i l u. let k = column-in f c m i (omega arith) (omega arith) in omega (arith, k, p .inside);
-  byte = λ i l u. let k = column-in f c m i (omega arith) (omega arith) in omega (arith, k, p .inside, p .place);
+  room = room-less room (omega (arith, whole-width f (c + m)));
+  here = λ i l u. let k = column-in f c m i (omega arith) (omega arith) in record { low = k .0; high = omega (arith, k, p .inside); byte = omega (arith, k, p .inside, p .place) };
 }
 
--- a part of such pixels, after r that were written
-pub within-part : {f : Feed} {t j c start end n : ℕ} → Within f t j c start end n → (i m r : ℕ) → start ≤ i → i + m ≤ end → r + start ≤ n + i → Within f t j c i (i + m) r
-within-part {f} {t} {j} {c} w i m r l u k = record {
+-- of m of them
+pub within-part : {f : Feed} {t j c start end : ℕ} {n r : Tally} → Within f t j c start end n → (i m : ℕ) → start ≤ i → i + m ≤ end → Room r m → Within f t j c i (i + m) r
+within-part w i m l u room = record {
   row = w .row;
-  first = omega (arith, w .past);
   past = omega (arith, w .past);
-  room = omega (arith, w .room);
-  low = λ q a b. w .low q (omega arith) (omega arith);
-  high = λ q a b. w .high q (omega arith) (omega arith);
-  byte = λ q a b. w .byte q (omega arith) (omega arith);
+  room = room-less room (omega arith);
+  here = λ q a b. w .here q (omega arith) (omega arith);
 }

@@ -1,7 +1,9 @@
 -- What functions of this crate ask for. No promise rests on it.
 -- Assumes nothing.
 use mathlib.Core.Path.{_≡_}
-use Prim.Native.Nat.{ℕ, _+_, _-_, _*_, _%_, _^_, _<_, _≤_}
+use Prim.Native.Nat.{ℕ, _+_, _-_, _*_, _%_, _<_, _≤_}
+use Rattle.paint.specs.declared.Tally.{Tally}
+use Rattle.paint.specs.Asked.{Room}
 use Rattle.host.specs.declared.Feed.{Feed}
 use Rattle.host.specs.Host.{lastColumn, lastByteOf}
 
@@ -12,12 +14,15 @@ pub record Part (f : Feed) (t j column m : ℕ) : Type 0 where
   pub held : column + m ≤ f .step
   pub row : j < f .height
 
--- the pixels of row j from start up to end have their last bytes in a word whose byte t is byte `column` of the row; n were written before
-pub record Within (f : Feed) (t j column start end n : ℕ) : Type 0 where
+-- the last byte of pixel i of row j is in a word whose byte t is byte `column` of the row
+pub record Here (f : Feed) (t j column i : ℕ) : Type 0 where
+  pub low : column ≤ lastColumn f i
+  pub high : t + lastColumn f i - column < 4
+  pub byte : t + lastColumn f i - column ≡ lastByteOf f i j % 4
+
+-- that of each pixel of row j from start up to end is, where n tells of the pixels before them
+pub record Within (f : Feed) (t j column start end : ℕ) (n : Tally) : Type 0 where
   pub row : j < f .height
-  pub first : start ≤ f .width
   pub past : end ≤ f .width
-  pub room : n + (end - start) < 2 ^ 16
-  pub low : (i : ℕ) → start ≤ i → i < end → column ≤ lastColumn f i
-  pub high : (i : ℕ) → start ≤ i → i < end → t + lastColumn f i - column < 4
-  pub byte : (i : ℕ) → start ≤ i → i < end → t + lastColumn f i - column ≡ lastByteOf f i j % 4
+  pub room : Room n (end - start)
+  pub here : (i : ℕ) → start ≤ i → i < end → Here f t j column i

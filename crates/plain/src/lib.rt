@@ -3,14 +3,15 @@ use bits::Plain;
 use host::Feed;
 use paint::Clip;
 use paint::Source;
-use surface::Surface;
+use paint::Tally;
 ghost use mathlib.Core.Path.{_≡_};
 ghost use mathlib.Core.Bool.{false};
 ghost use mathlib.Core.List.{[], _∷_};
 ghost use Prim.Native.Nat.{_+_, _-_, _*_, _/_, _%_, _^_, _<_, _≤_};
 ghost use lib.ListN.{length};
-ghost use Rattle.paint.specs.Paint.{state};
+ghost use Rattle.paint.specs.Paint.{state, tallied};
 ghost use Rattle.paint.specs.Mix.{source};
+ghost use Rattle.paint.specs.Asked.{Room};
 ghost use Rattle.host.specs.Host.{lastColumn, pixel, byBytes, byWord};
 ghost use Rattle.host.specs.Draw.{hostSource, drawn};
 ghost use Rattle.host.specs.Asked.{Opened, Waits};
@@ -47,7 +48,7 @@ fn plain_colour(p: Plain, feed: Feed, v: u32) -> Source
     }
 }
 
-// Pixel (i, j) of value v, whose source this is, after n that were written.
+// Pixel (i, j) of value v, whose source this is, after those that n tells of.
 fn plain_pixel(
     mem: &mut [u8],
     p: Plain,
@@ -58,20 +59,15 @@ fn plain_pixel(
     v: u32,
     value: u32,
     left: bool,
-    n: u32,
-) -> u32
-    requires { ⌜ Opened (plainInk p) c feed (length (now mem)) × ((i < feed .width) × ((j < feed .height) × ((n < 2 ^ 16) × (source value false left ≡ hostSource (plainInk p) feed v)))) ⌝ }
-    ensures { λ r. ⌜ (state (now (mem .exit)) r ≡ drawn (plainInk p) [] c feed (pixel i j v ∷ []) (state (now (mem .entry)) n)) × (r ≤ n + 1) ⌝ }
+    n: Tally,
+) -> Tally
+    requires { ⌜ Opened (plainInk p) c feed (length (now mem)) × ((i < feed .width) × ((j < feed .height) × (Room n 1 × (source value false left ≡ hostSource (plainInk p) feed v)))) ⌝ }
+    ensures { λ r. ⌜ tallied (now (mem .exit)) r ≡ drawn (plainInk p) [] c feed (pixel i j v ∷ []) (tallied (now (mem .entry)) n) ⌝ }
 {
     let x = feed.x + i;
     let y = feed.y + j;
     if paint::covers(c, x, y) {
-        if left {
-            return n;
-        }
-        let target = p.target;
-        surface::put_pixel(mem, target, x - 16384, y - 16384, value);
-        return n + 1;
+        return paint::put_value(mem, p.target, x - 16384, y - 16384, left, value, n);
     }
     n
 }
@@ -101,10 +97,10 @@ fn mono_each(
     column: u32,
     start: u32,
     end: u32,
-    n: u32,
-) -> u32
-    requires { ⌜ Opened (plainInk p) c feed (length (now mem)) × (Within feed t j column start end n × ((feed .bytes ≡ 0) × (start ≤ end))) ⌝ }
-    ensures { λ r. ⌜ (state (now (mem .exit)) r ≡ drawn (plainInk p) [] c feed (stretch feed last word j start (end - start)) (state (now (mem .entry)) n)) × (r + start ≤ n + end) ⌝ }
+    n: Tally,
+) -> Tally
+    requires { ⌜ Opened (plainInk p) c feed (length (now mem)) × (Within feed t j column start end n × (feed .bytes ≡ 0)) ⌝ }
+    ensures { λ r. ⌜ tallied (now (mem .exit)) r ≡ drawn (plainInk p) [] c feed (stretch feed last word j start (end - start)) (tallied (now (mem .entry)) n) ⌝ }
 {
     let mut r = n;
     let mut i = start;
@@ -130,10 +126,10 @@ fn mono_part(
     column: u32,
     i: u32,
     m: u32,
-    n: u32,
-) -> u32
+    n: Tally,
+) -> Tally
     requires { ⌜ Opened (plainInk p) c feed (length (now mem)) × (Within feed t j column i (i + m) n × ((feed .bytes ≡ 0) × ((0 < m) × (i % 8 + m ≤ 8)))) ⌝ }
-    ensures { λ r. ⌜ (state (now (mem .exit)) r ≡ drawn (plainInk p) [] c feed (stretch feed last word j i m) (state (now (mem .entry)) n)) × (r ≤ n + m) ⌝ }
+    ensures { λ r. ⌜ tallied (now (mem .exit)) r ≡ drawn (plainInk p) [] c feed (stretch feed last word j i m) (tallied (now (mem .entry)) n) ⌝ }
 {
     let x = feed.x + i;
     let y = feed.y + j;
@@ -160,10 +156,10 @@ fn mono_row(
     column: u32,
     start: u32,
     end: u32,
-    n: u32,
-) -> u32
+    n: Tally,
+) -> Tally
     requires { ⌜ Opened (plainInk p) c feed (length (now mem)) × (Within feed t j column start end n × (feed .bytes ≡ 0)) ⌝ }
-    ensures { λ r. ⌜ (state (now (mem .exit)) r ≡ drawn (plainInk p) [] c feed (stretch feed last word j start (end - start)) (state (now (mem .entry)) n)) × (r ≤ n + feed .width) ⌝ }
+    ensures { λ r. ⌜ tallied (now (mem .exit)) r ≡ drawn (plainInk p) [] c feed (stretch feed last word j start (end - start)) (tallied (now (mem .entry)) n) ⌝ }
 {
     let mut r = n;
     let mut i = start;
@@ -188,10 +184,10 @@ fn colour_row(
     column: u32,
     start: u32,
     end: u32,
-    n: u32,
-) -> u32
+    n: Tally,
+) -> Tally
     requires { ⌜ Opened (plainInk p) c feed (length (now mem)) × (Within feed t j column start end n × (feed .bytes ≡ 0 → ⊥)) ⌝ }
-    ensures { λ r. ⌜ (state (now (mem .exit)) r ≡ drawn (plainInk p) [] c feed (stretch feed last word j start (end - start)) (state (now (mem .entry)) n)) × (r ≤ n + feed .width) ⌝ }
+    ensures { λ r. ⌜ tallied (now (mem .exit)) r ≡ drawn (plainInk p) [] c feed (stretch feed last word j start (end - start)) (tallied (now (mem .entry)) n) ⌝ }
 {
     let mut r = n;
     let mut i = start;
@@ -216,10 +212,10 @@ fn plain_row(
     j: u32,
     column: u32,
     m: u32,
-    n: u32,
-) -> u32
-    requires { ⌜ Opened (plainInk p) c feed (length (now mem)) × (Part feed t j column m × (n + feed .width < 2 ^ 16)) ⌝ }
-    ensures { λ r. ⌜ (state (now (mem .exit)) r ≡ drawn (plainInk p) [] c feed (byBytes feed last word (j * feed .step + column) m) (state (now (mem .entry)) n)) × (r ≤ n + feed .width) ⌝ }
+    n: Tally,
+) -> Tally
+    requires { ⌜ Opened (plainInk p) c feed (length (now mem)) × (Part feed t j column m × Room n (feed .width)) ⌝ }
+    ensures { λ r. ⌜ tallied (now (mem .exit)) r ≡ drawn (plainInk p) [] c feed (byBytes feed last word (j * feed .step + column) m) (tallied (now (mem .entry)) n) ⌝ }
 {
     let start = host::whole_pixels(feed, column);
     let end = host::whole_pixels(feed, column + m);
@@ -238,14 +234,14 @@ pub fn plain_word(
     taken: u32,
     last: u32,
     word: u32,
-) -> u32
+) -> Tally
     requires { ⌜ Waits (plainInk p) c feed (length (now mem)) taken ⌝ }
-    ensures { λ r. ⌜ state (now (mem .exit)) r ≡ drawn (plainInk p) [] c feed (byWord feed last word taken) (state (now (mem .entry)) 0) ⌝ }
+    ensures { λ r. ⌜ tallied (now (mem .exit)) r ≡ drawn (plainInk p) [] c feed (byWord feed last word taken) (state (now (mem .entry)) 0) ⌝ }
 {
     let step = feed.step;
     let mut j = 4 * taken / step;
     let mut column = 4 * taken % step;
-    let mut n = 0;
+    let mut n = Tally { count: 0 };
     let mut t = 0;
     while t < 4 {
         if feed.height <= j {

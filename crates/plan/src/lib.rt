@@ -2,16 +2,10 @@
 use ink::Ink;
 use keys::Range;
 use paint::Source;
-use surface::Surface;
 ghost use mathlib.Core.Path.{_≡_};
-ghost use mathlib.Core.Bool.{false, cond, _&&_};
-ghost use mathlib.Core.Option.{none, some};
-ghost use Prim.Native.Nat.{_+_, _≤_, _<_, _^_};
-ghost use lib.ListN.{length};
+ghost use mathlib.Core.Bool.{_&&_};
+ghost use Prim.Native.Nat.{_≤_, _<_};
 ghost use Rattle.keys.specs.Range.{rangeOf, inRange};
-ghost use Rattle.surface.specs.Asked.{OnColour};
-ghost use Rattle.surface.specs.Pixels.{px};
-ghost use Rattle.paint.specs.Paint.{state, dab};
 ghost use Rattle.paint.specs.Mix.{colourSource};
 ghost use Rattle.plan.specs.Plan.{codeOf, MasksOf, QuadsFrom, codeAt, quadAt};
 
@@ -98,28 +92,4 @@ pub fn quad_at(ink: Ink, range: Range, key: bool, old: u32, column: u32) -> u32
     ensures { λ r. ⌜ (r ≡ quadAt ink key old column) × (r ≤ 124) ⌝ }
 {
     code_at(key, is_hit(ink.dstKey, ink.target.bytes, range, old)) + column * 4
-}
-
-// The pixel at (x, y) of a surface in rows becomes v and is counted, or it is left.
-pub fn put_in_rows(mem: &mut [u8], s: Surface, x: u32, y: u32, left: bool, v: u32, n: u32) -> u32
-    requires { ⌜ (OnColour s (length (now mem)) x y × (s .tiled ≡ false)) × (n + 1 < 2 ^ 32) ⌝ }
-    ensures { λ r. ⌜ (state (now (mem .exit)) r ≡ dab s (px x y) (cond left none (some v)) (state (now (mem .entry)) n)) × (r ≤ n + 1) ⌝ }
-{
-    if left {
-        return n;
-    }
-    surface::put_in_rows(mem, s, x, y, v);
-    n + 1
-}
-
-// The pixel at (x, y) of any surface does.
-pub fn put_pixel(mem: &mut [u8], s: Surface, x: u32, y: u32, left: bool, v: u32, n: u32) -> u32
-    requires { ⌜ OnColour s (length (now mem)) x y × (n + 1 < 2 ^ 32) ⌝ }
-    ensures { λ r. ⌜ (state (now (mem .exit)) r ≡ dab s (px x y) (cond left none (some v)) (state (now (mem .entry)) n)) × (r ≤ n + 1) ⌝ }
-{
-    if !left {
-        surface::put_pixel(mem, s, x, y, v);
-        return n + 1;
-    }
-    n
 }

@@ -4,50 +4,44 @@ use line::Line;
 use line::Pen;
 use line::Point;
 use paint::Clip;
-use paint::Source;
-use surface::Surface;
+use paint::Tally;
 ghost use mathlib.Core.Path.{_≡_};
 ghost use mathlib.Core.List.{[], _∷_};
-ghost use Prim.Native.Nat.{_+_, _-_, _^_, _<_, _≤_};
+ghost use Prim.Native.Nat.{_+_, _-_, _<_};
 ghost use lib.ListN.{length};
 ghost use Rattle.surface.specs.Place.{readPx};
-ghost use Rattle.surface.specs.Asked.{OnColour};
 ghost use Rattle.surface.specs.Pixels.{px};
-ghost use Rattle.paint.specs.Paint.{state, dab, paint};
+ghost use Rattle.paint.specs.Paint.{state, tallied, dab, paint};
 ghost use Rattle.ink.specs.Pattern.{patternValue};
-ghost use Rattle.paint.specs.Mix.{bitSource, mixed, sourced};
+ghost use Rattle.paint.specs.Mix.{bitSource, mixed};
 ghost use Rattle.paint.specs.Asked.{Ready};
 ghost use Rattle.line.specs.Line.{pointCount, points};
 ghost use Rattle.line.specs.Stipple.{after, styleAfter};
 ghost use Rattle.line.specs.Draw.{lineTouches};
 ghost use Rattle.line.specs.Asked.{Drawable, DrawablePoint};
 
-// What a line leaves: the word lineStyle, and how many pixels it wrote.
+// What a line leaves: the word lineStyle, and the tally of the pixels it wrote.
 pub struct LineDone {
     pub style: u32,
-    pub count: u32,
+    pub tally: Tally,
 }
 
-// A pixel is given its source, and counted, or it is left.
-fn put_plain(mem: &mut [u8], s: Surface, x: u32, y: u32, source: Source, n: u32) -> u32
-    requires { ⌜ OnColour s (length (now mem)) x y × (n + 1 < 2 ^ 32) ⌝ }
-    ensures { λ r. ⌜ (state (now (mem .exit)) r ≡ dab s (px x y) (sourced source) (state (now (mem .entry)) n)) × (r ≤ n + 1) ⌝ }
-{
-    if source.left {
-        return n;
-    }
-    surface::put_pixel(mem, s, x, y, source.value);
-    n + 1
-}
-
-// Pixel (x, y) of a line where its stipple has this bit, after n that were written.
-fn put_point(mem: &mut [u8], ink: Ink, pattern: [u8; 256], x: u32, y: u32, bit: u32, n: u32) -> u32
+// Pixel (x, y) of a line where its stipple has this bit, after those that n tells of.
+fn put_point(
+    mem: &mut [u8],
+    ink: Ink,
+    pattern: [u8; 256],
+    x: u32,
+    y: u32,
+    bit: u32,
+    n: Tally,
+) -> Tally
     requires { ⌜ Ready ink (length (now mem)) x y n ⌝ }
-    ensures { λ r. ⌜ (state (now (mem .exit)) r ≡ dab (ink .target) (px x y) (mixed ink (patternValue ink pattern x y) (bitSource ink bit) (readPx (now (mem .entry)) (ink .target) x y)) (state (now (mem .entry)) n)) × (r ≤ n + 1) ⌝ }
+    ensures { λ r. ⌜ tallied (now (mem .exit)) r ≡ dab (ink .target) (px x y) (mixed ink (patternValue ink pattern x y) (bitSource ink bit) (readPx (now (mem .entry)) (ink .target) x y)) (tallied (now (mem .entry)) n) ⌝ }
 {
     let source = paint::bit_source(ink, bit);
     if paint::is_direct(ink) {
-        return put_plain(mem, ink.target, x, y, source, n);
+        return paint::put_value(mem, ink.target, x, y, source.left, source.value, n);
     }
     let value = ink::pattern_at(ink, pattern, x, y);
     paint::put_source(mem, ink, value, x, y, source, n)
@@ -63,14 +57,15 @@ fn paint_point(
     pen: Pen,
     done: LineDone,
 ) -> LineDone
-    requires { ⌜ DrawablePoint (ink .target) (length (now mem)) c p (done .count) ⌝ }
-    ensures { λ r. ⌜ (state (now (mem .exit)) (r .count) ≡ paint (ink .target) (lineTouches ink pattern c pen (done .style) (p ∷ [])) (state (now (mem .entry)) (done .count))) × ((r .style ≡ after pen (done .style)) × (r .count ≤ done .count + 1)) ⌝ }
+    requires { ⌜ DrawablePoint (ink .target) (length (now mem)) c p (done .tally) ⌝ }
+    ensures { λ r. ⌜ (tallied (now (mem .exit)) (r .tally) ≡ paint (ink .target) (lineTouches ink pattern c pen (done .style) (p ∷ [])) (tallied (now (mem .entry)) (done .tally))) × (r .style ≡ after pen (done .style)) ⌝ }
 {
     let next = line::style_after(pen, done.style);
+    let tally = done.tally;
     if !paint::covers(c, p.x, p.y) {
         return LineDone {
             style: next,
-            count: done.count,
+            tally: tally,
         };
     }
     let x = p.x - 16384;
@@ -78,7 +73,7 @@ fn paint_point(
     let bit = line::stipple_bit(pen, done.style);
     LineDone {
         style: next,
-        count: put_point(mem, ink, pattern, x, y, bit, done.count),
+        tally: put_point(mem, ink, pattern, x, y, bit, tally),
     }
 }
 
@@ -93,12 +88,12 @@ pub fn paint_each(
     style: u32,
 ) -> LineDone
     requires { ⌜ Drawable (ink .target) (length (now mem)) c l ⌝ }
-    ensures { λ r. ⌜ (state (now (mem .exit)) (r .count) ≡ paint (ink .target) (lineTouches ink pattern c pen style (points l)) (state (now (mem .entry)) 0)) × (r .style ≡ styleAfter pen (pointCount l) style) ⌝ }
+    ensures { λ r. ⌜ (tallied (now (mem .exit)) (r .tally) ≡ paint (ink .target) (lineTouches ink pattern c pen style (points l)) (state (now (mem .entry)) 0)) × (r .style ≡ styleAfter pen (pointCount l) style) ⌝ }
 {
     let total = line::point_count(l);
     let mut done = LineDone {
         style: style,
-        count: 0,
+        tally: Tally { count: 0 },
     };
     let mut i = 0;
     while i < total {

@@ -21,6 +21,7 @@ use Rattle.surface.proofs.Rects.{in-rect, rect-in, rect-pairs, rect-distinct, P
 use Rattle.spans.proofs.Spans.{IsByte, spans-meet}
 use Rattle.sweep.specs.declared.Task.{Task}
 use Rattle.paint.specs.declared.Source.{Source}
+use Rattle.paint.specs.Tally.{tally}
 use Rattle.paint.specs.Paint.{state, paint}
 use Rattle.paint.specs.Mix.{mixed, bitSource, colourSource, fillSource}
 use Rattle.ink.specs.Pattern.{patternColumn, patternRow, patternBit, patternValue}
@@ -160,11 +161,11 @@ module _ (t : Task) (w h len : ℕ) (can : CanPaint t w h len) (orderly : t .cop
       → paint (t .ink .target) (inTurn t pattern (all l u)) (state m n) ≡ paint (t .ink .target) (asBefore t pattern m (all false false)) (state m n)
   as-before l u onward pattern m n =
       let loc = giving-local t pattern (can .colour .some) in
-      in-place (t .ink .target) (can .colour .some) (giving t pattern) (Reads t) loc (all l u) m n
+      in-place (t .ink .target) (can .colour .some) (giving t pattern) (Reads t) loc (all l u) m (tally n)
       (pairs-map (all l u)
       (λ p q i j ahead a r b. not-read l u onward (r .0) p q (in-rect l u (t .x) (t .y) w h p i) (in-rect l u (t .x) (t .y) w h q j) ahead a (r .1) b)
       (rect-pairs l u (t .x) (t .y) w h))
-      ∙ any-order (t .ink .target) (can .colour .some) (giving t pattern) (Reads t) loc m (all l u) (all false false) n
+      ∙ any-order (t .ink .target) (can .colour .some) (giving t pattern) (Reads t) loc m (all l u) (all false false) (tally n)
       (rect-distinct l u (t .x) (t .y) w h) (rect-distinct false false (t .x) (t .y) w h)
       (λ p i. rect-in false false (t .x) (t .y) w h p (in-rect l u (t .x) (t .y) w h p i))
       (λ p i. rect-in l u (t .x) (t .y) w h p (in-rect false false (t .x) (t .y) w h p i))

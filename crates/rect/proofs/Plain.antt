@@ -26,6 +26,7 @@ use Rattle.surface.proofs.Pixels.{same-byte, read-small}
 use Rattle.surface.proofs.Lists.{by-cases}
 use Rattle.surface.proofs.Rects.{in-rect, rect-in, rect-distinct, rect-length}
 use Rattle.sweep.specs.declared.Task.{Task}
+use Rattle.paint.specs.Tally.{tally}
 use Rattle.paint.specs.Paint.{State, state, dab, paint}
 use Rattle.paint.specs.declared.Source.{Source}
 use Rattle.paint.specs.Mix.{source, mixed, colourSource, direct}
@@ -35,7 +36,7 @@ use Rattle.sweep.specs.Asked.{CanPaint}
 use Rattle.rect.specs.Fast.{sourceByte, plainly}
 use Rattle.runs.specs.Runs.{Given}
 use Rattle.paint.proofs.Owners.{byte-of, of-byte}
-use Rattle.paint.proofs.Settle.{Settled, settled, tally, counted}
+use Rattle.paint.proofs.Settle.{Settled, settled, summed, counted}
 use Rattle.paint.proofs.Frame.{Bytes}
 use Rattle.sweep.proofs.TaskLaws.{can-pixel}
 use Rattle.paint.proofs.MixLaws.{not-true, direct-mixed}
@@ -127,10 +128,10 @@ copied-pixel from to m p q k e on bytes l =
     (λ b f. colour-byte on b (omega arith) .inside)
 
 -- ---- a rectangle
-tally-all : (f : Px → Option ℕ) (ps : List Px) → ((p : Px) → counted (f p) ≡ 1) → tally (λ p. counted (f p)) ps ≡ length ps
-unfolding tally
-tally-all f [] h = refl
-tally-all f (p ∷ ps) h = ap₂ _+_ (h p) (tally-all f ps h) ∙ omega arith
+summed-all : (f : Px → Option ℕ) (ps : List Px) → ((p : Px) → counted (f p) ≡ 1) → summed (λ p. counted (f p)) ps ≡ length ps
+unfolding summed
+summed-all f [] h = refl
+summed-all f (p ∷ ps) h = ap₂ _+_ (h p) (summed-all f ps h) ∙ omega arith
 
 module _ (t : Task) (pattern m : List ℕ) (w h : ℕ) (plain : PlainCopy t) (can : CanPaint t w h (length m)) (bytes : Bytes m) where
   abbrev whole : State
@@ -141,7 +142,7 @@ module _ (t : Task) (pattern m : List ℕ) (w h : ℕ) (plain : PlainCopy t) (ca
 
   here : Settled (t .ink .target) (giving t pattern) m (rect false false (t .x) (t .y) w h) (state m 0) whole
   here =
-      settled (t .ink .target) (can .colour .some) (giving t pattern) (Reads t) (giving-local t pattern (can .colour .some)) m (rect false false (t .x) (t .y) w h) 0
+      settled (t .ink .target) (can .colour .some) (giving t pattern) (Reads t) (giving-local t pattern (can .colour .some)) m (rect false false (t .x) (t .y) w h) (tally 0)
       (rect-distinct false false (t .x) (t .y) w h)
       (λ p i. on-column (t .ink .target) (length m) (p .x) (p .y) (can-pixel can (p .x) (p .y) (in-rect false false (t .x) (t .y) w h p i) .0 .on))
 
@@ -157,8 +158,8 @@ module _ (t : Task) (pattern m : List ℕ) (w h : ℕ) (plain : PlainCopy t) (ca
     long = here .long;
   }
 
-  pub plain-counts : whole .count ≡ h * w
+  pub plain-counts : whole .tally .count ≡ h * w
   plain-counts =
       here .counts ∙ zero-add _
-      ∙ tally-all (giving t pattern m m) (rect false false (t .x) (t .y) w h) (λ p. ap counted (gives p))
+      ∙ summed-all (giving t pattern m m) (rect false false (t .x) (t .y) w h) (λ p. ap counted (gives p))
       ∙ rect-length false false (t .x) (t .y) w h

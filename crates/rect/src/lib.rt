@@ -2,6 +2,7 @@
 use bits::Mono;
 use bits::Plain;
 use blocks::Way;
+use paint::Tally;
 use straight::Straight;
 use sweep::Task;
 ghost use mathlib.Core.Path.{_≡_};
@@ -9,7 +10,7 @@ ghost use mathlib.Core.Bool.{true, false};
 ghost use Prim.Native.Nat.{_+_, _-_, _*_, _/_, _^_, _<_};
 ghost use lib.ListN.{length};
 ghost use Rattle.surface.specs.Pixels.{rect};
-ghost use Rattle.paint.specs.Paint.{state, paint};
+ghost use Rattle.paint.specs.Paint.{state, tallied, paint};
 ghost use Rattle.paint.specs.Mix.{source};
 ghost use Rattle.sweep.specs.Copy.{inTurn};
 ghost use Rattle.sweep.specs.Asked.{CanPaint, Orderly};
@@ -173,7 +174,7 @@ fn move_apart(mem: &mut [u8], t: Task, w: u32, h: u32)
     blocks::move_blocks(mem, b, surface::wide(w) * n, surface::wide(h));
 }
 
-// A rectangle filled, from the upper left corner, or copied, where a surface is tiled; the count of pixels written.
+// A rectangle filled, from the upper left corner, or copied, where a surface is tiled; the tally of the pixels written.
 fn on_tiles(
     mem: &mut [u8],
     t: Task,
@@ -182,14 +183,15 @@ fn on_tiles(
     h: u32,
     toLeft: bool,
     toTop: bool,
-) -> u32
+) -> Tally
     requires { ⌜ CanPaint t w h (length (now mem)) × Cornered t w h toLeft toTop ⌝ }
-    ensures { λ r. ⌜ state (now (mem .exit)) r ≡ paint (t .ink .target) (inTurn t pattern (rect toLeft toTop (t .x) (t .y) w h)) (state (now (mem .entry)) 0) ⌝ }
+    ensures { λ r. ⌜ tallied (now (mem .exit)) r ≡ paint (t .ink .target) (inTurn t pattern (rect toLeft toTop (t .x) (t .y) w h)) (state (now (mem .entry)) 0) ⌝ }
 {
     if (0 < w) & (0 < h) {
         if is_plain(t) & !is_touching(t, w, h) {
             move_apart(mem, t, w, h);
-            return w * h;
+            let count = w * h;
+            return Tally { count: count };
         }
         if is_solid(t) {
             let v = raster::raster(0xcc, 0, t.ink.fore, 0);
@@ -202,10 +204,10 @@ fn on_tiles(
     patch::paint_rows(mem, t, pattern, w, h, toLeft, toTop)
 }
 
-// A rectangle filled; the count of pixels written.
-pub fn fill_rect(mem: &mut [u8], t: Task, pattern: [u8; 256], w: u32, h: u32) -> u32
+// A rectangle filled; the tally of the pixels written.
+pub fn fill_rect(mem: &mut [u8], t: Task, pattern: [u8; 256], w: u32, h: u32) -> Tally
     requires { ⌜ CanPaint t w h (length (now mem)) × (t .copies ≡ false) ⌝ }
-    ensures { λ r. ⌜ state (now (mem .exit)) r ≡ paint (t .ink .target) (inTurn t pattern (rect false false (t .x) (t .y) w h)) (state (now (mem .entry)) 0) ⌝ }
+    ensures { λ r. ⌜ tallied (now (mem .exit)) r ≡ paint (t .ink .target) (inTurn t pattern (rect false false (t .x) (t .y) w h)) (state (now (mem .entry)) 0) ⌝ }
 {
     if t.ink.target.tiled {
         return on_tiles(mem, t, pattern, w, h, false, false);
@@ -220,7 +222,7 @@ pub fn fill_rect(mem: &mut [u8], t: Task, pattern: [u8; 256], w: u32, h: u32) ->
     sweep::paint_rows(mem, t, pattern, w, h, false, false)
 }
 
-// A rectangle copied from the corner that the two flags name, each pixel from the source as it then stands; the count of pixels written.
+// A rectangle copied from the corner that the two flags name, each pixel from the source as it then stands; the tally of the pixels written.
 pub fn copy_rect(
     mem: &mut [u8],
     t: Task,
@@ -229,9 +231,9 @@ pub fn copy_rect(
     h: u32,
     toLeft: bool,
     toTop: bool,
-) -> u32
+) -> Tally
     requires { ⌜ CanPaint t w h (length (now mem)) × ((t .copies ≡ true) × Orderly t w h) ⌝ }
-    ensures { λ r. ⌜ state (now (mem .exit)) r ≡ paint (t .ink .target) (inTurn t pattern (rect toLeft toTop (t .x) (t .y) w h)) (state (now (mem .entry)) 0) ⌝ }
+    ensures { λ r. ⌜ tallied (now (mem .exit)) r ≡ paint (t .ink .target) (inTurn t pattern (rect toLeft toTop (t .x) (t .y) w h)) (state (now (mem .entry)) 0) ⌝ }
 {
     if t.ink.target.tiled | t.from.tiled {
         return on_tiles(mem, t, pattern, w, h, toLeft, toTop);
@@ -241,7 +243,8 @@ pub fn copy_rect(
     }
     if is_plain(t) & !is_late(t, w, h, toLeft, toTop) {
         move_rows(mem, t, w, h, toLeft, toTop);
-        return w * h;
+        let count = w * h;
+        return Tally { count: count };
     }
     if is_straight(t) {
         return straight::straight_rows(mem, straight_of(t), w, h, toLeft, toTop);

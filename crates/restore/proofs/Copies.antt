@@ -182,7 +182,7 @@ module _ (m : List ℕ) (r : Regs) (plain : Plain (length m) r) where
   -- what the copy leaves, by any pattern
   pub record Copied (st : State) : Type 0 where
     pub came : Came (sourceRect r) (targetRect r) m (st .mem)
-    pub count : st .count ≡ height r * width r
+    pub count : st .tally .count ≡ height r * width r
 
   pub plain-copied : (pattern : List ℕ) → Bytes m → Apart (targetRect r) (sourceRect r)
       → Copied (paint (target r) (asBefore (copyTask r) pattern m (covered (copyCut r))) (state m 0))

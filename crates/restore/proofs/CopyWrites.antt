@@ -174,7 +174,7 @@ write-made e m w r limit opened bytes h plain apart =
     let c = plain-copied m r plain (e .bank .pattern) bytes apart in
     record {
       number = kept .taken;
-      count = ap (λ (st : State). st .count) left ∙ c .count;
+      count = ap (λ (st : State). st .tally .count) left ∙ c .count;
       came = subst⁻¹ (λ (st : State). Came (sourceRect r) (targetRect r) m (st .mem)) left (c .came);
       bytes = subst⁻¹ (λ (st : State). Bytes (st .mem)) left (paint-bytes (target r) (asBefore (copyTask r) (e .bank .pattern) m (covered (copyCut r))) (state m 0) bytes);
       opened = kept .opened;

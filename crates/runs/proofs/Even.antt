@@ -19,35 +19,31 @@ use Rattle.surface.proofs.OnLaws.{colour-byte, on-column}
 use Rattle.surface.proofs.Pixels.{same-byte}
 use Rattle.surface.proofs.Lists.{by-cases}
 use Rattle.surface.proofs.Rects.{in-rect, rect-in, rect-distinct, rect-length}
-use Rattle.paint.specs.Paint.{State, state, touch, dab, paint}
+use Rattle.paint.specs.Tally.{tally}
+use Rattle.paint.specs.Paint.{State, state, dab, paint}
 use Rattle.runs.specs.Runs.{Given, evenly}
 use Rattle.runs.specs.Asked.{RectOn}
 use Rattle.paint.proofs.Owners.{byte-of, of-byte}
-use Rattle.paint.proofs.Settle.{Settled, settled, tally, counted}
-use Rattle.paint.proofs.Turns.{row-left, row-whole, row-again, row-ends}
+use Rattle.paint.proofs.Settle.{Settled, settled, summed, counted}
+use Rattle.paint.proofs.Loops.{RowLeft, row-begins, row-goes-on, row-ended}
 
--- ---- the loop over a row, by its column
-module _ (s : Surface) (v x0 w y n : ℕ) where
-  pub even-start : (m : List ℕ) → paint s (evenly v (row-left false x0 w (x0 - x0) y)) (state m (n + (x0 - x0))) ≡ paint s (evenly v (across false x0 w y)) (state m n)
-  even-start m =
-      let z : x0 - x0 ≡ 0 = omega arith in
-      let k : n + 0 ≡ n = omega arith in
-      rw (z, k, row-whole false x0 w y)
+-- ---- the loop over a row, by its column: as many pixels are written as columns were passed
+abbrev pub EvenTo : Surface → ℕ → ℕ → ℕ → ℕ → List ℕ → ℕ → List ℕ → Type 0
+EvenTo s v x0 w y m₀ x m = (x0 ≤ x) × RowLeft s (λ p now. some v) false x0 w y m₀ (tally 0) (x - x0) m (tally (x - x0))
 
-  pub even-again : (x : ℕ) (m m′ : List ℕ) → x0 ≤ x → x < x0 + w → m′ ≡ writePx m s x y v
-      → paint s (evenly v (row-left false x0 w (x + 1 - x0) y)) (state m′ (n + (x + 1 - x0))) ≡ paint s (evenly v (row-left false x0 w (x - x0) y)) (state m (n + (x - x0)))
-  unfolding dab
-  even-again x m m′ low high e =
-      let i : x + 1 - x0 ≡ x - x0 + 1 = omega arith in
-      let k : n + (x - x0 + 1) ≡ n + (x - x0) + 1 = omega arith in
-      rw (i, k)
-      (row-again s (λ p. touch p (λ now. some v)) false x0 w (x - x0) y x (state m (n + (x - x0))) (state m′ (n + (x - x0) + 1)) (omega arith) (omega arith)
-      (ap (λ (left : List ℕ). state left (n + (x - x0) + 1)) e))
+module _ {s : Surface} {v x0 w y : ℕ} {m₀ : List ℕ} where
+  pub even-start : EvenTo s v x0 w y m₀ x0 m₀
+  even-start = let z : x0 - x0 ≡ 0 = omega arith in (omega arith, rw z row-begins)
 
-  pub even-ends : (x : ℕ) (m : List ℕ) → x0 + w ≤ x → x ≤ x0 + w → state m (n + w) ≡ paint s (evenly v (row-left false x0 w (x - x0) y)) (state m (n + (x - x0)))
-  even-ends x m low high =
-      let i : x - x0 ≡ w = omega arith in
-      rw i (row-ends s (λ p. touch p (λ now. some v)) false x0 w w y (state m (n + w)) (omega arith))
+  module _ {x : ℕ} {m : List ℕ} (to : EvenTo s v x0 w y m₀ x m) where
+    pub even-again : {m′ : List ℕ} → x < x0 + w → m′ ≡ writePx m s x y v → EvenTo s v x0 w y m₀ (x + 1) m′
+    unfolding dab
+    even-again more e =
+        let next : x + 1 - x0 ≡ x - x0 + 1 = omega arith in
+        (omega arith, rw next (row-goes-on (to .1) x (omega arith) (omega arith) (ap (λ (left : List ℕ). state left (x - x0 + 1)) e) refl))
+
+    pub even-ends : x0 + w ≤ x → state m w ≡ paint s (evenly v (across false x0 w y)) (state m₀ 0)
+    even-ends all = ap (state m) (omega (arith, to .1 .within)) ∙ row-ended (to .1) (omega arith)
 
 -- ---- a rectangle of one value, by its bytes
 abbrev pub byteNumber : ℕ → Px → ℕ → ℕ
@@ -69,8 +65,8 @@ written-byte at k (suc n) v m j l u differ inside =
     ∙ let s : j - k ≡ suc (j - suc k) = omega arith in
     rw (s, pow-suc 256 (j - suc k)) (ap (λ (u : ℕ). u % 256) (div-div-eq-div-mul v 256 (256 ^ (j - suc k)) ∙ ap (λ (u : ℕ). v / u) (mul-comm 256 (256 ^ (j - suc k))))))
 
-all-one : (v : ℕ) (ps : List Px) → tally (λ p. counted (some v)) ps ≡ length ps
-unfolding tally
+all-one : (v : ℕ) (ps : List Px) → summed (λ p. counted (some v)) ps ≡ length ps
+unfolding summed
 all-one v [] = refl
 all-one v (p ∷ ps) = let e = all-one v ps in omega (arith, e)
 
@@ -86,7 +82,7 @@ module _ (s : Surface) (v x y w h : ℕ) (m : List ℕ) (on : RectOn s (length m
 
   here : Settled s (λ was now p. some v) m (rect false false x y w h) (state m 0) whole
   here =
-      settled s colour (λ was now p. some v) (λ p a. ⊥) (record { same = λ p a b c d f g. refl }) m (rect false false x y w h) 0 (rect-distinct false false x y w h)
+      settled s colour (λ was now p. some v) (λ p a. ⊥) (record { same = λ p a b c d f g. refl }) m (rect false false x y w h) (tally 0) (rect-distinct false false x y w h)
       (λ p i. on-column s (length m) (p .x) (p .y) (pixel-on p (in-rect false false x y w h p i) .on))
 
   pub even-given : Given s (byteNumber v) x y w h m (whole .mem)
@@ -103,5 +99,5 @@ module _ (s : Surface) (v x y w h : ℕ) (m : List ℕ) (on : RectOn s (length m
     long = here .long;
   }
 
-  pub even-counts : whole .count ≡ h * w
-  even-counts = here .counts ∙ let e = all-one v (rect false false x y w h) in let f = rect-length false false x y w h in omega (arith, e, f)
+  pub even-counts : whole .tally .count ≡ w * h
+  even-counts = omega (arith, here .counts, all-one v (rect false false x y w h), rect-length false false x y w h, mul-comm w h)

@@ -72,28 +72,21 @@ module _ (s : Surface) (v x y w h : ℕ) (m : List ℕ) (on : RectOn s (length m
   unfolding rect
   as-rect = sym (append-nil (across false x w y))
 
-  abbrev firstState : State
-  firstState = paint s (evenly v (rect false false x y w 1)) (state m 0)
-
-  module _ (m₁ : List ℕ) (r : ℕ) (painted : state m₁ r ≡ paint s (evenly v (across false x w y)) (state m 0)) where
-    same : state m₁ r ≡ firstState
-    same = painted ∙ ap (λ (ps : List Px). paint s (evenly v ps) (state m 0)) as-rect
-
-    pub row-given : Given s (byteNumber v) x y w 1 m m₁
-    row-given = subst (Given s (byteNumber v) x y w 1 m) (sym (ap (λ (st : State). st .mem) same)) (even-given s v x y w 1 m one-row)
-
-    pub row-counts : r ≡ 1 * w
-    row-counts = ap (λ (st : State). st .count) same ∙ even-counts s v x y w 1 m one-row
+  module _ (m₁ : List ℕ) (painted : state m₁ w ≡ paint s (evenly v (across false x w y)) (state m 0)) where
+    row-given : Given s (byteNumber v) x y w 1 m m₁
+    row-given =
+        subst (Given s (byteNumber v) x y w 1 m) (sym (ap (λ (st : State). st .mem) (painted ∙ ap (λ (ps : List Px). paint s (evenly v ps) (state m 0)) as-rect)))
+        (even-given s v x y w 1 m one-row)
 
     -- on its own, as the loop begins
     pub row-itself : Given s (byteNumber v) x y w 1 m₁ m₁
     row-itself = record { inside = row-given .inside; others = λ a f. refl; long = refl }
 
-    pub whole-made : (m₂ : List ℕ) (n : ℕ) → n ≡ h * w → Given s (byteNumber v) x y w h m₁ m₂ → state m₂ n ≡ paint s (evenly v (rect false false x y w h)) (state m 0)
-    whole-made m₂ n e given =
+    pub whole-made : (m₂ : List ℕ) → Given s (byteNumber v) x y w h m₁ m₂ → state m₂ (w * h) ≡ paint s (evenly v (rect false false x y w h)) (state m 0)
+    whole-made m₂ given =
         let all : Given s (byteNumber v) x y w h m m₂ = record {
           inside = given .inside;
           others = λ a f. given .others a f ∙ row-given .others a (λ p i. f p (omega arith));
           long = given .long ∙ row-given .long;
         } in
-        ap₂ state (given-once all (even-given s v x y w h m on)) (e ∙ sym (even-counts s v x y w h m on))
+        ap₂ state (given-once all (even-given s v x y w h m on)) (sym (even-counts s v x y w h m on))

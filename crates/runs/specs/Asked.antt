@@ -5,10 +5,9 @@ use Prim.Native.Nat.{ℕ, _+_, _^_, _<_, _≤_}
 use Rattle.surface.specs.declared.Surface.{Surface}
 use Rattle.surface.specs.Asked.{Colour, OnColour}
 
--- w pixels of row y from x on are on their surface, in a memory of len bytes, after n that were written
-pub record RowOn (s : Surface) (len x w y n : ℕ) : Type 0 where
+-- w pixels of row y from x on are on their surface, in a memory of len bytes
+pub record RowOn (s : Surface) (len x w y : ℕ) : Type 0 where
   pub wide : x + w ≤ 2 ^ 13
-  pub room : n + w < 2 ^ 32
   pub on : (i : ℕ) → x ≤ i → i < x + w → OnColour s len i y
 
 -- a rectangle is

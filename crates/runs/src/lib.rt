@@ -1,18 +1,18 @@
 // Runs of bytes: a rectangle of one value, and bytes moved.
+use paint::Tally;
 use surface::Surface;
 ghost use mathlib.Core.Path.{_≡_};
 ghost use mathlib.Core.Bool.{false};
-ghost use Prim.Native.Nat.{_+_, _-_, _*_, _/_, _<_, _≤_};
 ghost use lib.ListN.{length};
 ghost use Rattle.surface.specs.Pixels.{across, rect};
-ghost use Rattle.paint.specs.Paint.{state, paint};
+ghost use Rattle.paint.specs.Paint.{state, tallied, paint};
 ghost use Rattle.runs.specs.Runs.{evenly, Shifted};
 ghost use Rattle.runs.specs.Asked.{RowOn, RectOn, Run, Up, Down};
 
-// The w pixels of row y from x0 on, each of value v, after n that were written.
-fn solid_row(mem: &mut [u8], s: Surface, v: u32, x0: u32, w: u32, y: u32, n: u32) -> u32
-    requires { ⌜ (s .tiled ≡ false) × RowOn s (length (now mem)) x0 w y n ⌝ }
-    ensures { λ r. ⌜ (state (now (mem .exit)) r ≡ paint s (evenly v (across false x0 w y)) (state (now (mem .entry)) n)) × (r ≤ n + w) ⌝ }
+// The w pixels of row y from x0 on, each of value v.
+fn solid_row(mem: &mut [u8], s: Surface, v: u32, x0: u32, w: u32, y: u32)
+    requires { ⌜ (s .tiled ≡ false) × RowOn s (length (now mem)) x0 w y ⌝ }
+    ensures { λ _. ⌜ state (now (mem .exit)) w ≡ paint s (evenly v (across false x0 w y)) (state (now (mem .entry)) 0) ⌝ }
 {
     let end = x0 + w;
     let mut x = x0;
@@ -20,7 +20,6 @@ fn solid_row(mem: &mut [u8], s: Surface, v: u32, x0: u32, w: u32, y: u32, n: u32
         surface::put_in_rows(mem, s, x, y, v);
         x += 1;
     }
-    n + w
 }
 
 // The n bytes from s on go to d, the first one first.
@@ -48,22 +47,22 @@ pub fn run_down(mem: &mut [u8], d: usize, s: usize, n: usize)
 }
 
 // A rectangle of one value, its surface in rows: its first row pixel by pixel, and the others as runs of that row's bytes.
-pub fn solid_rows(mem: &mut [u8], s: Surface, v: u32, x0: u32, y0: u32, w: u32, h: u32) -> u32
+pub fn solid_rows(mem: &mut [u8], s: Surface, v: u32, x0: u32, y0: u32, w: u32, h: u32) -> Tally
     requires { ⌜ (s .tiled ≡ false) × RectOn s (length (now mem)) x0 y0 w h ⌝ }
-    ensures { λ r. ⌜ state (now (mem .exit)) r ≡ paint s (evenly v (rect false false x0 y0 w h)) (state (now (mem .entry)) 0) ⌝ }
+    ensures { λ r. ⌜ tallied (now (mem .exit)) r ≡ paint s (evenly v (rect false false x0 y0 w h)) (state (now (mem .entry)) 0) ⌝ }
 {
     if h == 0 {
-        return 0;
+        return Tally { count: 0 };
     }
     let first = surface::byte_of(s, x0, y0, 0);
     let n = (w * s.bytes) as usize;
-    let mut count = solid_row(mem, s, v, x0, w, y0, 0);
+    solid_row(mem, s, v, x0, w, y0);
     let mut j = 1;
     while j < h {
         let d = surface::byte_of(s, x0, y0 + j, 0);
         run_up(mem, d, first, n);
-        count += w;
         j += 1;
     }
-    count
+    let count = w * h;
+    Tally { count: count }
 }

@@ -6,19 +6,20 @@ use mathlib.Core.List.{List}
 use Prim.Native.Nat.{ℕ, zero, suc, _+_, _-_, _*_, _/_, _%_, _^_, _<_, _≤_}
 use native.Mathlib.Nat.{lt-of-lt-of-le, pow-le-pow-right}
 use native.Mathlib.Omega.{arith}
-use lib.ListN.{length, getD}
+use lib.ListN.{getD}
 use lib.Seq.{set-getD}
 use Rattle.colour.specs.Convert.{converted}
 use Rattle.surface.specs.Place.{byteOf, readBytes, writeBytes, readPx, writePx}
 use Rattle.surface.specs.Asked.{Held}
-use Rattle.surface.specs.Pixels.{Px, px, across}
+use Rattle.surface.specs.Pixels.{px, across}
 use Rattle.surface.proofs.Bytes.{read-fits}
 use Rattle.surface.proofs.Run.{in-rows, pixel-held, run-pixel, read-run, write-run}
-use Rattle.paint.specs.Paint.{state, touch, dab, paint, nth}
+use Rattle.paint.specs.Tally.{tally}
+use Rattle.paint.specs.Paint.{state, dab, paint, nth}
 use Rattle.paint.proofs.Frame.{Bytes}
-use Rattle.paint.proofs.Turns.{row-left, row-whole, row-again, row-ends}
+use Rattle.paint.proofs.Loops.{RowLeft, row-goes-on, row-ended}
 use Rattle.straight.specs.declared.Straight.{Straight}
-use Rattle.straight.specs.Straight.{keyed, straightValue, straightGiving, straightly, copied, RowCopied}
+use Rattle.straight.specs.Straight.{keyed, straightValue, straightGiving, straightly, copied}
 use Rattle.straight.specs.Asked.{CanCopy, RowCopies, Formats, PixelCopies, RunAt}
 
 -- ---- bytes that are given what they have
@@ -77,8 +78,12 @@ pub nth-from : (b : Bool) (at n i : ℕ) → at + nth b 0 n i ≡ nth b at n i
 nth-from false at n i = omega arith
 nth-from true at n i = omega arith
 
+-- ---- the loop over row j: i of its pixels were given theirs
+abbrev pub Copying : Straight → ℕ → ℕ → Bool → List ℕ → ℕ → List ℕ → Type 0
+Copying t w j back m₀ i m = RowLeft (t .target) (λ p now. straightGiving t now p) back (t .x) w (t .y + j) m₀ (tally 0) i m (tally i)
+
 -- ---- pixel number k of row j
-module _ {t : Straight} {w j len n from to d s : ℕ} (row : RowCopies t w j len n) (run : RunAt t from to d s j) (k : ℕ) where
+module _ {t : Straight} {w j len from to d s : ℕ} (row : RowCopies t w j len) (run : RunAt t from to d s j) (k : ℕ) where
   target-at : d + k * to ≡ byteOf (t .target) (t .x + k) (t .y + j) 0
   target-at = ap (λ (b : ℕ). d + k * b) (run .formats .target) ∙ run-pixel (t .target) (row .flat) (t .x) (t .y + j) d (run .first) k
 
@@ -104,54 +109,24 @@ module _ {t : Straight} {w j len n from to d s : ℕ} (row : RowCopies t w j len
       (e ∙ copied-px t (row .flat) (row .fromFlat) (d + k * to) (s + k * from) (t .x + k) (t .y + j) (t .sx + (t .x + k - t .x)) (t .sy + (t .y + j - t .y)) m target-at
       (source-at ∙ ap₂ (λ (a b : ℕ). byteOf (t .from) (t .sx + a) (t .sy + b) 0) column line))
 
--- ---- the loop over a row: after i turns what remains of the row, painted on the memory now, is the row painted on the memory at the start
-pub record Remains (t : Straight) (w j : ℕ) (back : Bool) (n i : ℕ) (m₀ m : List ℕ) : Type 0 where
-  pub painted : paint (t .target) (straightly t (row-left back (t .x) w i (t .y + j))) (state m (n + i)) ≡ paint (t .target) (straightly t (across back (t .x) w (t .y + j))) (state m₀ n)
-  pub long : length m ≡ length m₀
-  pub within : i ≤ w
+  -- its turn, in the loop over the row
+  pub row-copies : {back : Bool} {i : ℕ} {m₀ m m′ : List ℕ} → Copying t w j back m₀ i m → i < w → k ≡ nth back 0 w i → m′ ≡ copied t (d + k * to) (s + k * from) m
+      → Copying t w j back m₀ (i + 1) m′
+  row-copies {back} {i} {m = m} {m′} left more e copy =
+      row-goes-on left (t .x + k) more (ap (λ (r : ℕ). t .x + r) e ∙ nth-from back (t .x) w i) (pixel-given i m m′ copy) refl
 
-pub remains-whole : (t : Straight) (w j : ℕ) (back : Bool) (n i : ℕ) (m : List ℕ) → i ≡ 0 → Remains t w j back n i m m
-remains-whole t w j back n i m none =
-    let count : n + 0 ≡ n = omega arith in
-    let whole : Remains t w j back n 0 m m = record {
-      painted = ap₂ (λ (ps : List Px) (c : ℕ). paint (t .target) (straightly t ps) (state m c)) (row-whole back (t .x) w (t .y + j)) count;
-      long = refl;
-      within = omega arith;
-    } in
-    subst (λ (z : ℕ). Remains t w j back n z m m) (sym none) whole
-
-module _ {t : Straight} {w j n i : ℕ} {back : Bool} {m₀ m : List ℕ} (left : Remains t w j back n i m₀ m) where
-  pub remains-again : {len from to d s : ℕ} → RowCopies t w j len n → RunAt t from to d s j → (k i′ : ℕ) (m′ : List ℕ) → i < w → k ≡ nth back 0 w i → i′ ≡ i + 1
-      → m′ ≡ copied t (d + k * to) (s + k * from) m → length m′ ≡ length m → Remains t w j back n i′ m₀ m′
-  remains-again row run k i′ m′ h e next copy long =
-      let more : n + (i + 1) ≡ n + i + 1 = omega arith in
-      let again : Remains t w j back n (i + 1) m₀ m′ = record {
-        painted = ap (λ (c : ℕ). paint (t .target) (straightly t (row-left back (t .x) w (i + 1) (t .y + j))) (state m′ c)) more
-            ∙ row-again (t .target) (λ p. touch p (λ now. straightGiving t now p)) back (t .x) w i (t .y + j) (t .x + k) (state m (n + i)) (state m′ (n + i + 1)) h
-            (ap (λ (r : ℕ). t .x + r) e ∙ nth-from back (t .x) w i) (pixel-given row run k (n + i) m m′ copy)
-            ∙ left .painted;
-        long = long ∙ left .long;
-        within = omega arith;
-      } in
-      subst (λ (z : ℕ). Remains t w j back n z m₀ m′) (sym next) again
-
-  pub remains-none : w ≤ i → RowCopied t w j back n m₀ m (n + w)
-  remains-none h =
-      let all : i ≡ w = omega (arith, left .within) in
-      record {
-        painted = ap (λ (c : ℕ). state m (n + c)) (sym all)
-            ∙ row-ends (t .target) (λ p. touch p (λ now. straightGiving t now p)) back (t .x) w i (t .y + j) (state m (n + i)) h ∙ left .painted;
-        counted = refl;
-      }
+-- and after the last
+pub row-copied : (t : Straight) (j : ℕ) {w i : ℕ} {back : Bool} {m₀ m : List ℕ} → Copying t w j back m₀ i m → w ≤ i
+    → state m w ≡ paint (t .target) (straightly t (across back (t .x) w (t .y + j))) (state m₀ 0)
+row-copied t j {w} {i} {m = m} left all = let e : w ≡ i = omega (arith, left .within) in ap (state m) e ∙ row-ended left all
 
 -- ---- the rows of a rectangle
-pub can-row : {t : Straight} {w h len : ℕ} → CanCopy t w h len → (j n : ℕ) → j < h → n + w < 2 ^ 32 → RowCopies t w j len n
-can-row can j n low room = record {
+pub can-row : {t : Straight} {w h len : ℕ} → CanCopy t w h len → (j : ℕ) → j < h → RowCopies t w j len
+can-row can j low = record {
   flat = can .flat;
   fromFlat = can .fromFlat;
   target = can .target;
   from = can .from;
-  room = room;
   row = omega (arith, can .high);
   sourceRow = omega (arith, can .sourceHigh);
   onTarget = λ i l. can .onTarget i j l low;

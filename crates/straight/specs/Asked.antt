@@ -19,13 +19,12 @@ pub record CanCopy (t : Straight) (w h len : ℕ) : Type 0 where
   pub onTarget : (i j : ℕ) → i < w → j < h → OnColour (t .target) len (t .x + i) (t .y + j)
   pub onSource : (i j : ℕ) → i < w → j < h → OnColour (t .from) len (t .sx + i) (t .sy + j)
 
--- its row number j can be, after n pixels that were written
-pub record RowCopies (t : Straight) (w j len n : ℕ) : Type 0 where
+-- its row number j can be
+pub record RowCopies (t : Straight) (w j len : ℕ) : Type 0 where
   pub flat : t .target .tiled ≡ false
   pub fromFlat : t .from .tiled ≡ false
   pub target : Colour (t .target)
   pub from : Colour (t .from)
-  pub room : n + w < 2 ^ 32
   pub row : t .y + j < 2 ^ 32
   pub sourceRow : t .sy + j < 2 ^ 32
   pub onTarget : (i : ℕ) → i < w → OnColour (t .target) len (t .x + i) (t .y + j)

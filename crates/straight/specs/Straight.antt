@@ -1,6 +1,5 @@
 -- Straight copies: each pixel is given its source, converted, or stays as it is where the source matches the key.
 -- Assumes nothing.
-use mathlib.Core.Path.{_≡_}
 use mathlib.Core.Bool.{Bool, cond, _&&_}
 use mathlib.Core.List.{List, map}
 use mathlib.Core.Option.{Option, some}
@@ -8,8 +7,8 @@ use Prim.Native.Nat.{ℕ, _+_, _-_, _%_, _^_}
 use Rattle.colour.specs.Convert.{converted}
 use Rattle.keys.specs.Key.{keyMatch}
 use Rattle.surface.specs.Place.{readBytes, writeBytes, readPx}
-use Rattle.surface.specs.Pixels.{Px, across}
-use Rattle.paint.specs.Paint.{Touch, touch, state, paint}
+use Rattle.surface.specs.Pixels.{Px}
+use Rattle.paint.specs.Paint.{Touch, touch}
 use Rattle.straight.specs.declared.Straight.{Straight}
 
 -- whether a source of value v matches the key, if there is one
@@ -34,10 +33,3 @@ unfoldable pub copied : Straight → ℕ → ℕ → List ℕ → List ℕ
 copied t d s m =
     writeBytes (λ k. d + k) 0 (t .target .bytes)
     (straightValue t (readBytes m (λ k. d + k) 0 (t .target .bytes)) (readBytes m (λ k. s + k) 0 (t .from .bytes))) m
-
--- ---- what functions give
-
--- the w pixels of row j were given theirs, from the left or from the right, and r pixels were written in all
-pub record RowCopied (t : Straight) (w j : ℕ) (back : Bool) (n : ℕ) (m m′ : List ℕ) (r : ℕ) : Type 0 where
-  pub painted : state m′ r ≡ paint (t .target) (straightly t (across back (t .x) w (t .y + j))) (state m n)
-  pub counted : r ≡ n + w

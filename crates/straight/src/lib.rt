@@ -1,12 +1,13 @@
 // Copies whose pixels get their source, converted, or stay as they are where the source matches the key.
+use paint::Tally;
 use surface::Surface;
 ghost use mathlib.Core.Path.{_≡_};
 ghost use mathlib.Core.Bool.{true, false};
 ghost use Prim.Native.Nat.{_+_, _*_, _^_, _<_};
 ghost use lib.ListN.{length};
-ghost use Rattle.surface.specs.Pixels.{rect};
-ghost use Rattle.paint.specs.Paint.{state, paint};
-ghost use Rattle.straight.specs.Straight.{keyed, straightly, copied, RowCopied};
+ghost use Rattle.surface.specs.Pixels.{across, rect};
+ghost use Rattle.paint.specs.Paint.{state, tallied, paint};
+ghost use Rattle.straight.specs.Straight.{keyed, straightly, copied};
 ghost use Rattle.straight.specs.Asked.{CanCopy, RowCopies, RunAt, PixelCopies};
 
 // What a straight copy needs: the two surfaces, the source key if there is one, and the first pixel of the target and of the source.
@@ -62,27 +63,16 @@ pub fn plain_pixel(mem: &mut [u8], t: Straight, from: u32, to: u32, d: usize, s:
     surface::put_bytes(mem, d, to, colour::convert_by_rule(from, to, value));
 }
 
-// The w pixels of row j, of `to` bytes each from d on, and their sources, of `from` bytes each from s on, after n that were written: from the left.
-fn straight_up(
-    mem: &mut [u8],
-    t: Straight,
-    from: u32,
-    to: u32,
-    d: usize,
-    s: usize,
-    w: u32,
-    j: u32,
-    n: u32,
-) -> u32
-    requires { ⌜ RowCopies t w j (length (now mem)) n × RunAt t from to d s j ⌝ }
-    ensures { λ r. ⌜ RowCopied t w j false n (now (mem .entry)) (now (mem .exit)) r ⌝ }
+// The w pixels of row j, of `to` bytes each from d on, and their sources, of `from` bytes each from s on: from the left.
+fn straight_up(mem: &mut [u8], t: Straight, from: u32, to: u32, d: usize, s: usize, w: u32, j: u32)
+    requires { ⌜ RowCopies t w j (length (now mem)) × RunAt t from to d s j ⌝ }
+    ensures { λ _. ⌜ state (now (mem .exit)) w ≡ paint (t .target) (straightly t (across false (t .x) w (t .y + j))) (state (now (mem .entry)) 0) ⌝ }
 {
     let mut i = 0;
     while i < w {
         straight_pixel(mem, t, from, to, pixel_at(d, to, i), pixel_at(s, from, i));
         i += 1;
     }
-    n + w
 }
 
 // The same, from the right.
@@ -95,17 +85,15 @@ fn straight_down(
     s: usize,
     w: u32,
     j: u32,
-    n: u32,
-) -> u32
-    requires { ⌜ RowCopies t w j (length (now mem)) n × RunAt t from to d s j ⌝ }
-    ensures { λ r. ⌜ RowCopied t w j true n (now (mem .entry)) (now (mem .exit)) r ⌝ }
+)
+    requires { ⌜ RowCopies t w j (length (now mem)) × RunAt t from to d s j ⌝ }
+    ensures { λ _. ⌜ state (now (mem .exit)) w ≡ paint (t .target) (straightly t (across true (t .x) w (t .y + j))) (state (now (mem .entry)) 0) ⌝ }
 {
     let mut i = w;
     while 0 < i {
         i -= 1;
         straight_pixel(mem, t, from, to, pixel_at(d, to, i), pixel_at(s, from, i));
     }
-    n + w
 }
 
 // The same, one way or the other.
@@ -119,21 +107,21 @@ fn straight_run(
     w: u32,
     j: u32,
     back: bool,
-    n: u32,
-) -> u32
-    requires { ⌜ RowCopies t w j (length (now mem)) n × RunAt t from to d s j ⌝ }
-    ensures { λ r. ⌜ RowCopied t w j back n (now (mem .entry)) (now (mem .exit)) r ⌝ }
+)
+    requires { ⌜ RowCopies t w j (length (now mem)) × RunAt t from to d s j ⌝ }
+    ensures { λ _. ⌜ state (now (mem .exit)) w ≡ paint (t .target) (straightly t (across back (t .x) w (t .y + j))) (state (now (mem .entry)) 0) ⌝ }
 {
     if back {
-        return straight_down(mem, t, from, to, d, s, w, j, n);
+        straight_down(mem, t, from, to, d, s, w, j);
+        return;
     }
-    straight_up(mem, t, from, to, d, s, w, j, n)
+    straight_up(mem, t, from, to, d, s, w, j);
 }
 
 // Row j, with loops of their own for each pair of formats that is allowed.
-fn straight_row(mem: &mut [u8], t: Straight, w: u32, j: u32, back: bool, n: u32) -> u32
-    requires { ⌜ RowCopies t w j (length (now mem)) n ⌝ }
-    ensures { λ r. ⌜ RowCopied t w j back n (now (mem .entry)) (now (mem .exit)) r ⌝ }
+fn straight_row(mem: &mut [u8], t: Straight, w: u32, j: u32, back: bool)
+    requires { ⌜ RowCopies t w j (length (now mem)) ⌝ }
+    ensures { λ _. ⌜ state (now (mem .exit)) w ≡ paint (t .target) (straightly t (across back (t .x) w (t .y + j))) (state (now (mem .entry)) 0) ⌝ }
 {
     let from = t.from.bytes;
     let to = t.target.bytes;
@@ -141,31 +129,38 @@ fn straight_row(mem: &mut [u8], t: Straight, w: u32, j: u32, back: bool, n: u32)
     let s = surface::place_in_rows(t.from, t.sx, t.sy + j);
     let pair = from * 8 + to;
     match pair {
-        9 => straight_run(mem, t, 1, 1, d, s, w, j, back, n),
-        18 => straight_run(mem, t, 2, 2, d, s, w, j, back, n),
-        19 => straight_run(mem, t, 2, 3, d, s, w, j, back, n),
-        20 => straight_run(mem, t, 2, 4, d, s, w, j, back, n),
-        26 => straight_run(mem, t, 3, 2, d, s, w, j, back, n),
-        27 => straight_run(mem, t, 3, 3, d, s, w, j, back, n),
-        28 => straight_run(mem, t, 3, 4, d, s, w, j, back, n),
-        34 => straight_run(mem, t, 4, 2, d, s, w, j, back, n),
-        35 => straight_run(mem, t, 4, 3, d, s, w, j, back, n),
-        36 => straight_run(mem, t, 4, 4, d, s, w, j, back, n),
-        _ => straight_run(mem, t, from, to, d, s, w, j, back, n),
+        9 => straight_run(mem, t, 1, 1, d, s, w, j, back),
+        18 => straight_run(mem, t, 2, 2, d, s, w, j, back),
+        19 => straight_run(mem, t, 2, 3, d, s, w, j, back),
+        20 => straight_run(mem, t, 2, 4, d, s, w, j, back),
+        26 => straight_run(mem, t, 3, 2, d, s, w, j, back),
+        27 => straight_run(mem, t, 3, 3, d, s, w, j, back),
+        28 => straight_run(mem, t, 3, 4, d, s, w, j, back),
+        34 => straight_run(mem, t, 4, 2, d, s, w, j, back),
+        35 => straight_run(mem, t, 4, 3, d, s, w, j, back),
+        36 => straight_run(mem, t, 4, 4, d, s, w, j, back),
+        _ => straight_run(mem, t, from, to, d, s, w, j, back),
     }
 }
 
-// A straight copy, row by row from the corner that the two flags name; the count of its pixels.
-pub fn straight_rows(mem: &mut [u8], t: Straight, w: u32, h: u32, toLeft: bool, toTop: bool) -> u32
+// A straight copy, row by row from the corner that the two flags name; the tally of its pixels.
+pub fn straight_rows(
+    mem: &mut [u8],
+    t: Straight,
+    w: u32,
+    h: u32,
+    toLeft: bool,
+    toTop: bool,
+) -> Tally
     requires { ⌜ CanCopy t w h (length (now mem)) ⌝ }
-    ensures { λ r. ⌜ state (now (mem .exit)) r ≡ paint (t .target) (straightly t (rect toLeft toTop (t .x) (t .y) w h)) (state (now (mem .entry)) 0) ⌝ }
+    ensures { λ r. ⌜ tallied (now (mem .exit)) r ≡ paint (t .target) (straightly t (rect toLeft toTop (t .x) (t .y) w h)) (state (now (mem .entry)) 0) ⌝ }
 {
-    let mut n = 0;
     let mut i = 0;
     while i < h {
         let j = paint::place(toTop, 0, h, i);
-        n = straight_row(mem, t, w, j, toLeft, n);
+        straight_row(mem, t, w, j, toLeft);
         i += 1;
     }
-    n
+    let count = w * h;
+    Tally { count: count }
 }

@@ -9,6 +9,7 @@ use Rattle.surface.specs.Pixels.{Px, px, rect}
 use Rattle.surface.proofs.Lists.{In, pairs-all}
 use Rattle.surface.proofs.Rects.{same-px, in-rect}
 use Rattle.spans.proofs.Spans.{IsByte, spans-meet}
+use Rattle.paint.specs.Tally.{tally}
 use Rattle.paint.specs.Paint.{state, paint}
 use Rattle.paint.proofs.Settle.{Local, Unread, in-place}
 use Rattle.paint.proofs.Turns.{paint-same}
@@ -47,7 +48,7 @@ module _ {t : Stretch} {x y w h len : ℕ} (can : CanStretch t x y w h len) wher
 
   pub in-turn : (pattern m : List ℕ) → paint (t .ink .target) (stretchedInTurn t pattern all) (state m 0) ≡ paint (t .ink .target) (stretched t pattern m all) (state m 0)
   in-turn pattern m =
-      in-place (t .ink .target) (can .colour .some) (stretchGiving t pattern) (Reads t) (stretch-local t pattern (can .colour .some)) all m 0 (pairs-all all not-read)
+      in-place (t .ink .target) (can .colour .some) (stretchGiving t pattern) (Reads t) (stretch-local t pattern (can .colour .some)) all m (tally 0) (pairs-all all not-read)
 
 -- a stretch whose pixels get their sources, or stay as they are where the source matches the key
 pub straight-turn : (t : Stretch) → straight (openTask t) ≡ true → (pattern m : List ℕ) (ps : List Px)

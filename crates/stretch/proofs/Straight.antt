@@ -1,18 +1,20 @@
 -- Rows of a stretch whose pixels get their sources, or stay as they are where the source matches the key.
 -- Assumes nothing.
 use mathlib.Core.Path.{_≡_, refl, sym, ap, ap₂, subst, _∙_}
-use mathlib.Core.Bool.{Bool, true, not, _&&_}
+use mathlib.Core.Bool.{Bool, true, false, not, _&&_}
 use mathlib.Core.List.{List}
+use mathlib.Core.Option.{Option}
 use Prim.Native.Nat.{ℕ, _+_, _-_, _*_, _<_, _≤_}
 use native.Mathlib.Omega.{arith}
-use lib.ListN.{length}
 use borrow.Author.Tests.{not-true}
 use Rattle.surface.specs.Place.{byteOf}
 use Rattle.surface.specs.Asked.{Held, OnColour}
-use Rattle.surface.specs.Pixels.{px, origin}
+use Rattle.surface.specs.Pixels.{Px, px, across, origin}
 use Rattle.surface.proofs.OnLaws.{and-left, and-right}
 use Rattle.surface.proofs.Run.{in-rows, pixel-held, run-pixel}
-use Rattle.paint.specs.Paint.{state, dab}
+use Rattle.paint.specs.Tally.{tally}
+use Rattle.paint.specs.Paint.{state, dab, paint}
+use Rattle.paint.proofs.Loops.{RowLeft, row-goes-on, row-ended}
 use Rattle.straight.specs.Straight.{straightGiving, copied}
 use Rattle.straight.specs.Asked.{PixelCopies}
 use Rattle.straight.proofs.StraightLaws.{copied-px}
@@ -22,9 +24,9 @@ use Rattle.scale.specs.declared.Stretch.{Stretch}
 use Rattle.scale.specs.declared.Walk.{Walk}
 use Rattle.scale.specs.Scale.{scaled, walkAt}
 use Rattle.scale.specs.Stretch.{takenAt, pixelTask}
-use Rattle.stretch.specs.Row.{openTask, straightTouch, RowTaken}
+use Rattle.stretch.specs.Row.{openTask, straightly}
 use Rattle.stretch.specs.Asked.{rowOf, RowTakes, RunAt}
-use Rattle.stretch.proofs.Taken.{walk-place, RowLeft, row-goes-on, row-ended}
+use Rattle.stretch.proofs.Taken.{walk-place}
 
 -- the test: both surfaces in rows, and r
 pub straight-only : (t : Stretch) (r : Bool) → ((not (t .ink .target .tiled) && not (t .from .tiled)) && r) ≡ true → Flat (openTask t) × (r ≡ true)
@@ -46,8 +48,15 @@ run-here {t} source target some first sourceFirst row = record {
   sourceFirst = sourceFirst ∙ ap (λ (k : ℕ). byteOf (t .from) 0 k 0) row;
 }
 
+-- the loop over a row, which writes a pixel a turn
+abbrev pub straightlyAt : Stretch → Px → List ℕ → Option ℕ
+straightlyAt t p now = straightGiving (straightOf (pixelTask t p)) now p
+
+abbrev pub Copying : Stretch → ℕ → ℕ → ℕ → List ℕ → ℕ → List ℕ → Type 0
+Copying t x w y m₀ i m = RowLeft (t .ink .target) (straightlyAt t) false x w y m₀ (tally 0) i m (tally i)
+
 -- ---- pixel number i of row y: its bytes, and its source's
-module _ {t : Stretch} {x y w len n from to d s : ℕ} (row : RowTakes t x y w len n) (run : RunAt t from to d s x y) (i : ℕ) where
+module _ {t : Stretch} {x y w len from to d s : ℕ} (row : RowTakes t x y w len) (run : RunAt t from to d s x y) (i : ℕ) where
   abbrev column : ℕ
   column = scaled (t .columns) (origin + (x + i)) - origin
 
@@ -80,18 +89,14 @@ module _ {t : Stretch} {x y w len n from to d s : ℕ} (row : RowTakes t x y w l
       (e ∙ copied-px (straightOf (openTask t)) (run .flat .target) (run .flat .from) (d + i * to) (s + column * from) (x + i) y (column + (x + i - (x + i))) (rowOf t y + (y - y)) m target-at
       (source-at ∙ ap₂ (λ (a b : ℕ). byteOf (t .from) a b 0) across down))
 
--- ---- a turn of the loop, and the row when all its pixels have theirs
-module _ {t : Stretch} {x y w n i : ℕ} {m₀ m : List ℕ} {walk : Walk} (left : RowLeft t (straightTouch t) x y w n i (n + i) m₀ m walk) where
-  pub straight-again : {len from to d s : ℕ} → RowTakes t x y w len n → RunAt t from to d s x y → (m′ : List ℕ) (walk′ : Walk) → i < w
-      → m′ ≡ copied (straightOf (openTask t)) (d + i * to) (s + (walk .at - origin) * from) m → length m′ ≡ length m
-      → walk′ ≡ walkAt (t .columns) (origin + (x + (i + 1))) → RowLeft t (straightTouch t) x y w n (i + 1) (n + (i + 1)) m₀ m′ walk′
-  straight-again {len} {from} {to} {d} {s} row run m′ walk′ more copy long next =
-      let count : n + (i + 1) ≡ n + i + 1 = omega arith in
-      let place = walk-place (t .columns) (origin + (x + i)) (left .here) in
-      let copy′ = copy ∙ ap (λ (k : ℕ). copied (straightOf (openTask t)) (d + i * to) (s + (k - origin) * from) m) place in
-      row-goes-on left (n + (i + 1)) m′ walk′ more (ap (λ (c : ℕ). state m′ c) count ∙ pixel-given row run i (n + i) m m′ copy′) (omega arith) long next
+  -- its turn, in the loop over the row
+  pub row-copies : {m₀ m m′ : List ℕ} {walk : Walk} → Copying t x w y m₀ i m → walk ≡ walkAt (t .columns) (origin + (x + i)) → i < w
+      → m′ ≡ copied (straightOf (openTask t)) (d + i * to) (s + (walk .at - origin) * from) m → Copying t x w y m₀ (i + 1) m′
+  row-copies {m = m} {m′} left here more copy =
+      let place = walk-place (t .columns) (origin + (x + i)) here in
+      row-goes-on left (x + i) more refl (pixel-given i m m′ (copy ∙ ap (λ (k : ℕ). copied (straightOf (openTask t)) (d + i * to) (s + (k - origin) * from) m) place)) refl
 
-  pub straight-ended : w ≤ i → RowTaken t x y w n m₀ m (n + w)
-  straight-ended all =
-      let whole : n + w ≡ n + i = omega (arith, left .within) in
-      record { painted = ap (λ (c : ℕ). state m c) whole ∙ row-ended left all; counted = refl }
+-- and after the last
+pub row-copied : (t : Stretch) (x y : ℕ) {w i : ℕ} {m₀ m : List ℕ} → Copying t x w y m₀ i m → w ≤ i
+    → state m w ≡ paint (t .ink .target) (straightly t (across false x w y)) (state m₀ 0)
+row-copied t x y {w} {i} {m = m} left all = let e : w ≡ i = omega (arith, left .within) in ap (state m) e ∙ row-ended left all

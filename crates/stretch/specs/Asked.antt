@@ -20,12 +20,11 @@ pub record TakesFrom (t : Stretch) (x y len : ℕ) : Type 0 where
   pub top : origin ≤ scaled (t .rows) (origin + y)
   pub from : onSurface (t .from) len (scaled (t .columns) (origin + x) - origin) (scaled (t .rows) (origin + y) - origin) ≡ true
 
--- w pixels of row y from column x on can be painted, after n that were written
-pub record RowTakes (t : Stretch) (x y w len n : ℕ) : Type 0 where
+-- w pixels of row y from column x on can be painted
+pub record RowTakes (t : Stretch) (x y w len : ℕ) : Type 0 where
   pub colour : Colour (t .ink .target)
   pub small : Small (t .from)
   pub wide : x + w ≤ 2 ^ 13
-  pub room : n + w < 2 ^ 32
   pub first : OnScale (t .columns) (origin + x)
   pub last : OnScale (t .columns) (origin + (x + w))
   pub each : (i : ℕ) → i < w → TakesFrom t (x + i) y len

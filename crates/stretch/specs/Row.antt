@@ -1,11 +1,10 @@
--- A row of a stretch: what its pixels are given, and what the functions that paint it ask for.
+-- A row of a stretch: what its pixels are given.
 -- Assumes nothing.
-use mathlib.Core.Path.{_≡_}
-use mathlib.Core.Bool.{true, false}
+use mathlib.Core.Bool.{true}
 use mathlib.Core.List.{List, map}
-use Prim.Native.Nat.{ℕ, _+_}
-use Rattle.surface.specs.Pixels.{Px, across}
-use Rattle.paint.specs.Paint.{Touch, touch, state, paint}
+use Prim.Native.Nat.{ℕ}
+use Rattle.surface.specs.Pixels.{Px}
+use Rattle.paint.specs.Paint.{Touch, touch}
 use Rattle.sweep.specs.declared.Task.{Task}
 use Rattle.sweep.specs.Row.{rowGiving}
 use Rattle.scale.specs.declared.Stretch.{Stretch}
@@ -30,8 +29,3 @@ straightTouch t p = touch p (λ now. straightGiving (straightOf (pixelTask t p))
 
 abbrev pub straightly : Stretch → List Px → List Touch
 straightly t ps = map (straightTouch t) ps
-
--- ---- what functions give: the pixels of row y were given theirs, and r pixels were written in all
-pub record RowTaken (t : Stretch) (x y w n : ℕ) (m m′ : List ℕ) (r : ℕ) : Type 0 where
-  pub painted : state m′ r ≡ paint (t .ink .target) (straightly t (across false x w y)) (state m n)
-  pub counted : r ≡ n + w

@@ -1,15 +1,17 @@
 // Stretch copies: walks along the rows and the columns say which source pixel each target pixel takes.
 use keys::Range;
 use paint::Source;
+use paint::Tally;
 use scale::Stretch;
 use scale::Walk;
 use sweep::Task;
 ghost use mathlib.Core.Path.{_≡_};
 ghost use mathlib.Core.Bool.{false};
-ghost use Prim.Native.Nat.{_+_, _≤_, _<_};
+ghost use Prim.Native.Nat.{_+_, _<_};
 ghost use lib.ListN.{length};
 ghost use Rattle.surface.specs.Pixels.{px, across, rect};
-ghost use Rattle.paint.specs.Paint.{state, paint};
+ghost use Rattle.paint.specs.Asked.{Room};
+ghost use Rattle.paint.specs.Paint.{state, tallied, paint};
 ghost use Rattle.sweep.specs.Copy.{sourceFrom};
 ghost use Rattle.sweep.specs.Asked.{SourceKey, TargetKey, Laid};
 ghost use Rattle.scale.specs.Stretch.{stretched, stretchedInTurn};
@@ -18,7 +20,7 @@ ghost use Rattle.straight.specs.Straight.{copied};
 ghost use Rattle.straight.specs.Asked.{PixelCopies};
 ghost use Rattle.rect.specs.Fast.{straightOf};
 ghost use Rattle.rect.specs.Asked.{Flat};
-ghost use Rattle.stretch.specs.Row.{openTask, inRow, straightly, RowTaken};
+ghost use Rattle.stretch.specs.Row.{openTask, inRow, straightly};
 ghost use Rattle.stretch.specs.Asked.{rowOf, RowTakes, ColumnsAt, RunAt, OnSource, Begins};
 
 // The copy of a pixel, with its places left open.
@@ -65,10 +67,9 @@ fn straight_across(
     x: u32,
     y: u32,
     w: u32,
-    n: u32,
-) -> u32
-    requires { ⌜ RowTakes t x y w (length (now mem)) n × (ColumnsAt t columns x × (RunAt t from to d s x y × (keyed ≡ t .ink .srcKey))) ⌝ }
-    ensures { λ r. ⌜ RowTaken t x y w n (now (mem .entry)) (now (mem .exit)) r ⌝ }
+)
+    requires { ⌜ RowTakes t x y w (length (now mem)) × (ColumnsAt t columns x × (RunAt t from to d s x y × (keyed ≡ t .ink .srcKey))) ⌝ }
+    ensures { λ _. ⌜ state (now (mem .exit)) w ≡ paint (t .ink .target) (straightly t (across false x w y)) (state (now (mem .entry)) 0) ⌝ }
 {
     let mut walk = columns;
     let mut i = 0;
@@ -79,39 +80,30 @@ fn straight_across(
         walk = scale::next(walk);
         i += 1;
     }
-    n + w
 }
 
 // Row y, without a key in loops of their own for one format and for 16 and 32 bits; its source is row sy.
-fn straight_row(
-    mem: &mut [u8],
-    t: Stretch,
-    columns: Walk,
-    sy: u32,
-    x: u32,
-    y: u32,
-    w: u32,
-    n: u32,
-) -> u32
-    requires { ⌜ RowTakes t x y w (length (now mem)) n × (ColumnsAt t columns x × ((sy ≡ rowOf t y) × ((0 < t .from .bytes) × Flat (openTask t)))) ⌝ }
-    ensures { λ r. ⌜ RowTaken t x y w n (now (mem .entry)) (now (mem .exit)) r ⌝ }
+fn straight_row(mem: &mut [u8], t: Stretch, columns: Walk, sy: u32, x: u32, y: u32, w: u32)
+    requires { ⌜ RowTakes t x y w (length (now mem)) × (ColumnsAt t columns x × ((sy ≡ rowOf t y) × ((0 < t .from .bytes) × Flat (openTask t)))) ⌝ }
+    ensures { λ _. ⌜ state (now (mem .exit)) w ≡ paint (t .ink .target) (straightly t (across false x w y)) (state (now (mem .entry)) 0) ⌝ }
 {
     let from = t.from.bytes;
     let to = t.ink.target.bytes;
     let d = surface::byte_of(t.ink.target, x, y, 0);
     let s = surface::byte_of(t.from, 0, sy, 0);
     if t.ink.srcKey {
-        return straight_across(mem, t, columns, true, from, to, d, s, x, y, w, n);
+        straight_across(mem, t, columns, true, from, to, d, s, x, y, w);
+        return;
     }
     let pair = from * 8 + to;
     match pair {
-        9 => straight_across(mem, t, columns, false, 1, 1, d, s, x, y, w, n),
-        18 => straight_across(mem, t, columns, false, 2, 2, d, s, x, y, w, n),
-        20 => straight_across(mem, t, columns, false, 2, 4, d, s, x, y, w, n),
-        27 => straight_across(mem, t, columns, false, 3, 3, d, s, x, y, w, n),
-        34 => straight_across(mem, t, columns, false, 4, 2, d, s, x, y, w, n),
-        36 => straight_across(mem, t, columns, false, 4, 4, d, s, x, y, w, n),
-        _ => straight_across(mem, t, columns, false, from, to, d, s, x, y, w, n),
+        9 => straight_across(mem, t, columns, false, 1, 1, d, s, x, y, w),
+        18 => straight_across(mem, t, columns, false, 2, 2, d, s, x, y, w),
+        20 => straight_across(mem, t, columns, false, 2, 4, d, s, x, y, w),
+        27 => straight_across(mem, t, columns, false, 3, 3, d, s, x, y, w),
+        34 => straight_across(mem, t, columns, false, 4, 2, d, s, x, y, w),
+        36 => straight_across(mem, t, columns, false, 4, 4, d, s, x, y, w),
+        _ => straight_across(mem, t, columns, false, from, to, d, s, x, y, w),
     }
 }
 
@@ -125,19 +117,19 @@ fn straight_rows(
     y: u32,
     w: u32,
     h: u32,
-) -> u32
+) -> Tally
     requires { ⌜ Begins t columns rows x y w h (length (now mem)) × ((0 < t .from .bytes) × Flat (openTask t)) ⌝ }
-    ensures { λ r. ⌜ state (now (mem .exit)) r ≡ paint (t .ink .target) (straightly t (rect false false x y w h)) (state (now (mem .entry)) 0) ⌝ }
+    ensures { λ r. ⌜ tallied (now (mem .exit)) r ≡ paint (t .ink .target) (straightly t (rect false false x y w h)) (state (now (mem .entry)) 0) ⌝ }
 {
     let mut walk = rows;
-    let mut n = 0;
     let mut j = 0;
     while j < h {
-        n = straight_row(mem, t, columns, walk.at - 16384, x, y + j, w, n);
+        straight_row(mem, t, columns, walk.at - 16384, x, y + j, w);
         walk = scale::next(walk);
         j += 1;
     }
-    n
+    let count = w * h;
+    Tally { count: count }
 }
 
 // The source at (sx, sy); `range` is that of the source key.
@@ -166,10 +158,10 @@ fn mixed_across(
     x: u32,
     y: u32,
     w: u32,
-    n: u32,
-) -> u32
-    requires { ⌜ RowTakes t x y w (length (now mem)) n × (ColumnsAt t columns x × ((sy ≡ rowOf t y) × (SourceKey (openTask t) source × TargetKey (openTask t) target))) ⌝ }
-    ensures { λ r. ⌜ (state (now (mem .exit)) r ≡ paint (t .ink .target) (inRow t quads (across false x w y)) (state (now (mem .entry)) n)) × (r ≤ n + w) ⌝ }
+    n: Tally,
+) -> Tally
+    requires { ⌜ (RowTakes t x y w (length (now mem)) × Room n w) × (ColumnsAt t columns x × ((sy ≡ rowOf t y) × (SourceKey (openTask t) source × TargetKey (openTask t) target))) ⌝ }
+    ensures { λ r. ⌜ tallied (now (mem .exit)) r ≡ paint (t .ink .target) (inRow t quads (across false x w y)) (tallied (now (mem .entry)) n) ⌝ }
 {
     let ink = t.ink;
     let to = ink.target;
@@ -190,7 +182,7 @@ fn mixed_across(
             s.value,
             old,
         );
-        r = plan::put_pixel(mem, to, at, y, s.left, v, r);
+        r = paint::put_value(mem, to, at, y, s.left, v, r);
         walk = scale::next(walk);
         i += 1;
     }
@@ -211,10 +203,10 @@ fn mixed_row(
     x: u32,
     y: u32,
     w: u32,
-    n: u32,
-) -> u32
-    requires { ⌜ RowTakes t x y w (length (now mem)) n × (ColumnsAt t columns x × ((sy ≡ rowOf t y) × ((SourceKey (openTask t) source × TargetKey (openTask t) target) × Laid (openTask t) masks blank))) ⌝ }
-    ensures { λ r. ⌜ (state (now (mem .exit)) r ≡ paint (t .ink .target) (stretchedInTurn t pattern (across false x w y)) (state (now (mem .entry)) n)) × (r ≤ n + w) ⌝ }
+    n: Tally,
+) -> Tally
+    requires { ⌜ (RowTakes t x y w (length (now mem)) × Room n w) × (ColumnsAt t columns x × ((sy ≡ rowOf t y) × ((SourceKey (openTask t) source × TargetKey (openTask t) target) × Laid (openTask t) masks blank))) ⌝ }
+    ensures { λ r. ⌜ tallied (now (mem .exit)) r ≡ paint (t .ink .target) (stretchedInTurn t pattern (across false x w y)) (tallied (now (mem .entry)) n) ⌝ }
 {
     let ink = t.ink;
     if paint::is_patternless(ink) {
@@ -247,9 +239,9 @@ fn mixed_rows(
     y: u32,
     w: u32,
     h: u32,
-) -> u32
+) -> Tally
     requires { ⌜ Begins t columns rows x y w h (length (now mem)) ⌝ }
-    ensures { λ r. ⌜ state (now (mem .exit)) r ≡ paint (t .ink .target) (stretchedInTurn t pattern (rect false false x y w h)) (state (now (mem .entry)) 0) ⌝ }
+    ensures { λ r. ⌜ tallied (now (mem .exit)) r ≡ paint (t .ink .target) (stretchedInTurn t pattern (rect false false x y w h)) (state (now (mem .entry)) 0) ⌝ }
 {
     let ink = t.ink;
     let source = keys::range_of(t.from.bytes, ink.srcMin, ink.srcMax);
@@ -257,7 +249,7 @@ fn mixed_rows(
     let masks = plan::masks_of(ink);
     let blank = plan::quads_of(masks, [0u32; 8]);
     let mut walk = rows;
-    let mut n = 0;
+    let mut n = Tally { count: 0 };
     let mut j = 0;
     while j < h {
         n = mixed_row(
@@ -281,7 +273,7 @@ fn mixed_rows(
     n
 }
 
-// The w by h pixels from (x, y) on, each from its source as it was before; the count of pixels written.
+// The w by h pixels from (x, y) on, each from its source as it was before; the tally of the pixels written.
 pub fn paint_stretch(
     mem: &mut [u8],
     t: Stretch,
@@ -290,15 +282,15 @@ pub fn paint_stretch(
     y: u32,
     w: u32,
     h: u32,
-) -> u32
+) -> Tally
     requires { ⌜ CanStretch t x y w h (length (now mem)) ⌝ }
-    ensures { λ r. ⌜ state (now (mem .exit)) r ≡ paint (t .ink .target) (stretched t pattern (now (mem .entry)) (rect false false x y w h)) (state (now (mem .entry)) 0) ⌝ }
+    ensures { λ r. ⌜ tallied (now (mem .exit)) r ≡ paint (t .ink .target) (stretched t pattern (now (mem .entry)) (rect false false x y w h)) (state (now (mem .entry)) 0) ⌝ }
 {
     if w == 0 {
-        return 0;
+        return Tally { count: 0 };
     }
     if h == 0 {
-        return 0;
+        return Tally { count: 0 };
     }
     let columns = scale::start(t.columns, 16384 + x);
     let rows = scale::start(t.rows, 16384 + y);

@@ -2,20 +2,15 @@
 -- Assumes nothing.
 use mathlib.Core.Path.{_≡_}
 use mathlib.Core.Bool.{true, false}
-use Prim.Native.Nat.{ℕ, _+_, _-_, _^_, _<_, _≤_}
+use Prim.Native.Nat.{ℕ, _-_, _<_, _≤_}
 use Rattle.surface.specs.declared.Surface.{Surface}
 use Rattle.surface.specs.Place.{onSurface}
-use Rattle.surface.specs.Asked.{Colour, Held}
+use Rattle.surface.specs.Asked.{Colour}
 use Rattle.surface.specs.Pixels.{origin}
 use Rattle.line.specs.declared.Line.{Line}
 use Rattle.line.specs.Line.{pointAt, pointCount}
 use Rattle.line.specs.Asked.{Placed}
 use Rattle.strokes.specs.Walk.{whole}
-
--- n bytes from an address on, in a memory of len bytes, after k pixels that were written
-pub record Spot (at n len k : ℕ) : Type 0 where
-  pub held : Held at n len
-  pub room : k + 1 < 2 ^ 32
 
 -- the ends of a line are at the origin or after it
 pub record Ahead (l : Line) : Type 0 where

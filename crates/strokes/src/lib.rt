@@ -3,22 +3,21 @@ use ink::Ink;
 use line::Line;
 use line::Pen;
 use paint::Clip;
-use paint::Source;
+use paint::Tally;
 use points::LineDone;
 use surface::Surface;
 ghost use mathlib.Core.Path.{_≡_};
 ghost use mathlib.Core.Bool.{true};
-ghost use Prim.Native.Nat.{_+_, _-_, _%_, _^_, _<_, _≤_};
+ghost use Prim.Native.Nat.{_+_, _-_, _%_, _^_, _<_};
 ghost use lib.ListN.{length};
-ghost use Rattle.paint.specs.Paint.{state, paint, dabAt};
-ghost use Rattle.paint.specs.Mix.{sourced};
+ghost use Rattle.paint.specs.Paint.{state, tallied, paint};
 ghost use Rattle.paint.specs.Asked.{Bits12};
 ghost use Rattle.line.specs.Line.{pointCount, points};
 ghost use Rattle.line.specs.Asked.{Placed, Drawable};
 ghost use Rattle.line.specs.Stipple.{stippleBit, after, styleAfter};
 ghost use Rattle.line.specs.Draw.{lineTouches};
 ghost use Rattle.strokes.specs.Walk.{shift, stepsOf, walkedOn, walkTouches, wordOf, whole, Fields, walks};
-ghost use Rattle.strokes.specs.Asked.{Spot, Walkable};
+ghost use Rattle.strokes.specs.Asked.{Walkable};
 
 // Where a walk along a line is: the address of a point's first byte, and the remainder of its steps along the minor axis.
 pub struct Walk {
@@ -165,22 +164,10 @@ fn phase_bit(pen: Pen, p: Phase) -> u32
     1
 }
 
-// A pixel of n bytes from an address on is given its source, and counted, or it is left.
-fn put_from(mem: &mut [u8], at: usize, n: u32, s: Source, count: u32) -> u32
-    requires { ⌜ Spot at n (length (now mem)) count ⌝ }
-    ensures { λ r. ⌜ (state (now (mem .exit)) r ≡ dabAt at n (sourced s) (state (now (mem .entry)) count)) × (r ≤ count + 1) ⌝ }
-{
-    if s.left {
-        return count;
-    }
-    surface::put_bytes(mem, at, n, s.value);
-    count + 1
-}
-
 // The line drawn by address, where each point gets its source.
 fn walk_line(mem: &mut [u8], ink: Ink, l: Line, pen: Pen, style: u32) -> LineDone
     requires { ⌜ Walkable (ink .target) (length (now mem)) l style ⌝ }
-    ensures { λ r. ⌜ (state (now (mem .exit)) (r .count) ≡ paint (ink .target) (walkTouches ink pen style (points l)) (state (now (mem .entry)) 0)) × (r .style ≡ styleAfter pen (pointCount l) style) ⌝ }
+    ensures { λ r. ⌜ (tallied (now (mem .exit)) (r .tally) ≡ paint (ink .target) (walkTouches ink pen style (points l)) (state (now (mem .entry)) 0)) × (r .style ≡ styleAfter pen (pointCount l) style) ⌝ }
 {
     let s = ink.target;
     let n = s.bytes;
@@ -190,23 +177,18 @@ fn walk_line(mem: &mut [u8], ink: Ink, l: Line, pen: Pen, style: u32) -> LineDon
         rest: line::long_side(l),
     };
     let mut p = phase_of(style);
-    let mut count = 0;
+    let mut tally = Tally { count: 0 };
     let mut i = 0;
-    while i < line::point_count(l) {
-        count = put_from(
-            mem,
-            w.at,
-            n,
-            paint::bit_source(ink, phase_bit(pen, p)),
-            count,
-        );
+    while i < surface::wide(line::point_count(l)) {
+        let source = paint::bit_source(ink, phase_bit(pen, p));
+        tally = paint::put_value_at(mem, w.at, n, source.left, source.value, tally);
         w = walk_on(t, w);
         p = phase_after(pen, p);
         i += 1;
     }
     LineDone {
         style: style_of(p),
-        count: count,
+        tally: tally,
     }
 }
 
@@ -233,7 +215,7 @@ pub fn paint_line(
     style: u32,
 ) -> LineDone
     requires { ⌜ Drawable (ink .target) (length (now mem)) c l ⌝ }
-    ensures { λ r. ⌜ (state (now (mem .exit)) (r .count) ≡ paint (ink .target) (lineTouches ink pattern c pen style (points l)) (state (now (mem .entry)) 0)) × (r .style ≡ styleAfter pen (pointCount l) style) ⌝ }
+    ensures { λ r. ⌜ (tallied (now (mem .exit)) (r .tally) ≡ paint (ink .target) (lineTouches ink pattern c pen style (points l)) (state (now (mem .entry)) 0)) × (r .style ≡ styleAfter pen (pointCount l) style) ⌝ }
 {
     if can_walk(ink, c, l, style) {
         return walk_line(mem, ink, l, pen, style);

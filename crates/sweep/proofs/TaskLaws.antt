@@ -1,12 +1,13 @@
 -- Laws of a rectangle's pixels: what one is given, by the numbers that the loop has; and that a rectangle that can be painted has its rows ready.
 -- Assumes nothing.
 use mathlib.Core.Path.{_≡_, refl, _∙_}
-use mathlib.Core.Bool.{true, false, cond}
+use mathlib.Core.Bool.{Bool, true, false, cond}
 use mathlib.Core.List.{List}
-use mathlib.Core.Option.{none, some}
-use Prim.Native.Nat.{ℕ, _+_, _-_, _/_, _%_, _^_, _<_, _≤_}
+use mathlib.Core.Option.{Option, none, some}
+use Prim.Native.Nat.{ℕ, _+_, _-_, _/_, _%_, _^_, _<_}
 use native.Mathlib.Omega.{arith}
-use lib.ListN.{getD}
+use lib.ListN.{length, getD}
+use Rattle.surface.specs.declared.Surface.{Surface}
 use Rattle.surface.specs.Place.{readPx, onSurface}
 use Rattle.surface.specs.Asked.{OnColour}
 use Rattle.surface.specs.Pixels.{Px, px, rect, Inside}
@@ -15,8 +16,12 @@ use Rattle.spans.proofs.Corner.{all-each}
 use Rattle.sweep.specs.declared.Task.{Task}
 use Rattle.ink.specs.Pattern.{patternColumn, patternRow, patternBit, patternValue, RowOf}
 use Rattle.paint.specs.declared.Source.{Source}
+use Rattle.paint.specs.declared.Tally.{Tally}
+use Rattle.paint.specs.Paint.{nth}
 use Rattle.paint.specs.Mix.{patternless, mixed}
 use Rattle.paint.proofs.MixLaws.{pattern-unread}
+use Rattle.paint.proofs.Turns.{nth-in}
+use Rattle.paint.proofs.Loops.{RowLeft, RowsLeft, rows-room}
 use Rattle.sweep.specs.Copy.{sourceBy, giving}
 use Rattle.sweep.specs.Asked.{HasSource, RowReady, CanPaint}
 use Rattle.plan.specs.Plan.{MasksOf, QuadsFrom, quadAt, mergedAt, quadMixed}
@@ -76,10 +81,22 @@ can-number {t} can i j li lj =
     let row : t .sy + (t .y + j - t .y) ≡ t .sy + j = omega arith in
     (pixel .0, λ copies. rw (column, row) at (pixel .1 .on copies))
 
-pub can-row : {t : Task} {w h len : ℕ} → CanPaint t w h len → (y n : ℕ) → t .y ≤ y → y < t .y + h → n + w < 2 ^ 32 → RowReady t w y len n
-can-row {t} {w} {h} {len} can y n top bottom room = record {
-  colour = can .colour;
-  wide = can .wide;
-  room = room;
-  each = λ x left right. can-pixel can x y (record { left = left; right = right; top = top; bottom = bottom });
-}
+-- the row whose turn it is
+pub can-row : {t : Task} {s : Surface} {g : Px → List ℕ → Option ℕ} {l top : Bool} {w h j y : ℕ} {m₀ m : List ℕ} {r : Tally}
+    → CanPaint t w h (length m₀) → RowsLeft s g l top (t .x) (t .y) w h m₀ j m r → j < h → y ≡ nth top (t .y) h j → RowReady t w y (length m) r
+can-row {t} {top = top} {w} {h} {j} {y} can left more here =
+    let inside = nth-in top (t .y) h j more in
+    rw (left .long) (record {
+      colour = can .colour;
+      wide = can .wide;
+      room = rows-room left (omega (arith, can .wide)) (omega (arith, can .high)) more;
+      each = λ x low high. can-pixel can x y (record { left = low; right = high; top = omega arith; bottom = omega arith });
+    })
+
+-- the pixel whose turn it is in a row
+pub row-pixel : {t : Task} {s : Surface} {g : Px → List ℕ → Option ℕ} {back : Bool} {w y i x : ℕ} {m₀ m : List ℕ} {n r : Tally}
+    → RowReady t w y (length m₀) n → RowLeft s g back (t .x) w y m₀ n i m r → i < w → x ≡ nth back (t .x) w i
+    → OnColour (t .ink .target) (length m) x y × HasSource t (length m) x y
+row-pixel {t} {back = back} {w} {i = i} {x} ready left more here =
+    let inside = nth-in back (t .x) w i more in
+    rw (left .long) (ready .each x (omega arith) (omega arith))

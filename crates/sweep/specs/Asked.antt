@@ -12,6 +12,8 @@ use Rattle.surface.specs.Pixels.{rect}
 use Rattle.spans.specs.Span.{allOn, spanOf, meet}
 use Rattle.keys.specs.declared.Range.{Range}
 use Rattle.keys.specs.Range.{rangeOf}
+use Rattle.paint.specs.declared.Tally.{Tally}
+use Rattle.paint.specs.Asked.{Room}
 use Rattle.plan.specs.Plan.{MasksOf, QuadsFrom}
 use Rattle.sweep.specs.declared.Task.{Task}
 
@@ -24,11 +26,11 @@ pub record HasSource (t : Task) (len x y : ℕ) : Type 0 where
   pub row : t .sy + (y - t .y) < 2 ^ 32
   pub on : t .copies ≡ true → onSurface (t .from) len (t .sx + (x - t .x)) (t .sy + (y - t .y)) ≡ true
 
--- w pixels of row y can be painted, after n that were written
-pub record RowReady (t : Task) (w y len n : ℕ) : Type 0 where
+-- w pixels of row y can be painted, where n tells of those before them
+pub record RowReady (t : Task) (w y len : ℕ) (n : Tally) : Type 0 where
   pub colour : Colour (t .ink .target)
   pub wide : t .x + w ≤ 2 ^ 13
-  pub room : n + w < 2 ^ 32
+  pub room : Room n w
   pub each : (x : ℕ) → t .x ≤ x → x < t .x + w → OnColour (t .ink .target) len x y × HasSource t len x y
 
 -- a rectangle of w by h pixels that can be painted, in a memory of len bytes: on its target, and its source on its surface

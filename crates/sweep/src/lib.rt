@@ -2,13 +2,13 @@
 use ink::Ink;
 use keys::Range;
 use paint::Source;
+use paint::Tally;
 use surface::Surface;
 ghost use mathlib.Core.Path.{_≡_};
 ghost use mathlib.Core.Bool.{false};
-ghost use Prim.Native.Nat.{_+_, _≤_};
 ghost use lib.ListN.{length};
 ghost use Rattle.surface.specs.Pixels.{px, across, rect};
-ghost use Rattle.paint.specs.Paint.{state, paint};
+ghost use Rattle.paint.specs.Paint.{state, tallied, paint};
 ghost use Rattle.paint.specs.Mix.{source, fillSource};
 ghost use Rattle.sweep.specs.Copy.{sourceBy, inTurn};
 ghost use Rattle.sweep.specs.Asked.{HasSource, RowReady, CanPaint, Rowwise, SourceKey, TargetKey, Laid};
@@ -54,7 +54,7 @@ fn source_at(mem: &[u8], t: Task, range: Range, bit: u32, x: u32, y: u32) -> Sou
     plan::source_of(ink, range, bytes, surface::get_in_rows(mem, from, sx, sy))
 }
 
-// The w pixels of row y, from the left or from the right, after n that were written; `quads` and `bits` are of the pattern's row there.
+// The w pixels of row y, from the left or from the right, after those that n tells of; `quads` and `bits` are of the pattern's row there.
 fn paint_across(
     mem: &mut [u8],
     t: Task,
@@ -65,10 +65,10 @@ fn paint_across(
     w: u32,
     y: u32,
     back: bool,
-    n: u32,
-) -> u32
+    n: Tally,
+) -> Tally
     requires { ⌜ RowReady t w y (length (now mem)) n × ((SourceKey t source × TargetKey t target) × Rowwise t) ⌝ }
-    ensures { λ r. ⌜ (state (now (mem .exit)) r ≡ paint (t .ink .target) (inRow t quads bits (across back (t .x) w y)) (state (now (mem .entry)) n)) × (r ≤ n + w) ⌝ }
+    ensures { λ r. ⌜ tallied (now (mem .exit)) r ≡ paint (t .ink .target) (inRow t quads bits (across back (t .x) w y)) (tallied (now (mem .entry)) n) ⌝ }
 {
     let ink = t.ink;
     let to = ink.target;
@@ -79,7 +79,8 @@ fn paint_across(
         let column = ink::pattern_column(ink, x);
         let bit = ink::bit_of(bits, column);
         let s = source_at(mem, t, source, bit, x, y);
-        let old = surface::get_in_rows(mem, to, x, y);
+        let at = surface::place_in_rows(to, x, y);
+        let old = surface::get_bytes(mem, at, to.bytes);
         let k = plan::quad_at(ink, target, s.key, old, column) as usize;
         let v = raster::merge(
             quads[k],
@@ -89,7 +90,7 @@ fn paint_across(
             s.value,
             old,
         );
-        r = plan::put_in_rows(mem, to, x, y, s.left, v, r);
+        r = paint::put_value_at(mem, at, to.bytes, s.left, v, r);
         i += 1;
     }
     r
@@ -107,10 +108,10 @@ fn paint_row(
     w: u32,
     y: u32,
     back: bool,
-    n: u32,
-) -> u32
+    n: Tally,
+) -> Tally
     requires { ⌜ RowReady t w y (length (now mem)) n × (((SourceKey t source × TargetKey t target) × Rowwise t) × Laid t masks blank) ⌝ }
-    ensures { λ r. ⌜ (state (now (mem .exit)) r ≡ paint (t .ink .target) (inTurn t pattern (across back (t .x) w y)) (state (now (mem .entry)) n)) × (r ≤ n + w) ⌝ }
+    ensures { λ r. ⌜ tallied (now (mem .exit)) r ≡ paint (t .ink .target) (inTurn t pattern (across back (t .x) w y)) (tallied (now (mem .entry)) n) ⌝ }
 {
     let ink = t.ink;
     let row = ink::pattern_row(ink, y);
@@ -131,16 +132,16 @@ pub fn paint_rows(
     h: u32,
     toLeft: bool,
     toTop: bool,
-) -> u32
+) -> Tally
     requires { ⌜ CanPaint t w h (length (now mem)) × Rowwise t ⌝ }
-    ensures { λ r. ⌜ state (now (mem .exit)) r ≡ paint (t .ink .target) (inTurn t pattern (rect toLeft toTop (t .x) (t .y) w h)) (state (now (mem .entry)) 0) ⌝ }
+    ensures { λ r. ⌜ tallied (now (mem .exit)) r ≡ paint (t .ink .target) (inTurn t pattern (rect toLeft toTop (t .x) (t .y) w h)) (state (now (mem .entry)) 0) ⌝ }
 {
     let ink = t.ink;
     let source = keys::range_of(t.from.bytes, ink.srcMin, ink.srcMax);
     let target = keys::range_of(ink.target.bytes, ink.dstMin, ink.dstMax);
     let masks = plan::masks_of(ink);
     let blank = plan::quads_of(masks, [0u32; 8]);
-    let mut n = 0;
+    let mut n = Tally { count: 0 };
     let mut j = 0;
     while j < h {
         let y = paint::place(toTop, t.y, h, j);

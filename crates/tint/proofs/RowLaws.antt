@@ -2,22 +2,26 @@
 -- Assumes nothing.
 use mathlib.Core.Path.{_≡_, refl, sym, ap, subst, _∙_}
 use mathlib.Core.Bool.{false}
-use mathlib.Core.List.{List, [], _∷_, _++_, map, map-append}
+use mathlib.Core.List.{List, [], _∷_}
 use mathlib.Core.Option.{some}
 use Prim.Native.Nat.{ℕ, zero, suc, _+_, _-_, _*_, _/_, _%_, _^_, _<_, _≤_}
 use native.Mathlib.Nat.{mod-lt, add-zero, add-comm, add-mul, zero-mul, one-mul, suc-mul}
 use native.Mathlib.Omega.{arith}
-use lib.ListN.{getD}
+use lib.ListN.{length, getD}
 use Rattle.surface.specs.declared.Surface.{Surface}
 use Rattle.surface.specs.Place.{byteOf, readBytes, writeBytes, readPx, writePx}
 use Rattle.surface.specs.Asked.{OnColour}
-use Rattle.surface.specs.Pixels.{Px, px, across}
+use Rattle.surface.specs.Pixels.{px, across}
 use Rattle.surface.proofs.Bytes.{read-fits}
 use Rattle.surface.proofs.Run.{in-rows, run-pixel, read-run, write-run}
 use Rattle.surface.proofs.Rects.{in-across}
 use Rattle.surface.proofs.OnLaws.{colour-byte}
-use Rattle.paint.specs.Paint.{State, state, Touch, touch, dab, paint}
-use Rattle.paint.proofs.Turns.{paint-append, paint-same}
+use Rattle.paint.specs.declared.Tally.{Tally}
+use Rattle.paint.specs.Tally.{noted}
+use Rattle.paint.specs.Paint.{tallied, state, touch, dab, paint}
+use Rattle.paint.proofs.Tallies.{Upto, upto-none, room-left}
+use Rattle.paint.proofs.Turns.{paint-same}
+use Rattle.paint.proofs.Loops.{RowLeft, row-begins, row-takes}
 use Rattle.paint.proofs.Frame.{Bytes, paint-bytes}
 use Rattle.runs.proofs.Runs.{run-column, run-place}
 use Rattle.tint.specs.Masking.{ones, masked, byMask, maskIn, tinting, tintings, blended}
@@ -66,16 +70,13 @@ unfoldable pub total : List ℕ → ℕ → ℕ → ℕ
 total adds k zero = 0
 total adds k (suc w) = getD adds k 0 + total adds (k + 1) w
 
-pub total-turn : (adds : List ℕ) (k w i r : ℕ) → i < w → r + getD adds (k + i) 0 + total adds (k + (i + 1)) (w - (i + 1)) ≡ r + total adds (k + i) (w - i)
+pub total-more : (adds : List ℕ) (k w : ℕ) → total adds k w + getD adds (k + w) 0 ≡ total adds k (w + 1)
 unfolding total
-total-turn adds k w i r h =
-    let q : w - i ≡ suc (w - (i + 1)) = omega arith in
-    let e : k + i + 1 ≡ k + (i + 1) = omega arith in
-    rw (q, e) (omega arith)
-
-pub total-none : (adds : List ℕ) (k w i r : ℕ) → w ≤ i → r + total adds (k + i) (w - i) ≡ r
-unfolding total
-total-none adds k w i r h = let q : w - i ≡ 0 = omega arith in rw q (omega arith)
+total-more adds k zero = let e : k + 0 ≡ k = omega arith in rw e (omega arith)
+total-more adds k (suc w) =
+    let e : k + suc w ≡ k + 1 + w = omega arith in
+    let f : suc w + 1 ≡ suc (w + 1) = omega arith in
+    rw (e, f) (omega (arith, total-more adds (k + 1) w))
 
 module _ (s : Surface) (keep flip adds : List ℕ) (first x y : ℕ) (flat : s .tiled ≡ false) (colour : 0 < s .bytes) (few : s .bytes < 5) (bk : Bytes keep) (bf : Bytes flip)
     (sound : (i : ℕ) → i < 8 → Sound (s .bytes) (maskIn (s .bytes) keep (first + i)) (maskIn (s .bytes) flip (first + i)) (getD adds (first + i) 0)) where
@@ -106,59 +107,60 @@ module _ (s : Surface) (keep flip adds : List ℕ) (first x y : ℕ) (flat : s .
       ∙ ap (state (blended keep flip ((first + (c + 1)) * n) (byteOf s (x + (c + 1)) y 0) (w * n) (blended keep flip (k * n) at n m))) (omega arith))
 
   -- w pixels from the first on, as the code makes them
-  pub row-blended : (w r : ℕ) (m : List ℕ) → w ≤ 8 → Bytes m
-      → state (blended keep flip (first * s .bytes) (byteOf s x y 0) (w * s .bytes) m) (r + total adds first w) ≡ paint s (tintings s keep flip adds first x (across false x w y)) (state m r)
-  row-blended w r m h b = sym (rw (add-zero x, add-zero first) at (pixels 0 w r m (omega arith) b))
-
--- ---- a row in parts
-across-split : (x a b y : ℕ) → across false x (a + b) y ≡ across false x a y ++ across false (x + a) b y
-unfolding across
-across-split x zero b y = let e : 0 + b ≡ b = omega arith in let f : x + 0 ≡ x = omega arith in rw (e, f)
-across-split x (suc a) b y =
-    let e : suc a + b ≡ suc (a + b) = omega arith in
-    let f : x + 1 + a ≡ x + suc a = omega arith in
-    rw e (ap (λ (ps : List Px). px x y ∷ ps) (across-split (x + 1) a b y ∙ ap (λ (z : ℕ). across false (x + 1) a y ++ across false z b y) f))
-
-paint-split : (s : Surface) (f : Px → Touch) (x a b y : ℕ) (st st′ : State) → st′ ≡ paint s (map f (across false x a y)) st
-    → paint s (map f (across false (x + a) b y)) st′ ≡ paint s (map f (across false x (a + b) y)) st
-paint-split s f x a b y st st′ e =
-    rw (e, across-split x a b y, map-append f (across false x a y) (across false (x + a) b y)) (sym (paint-append s (map f (across false x a y)) (map f (across false (x + a) b y)) st))
-
-module _ (s : Surface) (keep flip adds : List ℕ) (first x y : ℕ) where
-  -- eight columns further on the masks are the same
-  pub same-phase : (i m : ℕ) → i % 8 ≡ 0 → (st : State)
-      → paint s (tintings s keep flip adds first (x + i) (across false (x + i) m y)) st ≡ paint s (tintings s keep flip adds first x (across false (x + i) m y)) st
-  unfolding tinting
-  same-phase i m whole st =
-      paint-same s (λ p now. tinting s keep flip adds first (x + i) now p) (λ p now. tinting s keep flip adds first x now p) (across false (x + i) m y)
-      (λ p q now. let b = in-across false (x + i) m y p q in let e : (p .x - (x + i)) % 8 ≡ (p .x - x) % 8 = omega arith in rw e) st
-
-  -- eight pixels more
-  pub eight-more : (w i : ℕ) (st st′ : State) → i + 8 ≤ w → i % 8 ≡ 0 → st′ ≡ paint s (tintings s keep flip adds first (x + i) (across false (x + i) 8 y)) st
-      → paint s (tintings s keep flip adds first x (across false (x + (i + 8)) (w - (i + 8)) y)) st′ ≡ paint s (tintings s keep flip adds first x (across false (x + i) (w - i) y)) st
-  eight-more w i st st′ h whole e =
-      let f : x + (i + 8) ≡ x + i + 8 = omega arith in
-      let g : w - i ≡ 8 + (w - (i + 8)) = omega arith in
-      rw (f, g) (paint-split s (λ p. touch p (λ now. tinting s keep flip adds first x now p)) (x + i) 8 (w - (i + 8)) y st st′ (e ∙ same-phase i 8 whole st))
+  pub row-blended : (w : ℕ) (n : Tally) (m : List ℕ) → w ≤ 8 → Bytes m
+      → tallied (blended keep flip (first * s .bytes) (byteOf s x y 0) (w * s .bytes) m) (noted (total adds first w) n) ≡ paint s (tintings s keep flip adds first x (across false x w y)) (tallied m n)
+  row-blended w n m h b = sym (rw (add-zero x, add-zero first) at (pixels 0 w (n .count) m (omega arith) b))
 
 -- ---- rows that can be tinted
 
 -- their bytes are in memory
-pub row-held : {s : Surface} {keep flip adds : List ℕ} {first len x w y n : ℕ} → CanTint s keep flip adds first len x w y n → (i : ℕ) → i < w * s .bytes → byteOf s x y 0 + i < len
+pub row-held : {s : Surface} {keep flip adds : List ℕ} {first len x w y : ℕ} {n : Tally} → CanTint s keep flip adds first len x w y n → (i : ℕ) → i < w * s .bytes → byteOf s x y 0 + i < len
 row-held {s} {len = len} {x = x} {w = w} {y = y} can i h =
     let colour = can .colour .some in
     let there : (c : ℕ) → c < w → OnColour s len (x + c) y = (λ c l. can .on .on (x + c) (omega arith) (omega arith)) in
     subst (λ (a : ℕ). a < len) (sym (run-place s colour x y (can .flat) i)) (colour-byte (there (i / s .bytes) (run-column s colour x y w i h)) (i % s .bytes) (mod-lt i colour) .inside)
 
--- a part of one can be tinted too
-pub can-part : {s : Surface} {keep flip adds : List ℕ} {first len x w y n : ℕ} → CanTint s keep flip adds first len x w y n → (i m r : ℕ) → i + m ≤ w → r ≤ n + i
-    → CanTint s keep flip adds first len (x + i) m y r
-can-part can i m r h l = record {
-  flat = can .flat;
-  colour = can .colour;
-  on = record { wide = omega (arith, can .on .wide); room = omega (arith, can .on .room); on = λ j low high. can .on .on j (omega arith) (omega arith) };
-  eight = can .eight;
-  keeps = can .keeps;
-  flips = can .flips;
-  sound = can .sound;
-}
+-- and so can parts of one
+module _ {s : Surface} {keep flip adds : List ℕ} {first len x w y : ℕ} {n : Tally} (can : CanTint s keep flip adds first len x w y n) where
+  can-from : (i k : ℕ) {r : Tally} → i + k ≤ w → Upto n i r → CanTint s keep flip adds first len (x + i) k y r
+  can-from i k fits upto = record {
+    flat = can .flat;
+    colour = can .colour;
+    on = record { wide = omega (arith, can .on .wide); on = λ j low high. can .on .on j (omega arith) (omega arith) };
+    room = room-left (can .room) upto fits;
+    eight = can .eight;
+    keeps = can .keeps;
+    flips = can .flips;
+    sound = can .sound;
+  }
+
+  -- its first pixels
+  pub can-begin : (k : ℕ) → k ≤ w → CanTint s keep flip adds first len x k y n
+  can-begin k fits = let start : x + 0 ≡ x = omega arith in rw start at (can-from 0 k (omega arith) (upto-none n))
+
+-- ---- a row in parts: after i pixels of it
+abbrev pub TintLeft : Surface → List ℕ → List ℕ → List ℕ → ℕ → ℕ → ℕ → ℕ → List ℕ → Tally → ℕ → List ℕ → Tally → Type 0
+TintLeft s keep flip adds first x w y m₀ n i m r = RowLeft s (λ p now. tinting s keep flip adds first x now p) false x w y m₀ n i m r
+
+module _ {s : Surface} {keep flip adds : List ℕ} {first x w y : ℕ} {m₀ : List ℕ} {n : Tally} (can : CanTint s keep flip adds first (length m₀) x w y n) where
+  -- the first of them
+  pub tint-begun : (k : ℕ) {m : List ℕ} {r : Tally} → k ≤ w → tallied m r ≡ paint s (tintings s keep flip adds first x (across false x k y)) (tallied m₀ n)
+      → TintLeft s keep flip adds first x w y m₀ n k m r
+  tint-begun k fits put =
+      let start : x + 0 ≡ x = omega arith in
+      let all : k ≡ 0 + k = omega arith in
+      rw all (row-takes row-begins k (omega arith) (rw start put))
+
+  module _ {i : ℕ} {m : List ℕ} {r : Tally} (left : TintLeft s keep flip adds first x w y m₀ n i m r) (k : ℕ) (fits : i + k ≤ w) where
+    -- k more can be tinted
+    pub can-part : CanTint s keep flip adds first (length m) (x + i) k y r
+    can-part = rw (left .long) (can-from can i k fits (left .upto))
+
+    -- and are: eight columns further on the masks are the same
+    pub tint-takes : i % 8 ≡ 0 → {m′ : List ℕ} {r′ : Tally} → tallied m′ r′ ≡ paint s (tintings s keep flip adds first (x + i) (across false (x + i) k y)) (tallied m r)
+        → TintLeft s keep flip adds first x w y m₀ n (i + k) m′ r′
+    unfolding tinting
+    tint-takes whole put =
+        row-takes left k fits (put
+        ∙ paint-same s (λ p now. tinting s keep flip adds first (x + i) now p) (λ p now. tinting s keep flip adds first x now p) (across false (x + i) k y)
+        (λ p q now. let b = in-across false (x + i) k y p q in let e : (p .x - (x + i)) % 8 ≡ (p .x - x) % 8 = omega arith in rw e) (tallied m r))

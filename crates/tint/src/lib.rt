@@ -1,13 +1,14 @@
 // Fills whose pixels depend on the pattern and on what stands there, by masks that are worked out before the pixels.
 use ink::Ink;
+use paint::Tally;
 use surface::Surface;
 ghost use mathlib.Core.Path.{_≡_};
 ghost use mathlib.Core.Bool.{false};
-ghost use Prim.Native.Nat.{ℕ, _+_, _*_, _%_, _^_, _<_, _≤_};
+ghost use Prim.Native.Nat.{ℕ, _+_, _*_, _^_, _<_, _≤_};
 ghost use lib.ListN.{length};
 ghost use Rattle.surface.specs.Asked.{Colour};
 ghost use Rattle.surface.specs.Pixels.{across, rect};
-ghost use Rattle.paint.specs.Paint.{state, paint};
+ghost use Rattle.paint.specs.Paint.{state, tallied, paint};
 ghost use Rattle.runs.specs.Asked.{RectOn};
 ghost use Rattle.tint.specs.Masking.{blended, maskFor, maskRows, tintings, downTints, tables, MasksOf};
 ghost use Rattle.tint.specs.Asked.{Whole, RowsSound, CanTint};
@@ -101,7 +102,7 @@ pub fn tint_bytes(mem: &mut [u8], at: usize, n: usize, keep: &[u8], flip: &[u8],
     }
 }
 
-// The w pixels, at most eight, of row y from x on, each of so many bytes, by the masks from number `first` on, after n that were written.
+// The w pixels, at most eight, of row y from x on, each of so many bytes, by the masks from number `first` on, after those that n tells of.
 fn tint_across(
     mem: &mut [u8],
     s: Surface,
@@ -113,25 +114,25 @@ fn tint_across(
     x: u32,
     w: u32,
     y: u32,
-    n: u32,
-) -> u32
+    n: Tally,
+) -> Tally
     requires { ⌜ CanTint s (now keep) (now flip) (now adds) first (length (now mem)) x w y n × (bytes ≡ s .bytes) × (w ≤ 8) ⌝ }
-    ensures { λ r. ⌜ (state (now (mem .exit)) r ≡ paint s (tintings s (now (keep .entry)) (now (flip .entry)) (now (adds .entry)) first x (across false x w y)) (state (now (mem .entry)) n)) × (r ≤ n + w) ⌝ }
+    ensures { λ r. ⌜ tallied (now (mem .exit)) r ≡ paint s (tintings s (now (keep .entry)) (now (flip .entry)) (now (adds .entry)) first x (across false x w y)) (tallied (now (mem .entry)) n) ⌝ }
 {
     let at = surface::place_in_rows(s, x, y);
     let many = (w * bytes) as usize;
     let from = (first * bytes) as usize;
     tint_bytes(mem, at, many, keep, flip, from);
-    let mut r = n;
+    let mut more = 0;
     let mut i = 0;
     while i < w {
-        r += adds[(first + i) as usize];
+        more += adds[(first + i) as usize];
         i += 1;
     }
-    r
+    paint::note(n, more)
 }
 
-// A row of any width, eight pixels at a time.
+// Eight times so many pixels of row y from x on, eight at a time, by the same eight masks each time.
 fn tint_eights(
     mem: &mut [u8],
     s: Surface,
@@ -141,23 +142,23 @@ fn tint_eights(
     adds: &[u32; 64],
     first: u32,
     x: u32,
-    w: u32,
+    eights: u32,
     y: u32,
-    n: u32,
-) -> u32
-    requires { ⌜ CanTint s (now keep) (now flip) (now adds) first (length (now mem)) x w y n × (bytes ≡ s .bytes) ⌝ }
-    ensures { λ r. ⌜ (state (now (mem .exit)) r ≡ paint s (tintings s (now (keep .entry)) (now (flip .entry)) (now (adds .entry)) first x (across false x w y)) (state (now (mem .entry)) n)) × (r ≤ n + w) ⌝ }
+    n: Tally,
+) -> Tally
+    requires { ⌜ CanTint s (now keep) (now flip) (now adds) first (length (now mem)) x (8 * eights) y n × (bytes ≡ s .bytes) ⌝ }
+    ensures { λ r. ⌜ tallied (now (mem .exit)) r ≡ paint s (tintings s (now (keep .entry)) (now (flip .entry)) (now (adds .entry)) first x (across false x (8 * eights) y)) (tallied (now (mem .entry)) n) ⌝ }
 {
     let mut r = n;
     let mut i = 0;
-    while i + 8 <= w {
-        r = tint_across(mem, s, bytes, keep, flip, adds, first, x + i, 8, y, r);
-        i += 8;
+    while i < eights {
+        r = tint_across(mem, s, bytes, keep, flip, adds, first, x + 8 * i, 8, y, r);
+        i += 1;
     }
-    tint_across(mem, s, bytes, keep, flip, adds, first, x + i, w - i, y, r)
+    r
 }
 
-// The same, by the number of bytes, so that each number has a loop of its own.
+// A row of any width: the eights by the number of bytes, so that each number has a loop of its own, and then the pixels that are left.
 fn tint_row(
     mem: &mut [u8],
     s: Surface,
@@ -168,21 +169,35 @@ fn tint_row(
     x: u32,
     w: u32,
     y: u32,
-    n: u32,
-) -> u32
+    n: Tally,
+) -> Tally
     requires { ⌜ CanTint s (now keep) (now flip) (now adds) first (length (now mem)) x w y n ⌝ }
-    ensures { λ r. ⌜ (state (now (mem .exit)) r ≡ paint s (tintings s (now (keep .entry)) (now (flip .entry)) (now (adds .entry)) first x (across false x w y)) (state (now (mem .entry)) n)) × (r ≤ n + w) ⌝ }
+    ensures { λ r. ⌜ tallied (now (mem .exit)) r ≡ paint s (tintings s (now (keep .entry)) (now (flip .entry)) (now (adds .entry)) first x (across false x w y)) (tallied (now (mem .entry)) n) ⌝ }
 {
     let bytes = s.bytes;
-    match bytes {
-        1 => tint_eights(mem, s, 1, keep, flip, adds, first, x, w, y, n),
-        2 => tint_eights(mem, s, 2, keep, flip, adds, first, x, w, y, n),
-        3 => tint_eights(mem, s, 3, keep, flip, adds, first, x, w, y, n),
-        _ => tint_eights(mem, s, 4, keep, flip, adds, first, x, w, y, n),
-    }
+    let eights = w / 8;
+    let r = match bytes {
+        1 => tint_eights(mem, s, 1, keep, flip, adds, first, x, eights, y, n),
+        2 => tint_eights(mem, s, 2, keep, flip, adds, first, x, eights, y, n),
+        3 => tint_eights(mem, s, 3, keep, flip, adds, first, x, eights, y, n),
+        _ => tint_eights(mem, s, 4, keep, flip, adds, first, x, eights, y, n),
+    };
+    tint_across(
+        mem,
+        s,
+        bytes,
+        keep,
+        flip,
+        adds,
+        first,
+        x + 8 * eights,
+        w % 8,
+        y,
+        r,
+    )
 }
 
-// A rectangle by tables of masks, its surface in rows, row by row from the upper left corner; the count of pixels written.
+// A rectangle by tables of masks, its surface in rows, row by row from the upper left corner; the tally of the pixels written.
 pub fn tint_rows(
     mem: &mut [u8],
     s: Surface,
@@ -193,11 +208,11 @@ pub fn tint_rows(
     y: u32,
     w: u32,
     h: u32,
-) -> u32
+) -> Tally
     requires { ⌜ (s .tiled ≡ false) × (RectOn s (length (now mem)) x y w h × RowsSound s (now keep) (now flip) (now adds) h) ⌝ }
-    ensures { λ r. ⌜ state (now (mem .exit)) r ≡ paint s (downTints s (now (keep .entry)) (now (flip .entry)) (now (adds .entry)) x y (rect false false x y w h)) (state (now (mem .entry)) 0) ⌝ }
+    ensures { λ r. ⌜ tallied (now (mem .exit)) r ≡ paint s (downTints s (now (keep .entry)) (now (flip .entry)) (now (adds .entry)) x y (rect false false x y w h)) (state (now (mem .entry)) 0) ⌝ }
 {
-    let mut n = 0;
+    let mut n = Tally { count: 0 };
     let mut j = 0;
     while j < h {
         n = tint_row(mem, s, keep, flip, adds, j % 8 * 8, x, w, y + j, n);

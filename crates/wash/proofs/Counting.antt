@@ -9,7 +9,7 @@ use native.Mathlib.Omega.{arith}
 use lib.ListN.{getD}
 use Rattle.surface.specs.Pixels.{Px, across, rect}
 use Rattle.surface.proofs.Lists.{In}
-use Rattle.paint.proofs.Settle.{tally}
+use Rattle.paint.proofs.Settle.{summed}
 use Rattle.wash.specs.Count.{counting, countings}
 
 -- ---- a turn of the loop over pixels, or over rows
@@ -58,38 +58,38 @@ module _ (adds : List ℕ) (w : ℕ) where
   rows-done h j r l = let q : h - j ≡ 0 = omega arith in rw q (omega arith)
 
 -- ---- as many as pixels by pixels
-tally-append : (f : Px → ℕ) (ps qs : List Px) → tally f (ps ++ qs) ≡ tally f ps + tally f qs
-unfolding tally
-tally-append f [] qs = omega arith
-tally-append f (p ∷ ps) qs = omega (arith, tally-append f ps qs)
+summed-append : (f : Px → ℕ) (ps qs : List Px) → summed f (ps ++ qs) ≡ summed f ps + summed f qs
+unfolding summed
+summed-append f [] qs = omega arith
+summed-append f (p ∷ ps) qs = omega (arith, summed-append f ps qs)
 
-pub tally-same : (f g : Px → ℕ) (ps : List Px) → ((p : Px) → In p ps → f p ≡ g p) → tally f ps ≡ tally g ps
-unfolding tally
-tally-same f g [] h = refl
-tally-same f g (p ∷ ps) h = ap₂ _+_ (h p (List·Memᴰ·head refl)) (tally-same f g ps (λ q i. h q (List·Memᴰ·tail i)))
+pub summed-same : (f g : Px → ℕ) (ps : List Px) → ((p : Px) → In p ps → f p ≡ g p) → summed f ps ≡ summed g ps
+unfolding summed
+summed-same f g [] h = refl
+summed-same f g (p ∷ ps) h = ap₂ _+_ (h p (List·Memᴰ·head refl)) (summed-same f g ps (λ q i. h q (List·Memᴰ·tail i)))
 
 module _ (adds : List ℕ) (x y : ℕ) where
   -- what the mask of a pixel adds
   abbrev pub addsAt : Px → ℕ
   addsAt p = getD adds ((p .y - y) % 8 * 8 + (p .x - x) % 8) 0
 
-  row-tally : (j i w : ℕ) → tally addsAt (across false (x + i) w (y + j)) ≡ counting adds (j % 8 * 8) i w
-  unfolding tally across counting
-  row-tally j i zero = refl
-  row-tally j i (suc w) =
+  row-summed : (j i w : ℕ) → summed addsAt (across false (x + i) w (y + j)) ≡ counting adds (j % 8 * 8) i w
+  unfolding summed across counting
+  row-summed j i zero = refl
+  row-summed j i (suc w) =
       let e : (y + j - y) % 8 ≡ j % 8 = omega arith in
       let f : (x + i - x) % 8 ≡ i % 8 = omega arith in
       let g : x + i + 1 ≡ x + (i + 1) = omega arith in
-      rw (e, f, g) (ap (λ (k : ℕ). getD adds (j % 8 * 8 + i % 8) 0 + k) (row-tally j (i + 1) w))
+      rw (e, f, g) (ap (λ (k : ℕ). getD adds (j % 8 * 8 + i % 8) 0 + k) (row-summed j (i + 1) w))
 
-  rows-tally : (w j h : ℕ) → tally addsAt (rect false false x (y + j) w h) ≡ countings adds w j h
-  unfolding rect countings tally
-  rows-tally w j zero = refl
-  rows-tally w j (suc h) =
+  rows-summed : (w j h : ℕ) → summed addsAt (rect false false x (y + j) w h) ≡ countings adds w j h
+  unfolding rect countings summed
+  rows-summed w j zero = refl
+  rows-summed w j (suc h) =
       let e : y + j + 1 ≡ y + (j + 1) = omega arith in
       let f : x ≡ x + 0 = omega arith in
-      tally-append addsAt (across false x w (y + j)) (rect false false x (y + j + 1) w h)
-      ∙ ap₂ _+_ (ap (λ (c : ℕ). tally addsAt (across false c w (y + j))) f ∙ row-tally j 0 w) (ap (λ (r : ℕ). tally addsAt (rect false false x r w h)) e ∙ rows-tally w (j + 1) h)
+      summed-append addsAt (across false x w (y + j)) (rect false false x (y + j + 1) w h)
+      ∙ ap₂ _+_ (ap (λ (c : ℕ). summed addsAt (across false c w (y + j))) f ∙ row-summed j 0 w) (ap (λ (r : ℕ). summed addsAt (rect false false x r w h)) e ∙ rows-summed w (j + 1) h)
 
-  pub rect-tally : (w h : ℕ) → tally addsAt (rect false false x y w h) ≡ countings adds w 0 h
-  rect-tally w h = let e : y ≡ y + 0 = omega arith in ap (λ (r : ℕ). tally addsAt (rect false false x r w h)) e ∙ rows-tally w 0 h
+  pub rect-summed : (w h : ℕ) → summed addsAt (rect false false x y w h) ≡ countings adds w 0 h
+  rect-summed w h = let e : y ≡ y + 0 = omega arith in ap (λ (r : ℕ). summed addsAt (rect false false x r w h)) e ∙ rows-summed w 0 h

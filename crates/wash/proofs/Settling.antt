@@ -16,6 +16,7 @@ use Rattle.surface.specs.Pixels.{Px, px, rect, Inside}
 use Rattle.surface.proofs.OnLaws.{colour-byte, on-column}
 use Rattle.surface.proofs.Pixels.{same-byte}
 use Rattle.surface.proofs.Rects.{in-rect, rect-in, rect-distinct}
+use Rattle.paint.specs.Tally.{tally}
 use Rattle.paint.specs.Paint.{State, state, paint}
 use Rattle.paint.proofs.Frame.{Bytes}
 use Rattle.paint.proofs.Owners.{byte-of, of-byte, read-px}
@@ -31,7 +32,7 @@ use Rattle.blocks.proofs.Pixels.{put-given}
 use Rattle.wash.specs.Wash.{washed, inRows}
 use Rattle.wash.specs.Count.{countings}
 use Rattle.wash.proofs.Blend.{masked-byte}
-use Rattle.wash.proofs.Counting.{addsAt, tally-same, rect-tally}
+use Rattle.wash.proofs.Counting.{addsAt, summed-same, rect-summed}
 
 -- a mask counts the pixel that it gives something
 counts-one : (keep flip adds old : ℕ) → adds ≤ 1 → counted (byMask keep flip adds old) ≡ adds
@@ -80,7 +81,7 @@ module _ (s : Surface) (keep flip adds : List ℕ) (x y w h : ℕ) (m : List ℕ
   here =
       settled s colour (λ was now p. downTint s keep flip adds x y now p) (λ p a. ⊥)
       (record { same = λ p a c now now′ f g. ap (byMask (maskIn b keep (number p)) (maskIn b flip (number p)) (getD adds (number p) 0)) (read-px s colour p now now′ g) })
-      m ps 0 (rect-distinct false false x y w h)
+      m ps (tally 0) (rect-distinct false false x y w h)
       (λ p i. on-column s (length m) (p .x) (p .y) (pixel-on p (in-rect false false x y w h p i) .on))
 
   given : Given s byte x y w h m (whole .mem)
@@ -98,13 +99,13 @@ module _ (s : Surface) (keep flip adds : List ℕ) (x y w h : ℕ) (m : List ℕ
     long = here .long;
   }
 
-  counts : whole .count ≡ countings adds w 0 h
+  counts : whole .tally .count ≡ countings adds w 0 h
   unfolding tinting
   counts =
       here .counts ∙ zero-add _
-      ∙ tally-same (λ p. counted (downTint s keep flip adds x y m p)) (addsAt adds x y) ps
+      ∙ summed-same (λ p. counted (downTint s keep flip adds x y m p)) (addsAt adds x y) ps
       (λ p i. counts-one (maskIn b keep (number p)) (maskIn b flip (number p)) (getD adds (number p) 0) (readPx m s (p .x) (p .y)) (its-sound p (in-rect false false x y w h p i) .few))
-      ∙ rect-tally adds x y w h
+      ∙ rect-summed adds x y w h
 
   -- ---- the same, from bytes
   value-number : (p : Px) (k : ℕ) → Inside x y w h p → k < b → inRows (8 * b) (8 * b) (x * b) y (px (p .x * b + k) (p .y)) ≡ number p * b + k

@@ -1,5 +1,6 @@
 // Fills by masks: in rows as tint lays them; on tiles the masks' bytes, repeated, go over each row in pieces that reach over no edge of a tile.
 use ink::Ink;
+use paint::Tally;
 use surface::Surface;
 ghost use mathlib.Core.Path.{_≡_};
 ghost use mathlib.Core.Bool.{true, false};
@@ -7,7 +8,7 @@ ghost use Prim.Native.Nat.{ℕ, _+_, _*_, _%_, _^_, _<_, _≤_};
 ghost use lib.ListN.{length};
 ghost use Rattle.surface.specs.Place.{rowBytes};
 ghost use Rattle.surface.specs.Pixels.{rect};
-ghost use Rattle.paint.specs.Paint.{state, paint};
+ghost use Rattle.paint.specs.Paint.{state, tallied, paint};
 ghost use Rattle.runs.specs.Asked.{RectOn};
 ghost use Rattle.blocks.specs.Blocks.{Put};
 ghost use Rattle.tint.specs.Tint.{fillings};
@@ -184,7 +185,7 @@ fn wash_masks(
     );
 }
 
-// A fill without a target key: the masks are worked out once, and go over the rows as the layout has them; the count of pixels written.
+// A fill without a target key: the masks are worked out once, and go over the rows as the layout has them; the tally of the pixels written.
 pub fn wash_rows(
     mem: &mut [u8],
     ink: Ink,
@@ -193,9 +194,9 @@ pub fn wash_rows(
     y: u32,
     w: u32,
     h: u32,
-) -> u32
+) -> Tally
     requires { ⌜ RectOn (ink .target) (length (now mem)) x y w h × ((ink .target .tiled ≡ true → (0 < w) × (0 < h)) × (ink .dstKey ≡ false)) ⌝ }
-    ensures { λ r. ⌜ state (now (mem .exit)) r ≡ paint (ink .target) (fillings ink pattern (rect false false x y w h)) (state (now (mem .entry)) 0) ⌝ }
+    ensures { λ r. ⌜ tallied (now (mem .exit)) r ≡ paint (ink .target) (fillings ink pattern (rect false false x y w h)) (state (now (mem .entry)) 0) ⌝ }
 {
     let rows = tint::mask_rows(h);
     let mut keep = [0u8; 256];
@@ -207,5 +208,7 @@ pub fn wash_rows(
         return tint::tint_rows(mem, s, &keep, &flip, &adds, x, y, w, h);
     }
     wash_masks(mem, s, &keep, &flip, rows, x, y, w, h);
-    count_rows(&adds, w, h)
+    Tally {
+        count: count_rows(&adds, w, h),
+    }
 }

@@ -1,48 +1,30 @@
--- `bits::put_bit` meets its contract: the one colour, the other one, or nothing.
+-- `bits::put_bit` meets its contract: the one colour, or the other one, which may be left.
 -- Assumes nothing.
 use borrow.Author.Needs.{needs}
-use native.Mathlib.Omega.{arith}
-use Rattle.bits.proofs.BitLaws.{bit-fore, bit-left, bit-back}
+use borrow.Author.Tests.{eq-eqb, ne-eqb}
+use Rattle.bits.specs.Bits.{coloured}
 use Rattle.bits.proofs.put_bit.Statement.{statement}
 use Rattle.bits.proofs.put_bit.Tie as tie
 
-put-bytes-requires : tie.Need-put-bytes-requires
-put-bytes-requires c κs = search needs
-
-add-result : tie.Need-add-result
-add-result c = search needs
+put-value-at-requires : tie.Need-put-value-at-requires
+put-value-at-requires c κs = search needs
 
 same-length : tie.Need-same-length
 same-length c = search needs
 
 returns : tie.Need-returns
-returns c = let a = c .before .before .before .before .before .before .args in (bit-fore (a .at) (a .n) (a .bit) (a .count) (a .p) (a .mem .now) (c .before .before .before .before .if1 .taken) (c .before .before .put-bytes .ensures), omega arith)
+unfolding coloured
+returns c = rw (eq-eqb _ 1 (c .before .before .before .before .if1 .taken)) (c .before .before .put-value-at .ensures)
 
-returns-2 : tie.Need-returns-2
-returns-2 c = let a = c .before .before .before .args in (bit-left (a .at) (a .n) (a .bit) (a .count) (a .p) (a .mem .now) (c .before .if1 .left) (c .if2 .taken), omega arith)
-
-put-bytes-requires-2 : tie.Need-put-bytes-requires-2
-put-bytes-requires-2 c κs = search needs
-
-add-result-2 : tie.Need-add-result-2
-add-result-2 c = search needs
+put-value-at-requires-2 : tie.Need-put-value-at-requires-2
+put-value-at-requires-2 c κs = search needs
 
 same-length-2 : tie.Need-same-length-2
 same-length-2 c = search needs
 
-returns-3 : tie.Need-returns-3
-returns-3 c = let a = c .before .before .before .before .before .before .before .args in (bit-back (a .at) (a .n) (a .bit) (a .count) (a .p) (a .mem .now) (c .before .before .before .before .before .if1 .left) (c .before .before .before .before .if2 .left) (c .before .before .put-bytes2 .ensures), omega arith)
+returns-2 : tie.Need-returns-2
+unfolding coloured
+returns-2 c = rw (ne-eqb _ 1 (c .before .before .before .before .if1 .left)) (c .before .before .put-value-at2 .ensures)
 
 pub put-bit-spec : {M : Type 1} → statement M
-put-bit-spec =
-    tie.close
-    (tie.spec
-    put-bytes-requires
-    add-result
-    same-length
-    returns
-    returns-2
-    put-bytes-requires-2
-    add-result-2
-    same-length-2
-    returns-3)
+put-bit-spec = tie.close (tie.spec put-value-at-requires same-length returns put-value-at-requires-2 same-length-2 returns-2)

@@ -2,7 +2,6 @@
 -- Assumes nothing.
 use mathlib.Core.Path.{_≡_, subst, _∙_}
 use Prim.Native.Nat.{ℕ, _+_, _-_, _*_, _<_, _≤_}
-use native.Mathlib.Nat.{mul-comm}
 use native.Mathlib.Omega.{arith}
 use borrow.Author.Needs.{needs}
 use Rattle.surface.proofs.Bytes.{product-lt}
@@ -46,14 +45,14 @@ solid-line-requires : tie.Need-solid-line-requires Inv-loop μ-loop
 solid-line-requires c κs =
     let a = c .before .before .before .before .before .before .before .args in
     let p = c .before .before .before .before .before .before .before .pre in
-    record { wide = p .0 .wide; room = omega (arith, p .0 .wide); on = λ i l r. p .0 .on i (a .y0) l r (omega arith) (omega (arith, p .1 .1)) }
+    record { wide = p .0 .wide; on = λ i l r. p .0 .on i (a .y0) l r (omega arith) (omega (arith, p .1 .1)) }
 
 loop-holds : tie.Need-loop-holds Inv-loop μ-loop
 loop-holds c =
     let a = c .before .before .before .before .before .before .before .before .before .before .args in
     let p = c .before .before .before .before .before .before .before .before .before .before .pre in (
       even-put (a .s) (a .v) (a .x0) (a .y0) (a .w) (a .h) (p .0) (p .1 .0) (p .1 .1) 1
-          (row-itself (a .s) (a .v) (a .x0) (a .y0) (a .w) (a .h) (a .mem .now) (p .0) (p .1 .1) _ _ (c .before .before .solid-line .ensures)),
+          (row-itself (a .s) (a .v) (a .x0) (a .y0) (a .w) (a .h) (a .mem .now) (p .0) (p .1 .1) _ (c .before .before .solid-line .ensures)),
       omega arith,
       omega (arith, p .1 .1),
     )
@@ -64,8 +63,8 @@ sub-least c = search needs
 least-requires : tie.Need-least-requires Inv-loop μ-loop
 least-requires c κs = search needs
 
-add-t21 : tie.Need-add-t21 Inv-loop μ-loop
-add-t21 c = search needs
+add-t22 : tie.Need-add-t22 Inv-loop μ-loop
+add-t22 c = search needs
 
 move-blocks-requires : tie.Need-move-blocks-requires Inv-loop μ-loop
 move-blocks-requires c κs =
@@ -102,8 +101,8 @@ loop-again c =
       room,
     )
 
-mul-result : tie.Need-mul-result Inv-loop μ-loop
-mul-result c =
+mul-count : tie.Need-mul-count Inv-loop μ-loop
+mul-count c =
     let b = c .before .before .before .before .before in
     let a = b .before .before .before .before .before .before .before .args in
     let p = b .before .before .before .before .before .before .before .pre .0 in
@@ -119,7 +118,7 @@ returns c =
     let p = b .before .before .before .before .before .before .before .pre in
     let k = c .before .loop in
     let end : k .j ≡ a .h = omega (arith, c .loop-test .left, b .before .wide5 .ensures) in
-    whole-made (a .s) (a .v) (a .x0) (a .y0) (a .w) (a .h) (a .mem .now) (p .0) (p .1 .1) _ _ (c .before .before .before .before .solid-line .ensures) (k .mem) (a .w * a .h) (mul-comm (a .w) (a .h))
+    whole-made (a .s) (a .v) (a .x0) (a .y0) (a .w) (a .h) (a .mem .now) (p .0) (p .1 .1) _ (c .before .before .before .before .solid-line .ensures) (k .mem)
     (put-even (a .s) (a .v) (a .x0) (a .y0) (a .w) (a .h) (p .0) (p .1 .0) (p .1 .1) (a .h)
     (subst (λ (j : ℕ). Put (a .s) (columnByte (a .s) (a .v)) (a .x0 * a .s .bytes) (a .y0) (a .w * a .s .bytes) j (c .before .before .before .before .solid-line .last .0) (k .mem)) end (k .inv .0)))
 
@@ -140,11 +139,11 @@ solid-blocks-spec =
     loop-holds
     sub-least
     least-requires
-    add-t21
+    add-t22
     move-blocks-requires
     add-j
     loop-less
     loop-again
-    mul-result
+    mul-count
     same-length
     returns)

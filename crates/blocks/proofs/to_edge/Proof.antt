@@ -1,7 +1,7 @@
 -- `blocks::to_edge` meets its contract: what is left of the tile, if there is more.
 -- Assumes nothing.
 use mathlib.Core.Path.{sym, _∙_}
-use mathlib.Core.Bool.{true, false, true≢false}
+use mathlib.Core.Bool.{true≢false}
 use native.Mathlib.Nat.{mod-lt}
 use native.Mathlib.Omega.{arith}
 use borrow.Author.Needs.{needs}

@@ -4,6 +4,7 @@ use borrow.Author.Needs.{needs}
 use native.Mathlib.Omega.{arith}
 use mathlib.Core.Path.{sym, _∙_}
 use Prim.Native.Nat.{_+_}
+use Rattle.paint.specs.Paint.{tallied}
 use Rattle.paint.proofs.ClipLaws.{Covered, in-clip}
 use Rattle.host.proofs.Drawing.{pixel-put, pixel-past}
 use Rattle.host.proofs.host_pixel.Statement.{statement}
@@ -39,7 +40,7 @@ put-source-requires c κs =
     let b = t .before .before .before .before .before in
     record {
       on = b .pre .0 .covered .on (b .args .i) (b .args .j) (b .pre .1 .0) (b .pre .1 .1 .0) (sym (t .before .covers .ensures) ∙ t .if1 .taken);
-      room = omega arith;
+      room = b .pre .1 .1 .1;
     }
 
 same-length : tie.Need-same-length
@@ -48,16 +49,14 @@ same-length c = search needs
 returns : tie.Need-returns
 returns c =
     let t = c .before .before .before .before .before .before in
-    let a = t .before .before .before .before .before .args in (
-      pixel-put (a .ink) (a .pattern) (a .c) (a .feed) (a .i) (a .j) (a .v) _ (a .n) _ (a .mem .now) _ (sym (t .before .covers .ensures) ∙ t .if1 .taken)
-          (c .before .before .before .before .before .pattern-at .ensures) (c .before .before .before .before .source-of .ensures) (c .before .before .put-source .ensures .0),
-      omega (arith, c .before .before .put-source .ensures .1),
-    )
+    let a = t .before .before .before .before .before .args in
+    pixel-put (a .ink) (a .pattern) (a .c) (a .feed) (a .i) (a .j) (a .v) _ _ (a .mem .now) (a .n) _ (sym (t .before .covers .ensures) ∙ t .if1 .taken)
+    (c .before .before .before .before .before .pattern-at .ensures) (c .before .before .before .before .source-of .ensures) (c .before .before .put-source .ensures)
 
 returns-2 : tie.Need-returns-2
 returns-2 c =
     let a = c .before .before .before .before .before .args in
-    (pixel-past (a .ink) (a .pattern) (a .c) (a .feed) (a .i) (a .j) (a .v) (a .n) (a .mem .now) (sym (c .before .covers .ensures) ∙ c .if1 .left), omega arith)
+    pixel-past (a .ink) (a .pattern) (a .c) (a .feed) (a .i) (a .j) (a .v) (tallied (a .mem .now) (a .n)) (sym (c .before .covers .ensures) ∙ c .if1 .left)
 
 pub host-pixel-spec : {M : Type 1} → statement M
 host-pixel-spec =

@@ -1,31 +1,21 @@
--- `host::host_word` meets its contract: what is left of the word's four bytes, drawn on what stands now, is the word drawn on what stood.
+-- `host::host_word` meets its contract: each turn takes one of the word's four bytes.
 -- Assumes nothing.
 use native.Mathlib.Omega.{arith}
-use borrow.Author.Needs.{needs}
-use mathlib.Core.Path.{_≡_, refl, sym, ap, _∙_}
-use Prim.Native.Nat.{ℕ, _+_, _-_, _*_, _≤_}
-use native.Mathlib.Nat.{add-zero}
-use lib.ListN.{length}
-use Rattle.paint.specs.Paint.{state}
-use Rattle.host.specs.Host.{byBytes, byWord}
-use Rattle.host.specs.Draw.{drawn}
-use Rattle.host.proofs.Drawing.{bytes-turn, bytes-done}
+use mathlib.Core.List.{append-nil}
+use Prim.Native.Nat.{_-_}
+use Rattle.host.specs.Host.{byBytes}
+use Rattle.host.proofs.Drawing.{WordLeft, word-begins, word-room, word-takes, word-ended}
 use Rattle.host.proofs.host_word.Statement.{statement}
 use Rattle.host.proofs.host_word.Tie as tie
 
 abbrev Inv-loop : tie.InvT-loop
-Inv-loop mem₀ ink pattern c feed taken last word n₀ t₀ mem n t =
-    (drawn ink pattern c feed (byBytes feed last word (4 * taken + t) (4 - t)) (state mem n) ≡ drawn ink pattern c feed (byWord feed last word taken) (state mem₀ 0))
-    × (length mem ≡ length mem₀) × (t ≤ 4) × (n ≤ 8192 * t)
+Inv-loop mem₀ ink pattern c feed taken last word n₀ t₀ mem n t = WordLeft ink pattern c feed last word taken mem₀ t mem n
 
 abbrev μ-loop : tie.MeasureT-loop
 μ-loop mem₀ ink pattern c feed taken last word n₀ t₀ mem n t = 4 - t
 
 loop-holds : tie.Need-loop-holds Inv-loop μ-loop
-unfolding byWord
-loop-holds c =
-    let a = c .before .args in
-    (ap (λ (o : ℕ). drawn (a .ink) (a .pattern) (a .c) (a .feed) (byBytes (a .feed) (a .last) (a .word) o 4) (state (a .mem .now) 0)) (add-zero (4 * a .taken)), refl, omega arith, omega arith)
+loop-holds c = word-begins
 
 mul-host-byte : tie.Need-mul-host-byte Inv-loop μ-loop
 mul-host-byte c = omega (arith, c .before .before .before .before .pre .few)
@@ -35,8 +25,9 @@ add-host-byte c = omega (arith, c .before .before .before .before .pre .few)
 
 host-byte-requires : tie.Need-host-byte-requires Inv-loop μ-loop
 host-byte-requires c κs =
-    let k = c .before .before .loop in
-    rw (k .inv .1) (c .before .before .before .before .pre .opened, omega (arith, c .before .before .before .before .pre .opened .rows .sizes .width))
+    let now = c .before .before .loop .inv in
+    let o = c .before .before .before .before .pre .opened in
+    rw (now .left .long) (o, word-room now (o .rows .sizes) (c .before .loop-test .taken))
 
 add-t : tie.Need-add-t Inv-loop μ-loop
 add-t c = omega arith
@@ -45,23 +36,16 @@ loop-less : tie.Need-loop-less Inv-loop μ-loop
 loop-less c = omega arith
 
 loop-again : tie.Need-loop-again Inv-loop μ-loop
+unfolding byBytes
 loop-again c =
-    let a = c .before .before .before .before .before .before .before .args in
-    let k = c .before .before .before .before .before .loop in (
-      bytes-turn (a .ink) (a .pattern) (a .c) (a .feed) (a .last) (a .word) (4 * a .taken) (k .t) (state (k .mem) (k .n)) _ (c .before .before .before .before .loop-test .taken) (c .before .before .host-byte .ensures .0) ∙ k .inv .0,
-      c .before .before .host-byte .kept .0 ∙ k .inv .1,
-      omega arith,
-      omega (arith, c .before .before .host-byte .ensures .1, c .before .before .before .before .before .before .before .pre .opened .rows .sizes .width),
-    )
+    word-takes (c .before .before .before .before .before .loop .inv) (c .before .before .before .before .before .before .before .pre .opened .rows .sizes) 1 (omega arith)
+    (rw append-nil (c .before .before .host-byte .ensures))
 
 same-length : tie.Need-same-length Inv-loop μ-loop
-same-length c = search needs
+same-length c = c .before .loop .inv .left .long
 
 returns : tie.Need-returns Inv-loop μ-loop
-returns c =
-    let a = c .before .before .before .args in
-    let k = c .before .loop in
-    sym (bytes-done (a .ink) (a .pattern) (a .c) (a .feed) (a .last) (a .word) (4 * a .taken) (k .t) (state (k .mem) (k .n)) (c .loop-test .left)) ∙ k .inv .0
+returns c = word-ended (c .before .loop .inv) (c .loop-test .left)
 
 pub host-word-spec : {M : Type 1} → statement M
 host-word-spec =

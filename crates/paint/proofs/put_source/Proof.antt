@@ -1,13 +1,14 @@
--- `paint::put_source` meets its contract: the pixel is left, or it is put there.
+-- `paint::put_source` meets its contract: what it is given is what pattern, source and target make.
 -- Assumes nothing.
 use borrow.Author.Needs.{needs}
-use native.Mathlib.Omega.{arith}
-use Rattle.paint.proofs.MixLaws.{left-alone, put-there}
+use mathlib.Core.Path.{ap, _∙_}
+use mathlib.Core.Option.{Option}
+use Prim.Native.Nat.{ℕ}
+use Rattle.surface.specs.Pixels.{px}
+use Rattle.paint.specs.Paint.{tallied, dab}
+use Rattle.paint.proofs.MixLaws.{mixed-by}
 use Rattle.paint.proofs.put_source.Statement.{statement}
 use Rattle.paint.proofs.put_source.Tie as tie
-
-returns : tie.Need-returns
-returns c = let a = c .before .before .args in (left-alone (a .ink) (a .pattern) (a .s) (a .x) (a .y) (a .n) (a .mem .now) (c .if1 .taken), omega arith)
 
 get-pixel-requires : tie.Need-get-pixel-requires
 get-pixel-requires c κs = search needs
@@ -21,33 +22,28 @@ choose-requires c κs = search needs
 raster-requires : tie.Need-raster-requires
 raster-requires c κs = search needs
 
-put-pixel-requires : tie.Need-put-pixel-requires
-put-pixel-requires c κs = search needs
-
-add-result : tie.Need-add-result
-add-result c = search needs
+put-value-requires : tie.Need-put-value-requires
+put-value-requires c κs = search needs
 
 same-length : tie.Need-same-length
 same-length c = search needs
 
-returns-2 : tie.Need-returns-2
-returns-2 c =
-    let a = c .before .before .before .before .before .before .before .before .before .before .before .before .args in (
-      put-there (a .ink) (a .pattern) (a .s) (a .x) (a .y) (a .n) (a .mem .now) _ (c .before .before .before .before .before .before .before .before .before .before .if1 .left) (c .before .before .before .before .before .before .before .get-pixel .ensures)
-          (c .before .before .before .before .before .before .matches-target .ensures) (c .before .before .before .before .before .choose .ensures) (c .before .before .before .before .raster .ensures) (c .before .before .put-pixel .ensures),
-      omega arith,
-    )
+returns : tie.Need-returns
+returns c =
+    let a = c .before .before .before .before .before .before .before .before .before .before .before .args in
+    c .before .before .put-value .ensures
+    ∙ ap (λ (o : Option ℕ). dab (a .ink .target) (px (a .x) (a .y)) o (tallied (a .mem .now) (a .n)))
+    (mixed-by (a .ink) (a .pattern) (a .s) (c .before .before .before .before .before .before .before .get-pixel .ensures) (c .before .before .before .before .before .before .matches-target .ensures)
+    (c .before .before .before .before .before .choose .ensures) (c .before .before .before .before .raster .ensures))
 
 pub put-source-spec : {M : Type 1} → statement M
 put-source-spec =
     tie.close
     (tie.spec
-    returns
     get-pixel-requires
     matches-target-requires
     choose-requires
     raster-requires
-    put-pixel-requires
-    add-result
+    put-value-requires
     same-length
-    returns-2)
+    returns)

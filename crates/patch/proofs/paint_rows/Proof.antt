@@ -1,37 +1,24 @@
 -- `patch::paint_rows` meets its contract: what remains of the rectangle, painted on the memory now, is the rectangle painted on the memory at the start.
 -- Assumes nothing.
-use native.Mathlib.Omega.{arith}
-use mathlib.Core.Path.{_≡_, refl, ap, _∙_}
-use mathlib.Core.List.{List}
-use Prim.Native.Nat.{_-_, _*_, _≤_}
-use lib.ListN.{length}
+use mathlib.Core.Path.{_∙_}
+use Prim.Native.Nat.{_-_}
 use borrow.Author.Needs.{needs}
-use Rattle.surface.specs.Pixels.{Px, rect}
-use Rattle.paint.specs.Paint.{state, touch, paint}
-use Rattle.paint.proofs.Turns.{rows-left, rows-whole, rows-again, rows-end, nth-in}
-use Rattle.sweep.specs.Copy.{giving, inTurn}
+use Rattle.paint.specs.Paint.{tallied}
+use Rattle.paint.proofs.Loops.{RowsLeft, rows-begin, rows-go-on, rows-ended}
+use Rattle.sweep.specs.Copy.{giving}
 use Rattle.sweep.proofs.TaskLaws.{can-row}
 use Rattle.patch.proofs.RowLaws.{row-same}
 use Rattle.patch.proofs.paint_rows.Statement.{statement}
 use Rattle.patch.proofs.paint_rows.Tie as tie
 
 abbrev Inv-loop : tie.InvT-loop
-Inv-loop mem₀ t pattern w h toLeft toTop ink n₀ j₀ mem n j =
-    (paint (t .ink .target) (inTurn t pattern (rows-left toLeft toTop (t .x) (t .y) w h j)) (state mem n)
-    ≡ paint (t .ink .target) (inTurn t pattern (rect toLeft toTop (t .x) (t .y) w h)) (state mem₀ 0))
-    × (length mem ≡ length mem₀) × (j ≤ h) × (n ≤ 8192 * j)
+Inv-loop mem₀ t pattern w h toLeft toTop ink n₀ j₀ mem n j = RowsLeft (t .ink .target) (λ p now. giving t pattern now now p) toLeft toTop (t .x) (t .y) w h mem₀ j mem n
 
 abbrev μ-loop : tie.MeasureT-loop
 μ-loop mem₀ t pattern w h toLeft toTop ink n₀ j₀ mem n j = h - j
 
 loop-holds : tie.Need-loop-holds Inv-loop μ-loop
-loop-holds c =
-    let a = c .before .before .args in (
-      ap (λ (ps : List Px). paint (a .t .ink .target) (inTurn (a .t) (a .pattern) ps) (state (a .mem .now) 0)) (rows-whole (a .toLeft) (a .toTop) (a .t .x) (a .t .y) (a .w) (a .h)),
-      refl,
-      omega arith,
-      omega arith,
-    )
+loop-holds c = rows-begin
 
 place-requires : tie.Need-place-requires Inv-loop μ-loop
 place-requires c κs = (c .loop-test .taken, c .before .before .before .before .pre .high)
@@ -48,12 +35,7 @@ row-values-requires c κs = (c .before .before .before .before .before .before .
 paint-across-requires : tie.Need-paint-across-requires Inv-loop μ-loop
 paint-across-requires c κs =
     let b = c .before .before .before .before in
-    let k = b .before .before .loop in
-    let a = b .before .before .before .before .before .args in
-    let p = b .before .before .before .before .before .pre in
-    let in-rows = nth-in (a .toTop) (a .t .y) (a .h) (k .j) (b .before .loop-test .taken) in
-    let e = b .place .ensures in
-    rw (k .inv .1) (can-row p (b .place .result) (k .n) (omega arith) (omega arith) (omega (arith, p .wide, p .high)))
+    can-row (b .before .before .before .before .before .pre) (b .before .before .loop .inv) (b .before .loop-test .taken) (b .place .ensures)
 
 add-j : tie.Need-add-j Inv-loop μ-loop
 add-j c = search needs
@@ -64,32 +46,19 @@ loop-less c = search needs
 loop-again : tie.Need-loop-again Inv-loop μ-loop
 loop-again c =
     let values = c .before .before .before .before .row-values in
-    let bits = c .before .before .before .before .before .pattern-byte .ensures .0 in
-    let row = c .before .before .before .before .before .before .pattern-row .ensures .0 in
     let b = c .before .before .before .before .before .before .before in
     let k = b .before .before .loop in
-    let s = b .before .before .before .before .before in
-    let a = s .args in
+    let a = b .before .before .before .before .before .args in
     let y = b .place .result in
-    let painted = c .before .before .paint-across in (
-      rows-again (a .t .ink .target) (λ p. touch p (λ now. giving (a .t) (a .pattern) now now p)) (a .toLeft) (a .toTop) (a .t .x) (a .t .y) (a .w) (a .h) (k .j) y (state (k .mem) (k .n)) _
-          (b .before .loop-test .taken) (b .place .ensures)
-          (painted .ensures .0 ∙ row-same (a .t) (a .pattern) (values .result) bits (values .ensures) (a .toLeft) (a .t .x) (a .w) y row (state (k .mem) (k .n)))
-          ∙ k .inv .0,
-      painted .kept .0 ∙ k .inv .1,
-      omega arith,
-      omega (arith, painted .ensures .1, s .pre .wide),
-    )
+    rows-go-on (k .inv) y (b .before .loop-test .taken) (b .place .ensures)
+    (c .before .before .paint-across .ensures
+    ∙ row-same (a .t) (a .pattern) (values .result) (c .before .before .before .before .before .pattern-byte .ensures .0) (values .ensures) (a .toLeft) (a .t .x) (a .w) y (c .before .before .before .before .before .before .pattern-row .ensures .0) (tallied (k .mem) (k .n)))
 
 same-length : tie.Need-same-length Inv-loop μ-loop
 same-length c = search needs
 
 returns : tie.Need-returns Inv-loop μ-loop
-returns c =
-    let a = c .before .before .before .before .args in
-    let k = c .before .loop in
-    rows-end (a .t .ink .target) (λ p. touch p (λ now. giving (a .t) (a .pattern) now now p)) (a .toLeft) (a .toTop) (a .t .x) (a .t .y) (a .w) (a .h) (k .j)
-    (state (k .mem) (k .n)) (c .loop-test .left) ∙ k .inv .0
+returns c = rows-ended (c .before .loop .inv) (c .loop-test .left)
 
 pub paint-rows-spec : {M : Type 1} → statement M
 paint-rows-spec =

@@ -3,17 +3,16 @@
 use borrow.Author.Needs.{needs}
 use native.Mathlib.Omega.{arith}
 use borrow.Author.Tests.{not-true}
-use mathlib.Core.Path.{_≡_, sym, ap, _∙_}
+use mathlib.Core.Path.{_≡_, sym, _∙_}
 use mathlib.Core.Bool.{true}
-use mathlib.Core.List.{[]}
-use Prim.Native.Nat.{ℕ, _+_, _-_, _/_, _<_, _≤_}
+use Prim.Native.Nat.{_+_, _-_, _/_, _<_, _≤_}
 use Rattle.surface.proofs.OnLaws.{and-left, and-right}
 use Rattle.paint.specs.Clip.{inClip}
-use Rattle.paint.specs.Paint.{state}
+use Rattle.paint.specs.Paint.{tallied}
+use Rattle.paint.proofs.Tallies.{room-less}
 use Rattle.paint.proofs.ClipLaws.{in-clip}
-use Rattle.host.specs.Draw.{drawn}
 use Rattle.host.proofs.Places.{mono-column}
-use Rattle.plain.specs.Plain.{plainInk, stretch}
+use Rattle.plain.specs.Plain.{plainInk}
 use Rattle.plain.proofs.Bits.{between, byte-drawn}
 use Rattle.plain.proofs.mono_part.Statement.{statement}
 use Rattle.plain.proofs.mono_part.Tie as tie
@@ -42,7 +41,8 @@ held c =
     let a = c .before .before .before .before .before .before .before .before .args in
     let w = c .before .before .before .before .before .before .before .before .pre .1 .0 in
     let k = mono-column (a .feed) (a .i) (c .before .before .before .before .before .before .before .before .pre .1 .1 .0) in
-    (omega (arith, k, w .low (a .i) (omega arith) (omega arith)), omega (arith, k, w .high (a .i) (omega arith) (omega arith)))
+    let h = w .here (a .i) (omega arith) (omega arith) in
+    (omega (arith, k, h .low), omega (arith, k, h .high))
 
 add-b : tie.Need-add-b
 add-b c = omega (arith, held c)
@@ -77,15 +77,17 @@ put-bits-requires c κs =
     let w = p .1 .0 in (
       (
         (p .0 .colour, not-true (a .p .target .tiled) (and-right (c .before .before .before .covers2 .result) _ (c .before .if2 .taken))),
-        record {
-          wide = omega (arith, in-clip _ _ _ (last-in (c .before)), p .0 .bits12);
-          room = omega (arith, w .room);
-          on = λ q l h.
-              let e : a .feed .x + (a .i + (q - (a .feed .x + a .i - 16384))) - 16384 ≡ q = omega (arith, k) in
-              let f : a .feed .x + a .i + (q - (a .feed .x + a .i - 16384)) ≡ a .feed .x + (a .i + (q - (a .feed .x + a .i - 16384))) = omega arith in
-              rw e at (p .0 .covered .on (a .i + (q - (a .feed .x + a .i - 16384))) (a .j) (omega (arith, k, w .past)) (w .row)
-              (rw f at (between (a .c) (a .feed .x + a .i) (a .feed .y + a .j) (a .m) (q - (a .feed .x + a .i - 16384)) (first-in (c .before)) (last-in (c .before)) (omega (arith, k)))));
-        },
+        (
+          record {
+            wide = omega (arith, in-clip _ _ _ (last-in (c .before)), p .0 .bits12);
+            on = λ q l h.
+                let e : a .feed .x + (a .i + (q - (a .feed .x + a .i - 16384))) - 16384 ≡ q = omega (arith, k) in
+                let f : a .feed .x + a .i + (q - (a .feed .x + a .i - 16384)) ≡ a .feed .x + (a .i + (q - (a .feed .x + a .i - 16384))) = omega arith in
+                rw e at (p .0 .covered .on (a .i + (q - (a .feed .x + a .i - 16384))) (a .j) (omega (arith, k, w .past)) (w .row)
+                (rw f at (between (a .c) (a .feed .x + a .i) (a .feed .y + a .j) (a .m) (q - (a .feed .x + a .i - 16384)) (first-in (c .before)) (last-in (c .before)) (omega (arith, k)))));
+          },
+          room-less (w .room) (omega arith),
+        ),
       ),
       omega (arith, p .1 .1 .1 .1),
     )
@@ -96,24 +98,21 @@ same-length c = search needs
 returns : tie.Need-returns
 returns c =
     let t = c .before .before .before .before in
-    let a = c .before .before .before .before .before .before .before .before .before .before .before .before .args in
-    let p = c .before .before .before .before .before .before .before .before .before .before .before .before .pre in
-    let w = p .1 .0 in
-    let mono = p .1 .1 .0 in
-    let fits = p .1 .1 .1 .1 in (
-      c .before .before .put-bits .ensures .0
-          ∙ byte-drawn (a .p) (a .c) (a .feed) (a .last) (a .word) (a .t + a .i / 8 - a .column) (a .j) (a .i) mono (omega arith) (omega (arith, c .before .before .before .before .before .before .before .before .before .before .before .before .good)) (omega (arith, c .before .before .before .before .before .before .before .before .before .before .before .before .good)) (held t .1)
-          (omega (arith, in-clip _ _ _ (first-in t))) (a .m) (state (a .mem .now) (a .n))
-          (λ q h. between (a .c) (a .feed .x + a .i) (a .feed .y + a .j) (a .m) q (first-in t) (last-in t) h)
-          (λ q h. omega (arith, mono-column (a .feed) (a .i + q) mono, w .byte (a .i + q) (omega arith) (omega arith), fits)) fits,
-      c .before .before .put-bits .ensures .1,
-    )
+    let b = c .before .before .before .before .before .before .before .before .before .before .before .before in
+    let a = b .args in
+    let mono = b .pre .1 .1 .0 in
+    let fits = b .pre .1 .1 .1 .1 in
+    c .before .before .put-bits .ensures
+    ∙ byte-drawn (a .p) (a .c) (a .feed) (a .last) (a .word) (a .t + a .i / 8 - a .column) (a .j) (a .i) mono (omega (arith, b .good)) (omega (arith, b .good)) (omega (arith, b .good))
+    (held t .1) (omega (arith, in-clip _ _ _ (first-in t))) (a .m) (tallied (a .mem .now) (a .n))
+    (λ q h. between (a .c) (a .feed .x + a .i) (a .feed .y + a .j) (a .m) q (first-in t) (last-in t) h)
+    (λ q h. omega (arith, mono-column (a .feed) (a .i + q) mono, b .pre .1 .0 .here (a .i + q) (omega arith) (omega arith) .byte, fits)) fits
 
 add-mono-each : tie.Need-add-mono-each
 add-mono-each c = search needs
 
 mono-each-requires : tie.Need-mono-each-requires
-mono-each-requires c κs = let p = c .before .before .before .before .before .before .pre in (p .0, (p .1 .0, (p .1 .1 .0, omega arith)))
+mono-each-requires c κs = let p = c .before .before .before .before .before .before .pre in (p .0, (p .1 .0, p .1 .1 .0))
 
 same-length-2 : tie.Need-same-length-2
 same-length-2 c = search needs
@@ -122,7 +121,7 @@ returns-2 : tie.Need-returns-2
 returns-2 c =
     let a = c .before .before .before .before .before .before .before .before .before .args in
     let e : a .i + a .m - a .i ≡ a .m = omega arith in
-    (c .before .before .mono-each .ensures .0 ∙ ap (λ (k : ℕ). drawn (plainInk (a .p)) [] (a .c) (a .feed) (stretch (a .feed) (a .last) (a .word) (a .j) (a .i) k) (state (a .mem .now) (a .n))) e, omega (arith, c .before .before .mono-each .ensures .1))
+    rw e at (c .before .before .mono-each .ensures)
 
 pub mono-part-spec : {M : Type 1} → statement M
 mono-part-spec =

@@ -1,12 +1,6 @@
 -- `plain::plain_row` meets its contract: the part's bytes finish a stretch of the row.
 -- Assumes nothing.
 use borrow.Author.Needs.{needs}
-use mathlib.Core.Path.{ap, _∙_}
-use mathlib.Core.List.{List, []}
-use Rattle.paint.specs.Paint.{state}
-use Rattle.host.specs.Host.{Pixel}
-use Rattle.host.specs.Draw.{drawn}
-use Rattle.plain.specs.Plain.{plainInk}
 use Rattle.plain.proofs.Stretch.{part-bytes, part-within}
 use Rattle.plain.proofs.plain_row.Statement.{statement}
 use Rattle.plain.proofs.plain_row.Tie as tie
@@ -25,7 +19,7 @@ mono-row-requires c κs =
     let w = c .before .before .before in
     let b = w .before .before .before in
     let a = b .args in
-    (b .pre .0, (part-within (a .feed) (a .t) (a .j) (a .column) (a .m) (a .n) _ _ (b .pre .1 .0) (b .pre .1 .1) (w .before .whole-pixels .ensures) (w .whole-pixels2 .ensures), c .before .if1 .taken))
+    (b .pre .0, (part-within (a .feed) (a .t) (a .j) (a .column) (a .m) _ _ (b .pre .1 .0) (b .pre .1 .1) (w .before .whole-pixels .ensures) (w .whole-pixels2 .ensures), c .before .if1 .taken))
 
 same-length : tie.Need-same-length
 same-length c = search needs
@@ -34,18 +28,16 @@ returns : tie.Need-returns
 returns c =
     let w = c .before .before .before .before .before .before in
     let b = w .before .before .before in
-    let a = b .args in (
-      c .before .before .mono-row .ensures .0 ∙ ap (λ (ps : List Pixel). drawn (plainInk (a .p)) [] (a .c) (a .feed) ps (state (a .mem .now) (a .n)))
-          (part-bytes (a .feed) (a .last) (a .word) (a .t) (a .j) (a .column) (a .m) _ _ (b .pre .1 .0) (w .before .whole-pixels .ensures) (w .whole-pixels2 .ensures)),
-      c .before .before .mono-row .ensures .1,
-    )
+    let a = b .args in
+    rw (← part-bytes (a .feed) (a .last) (a .word) (a .t) (a .j) (a .column) (a .m) _ _ (b .pre .1 .0) (w .before .whole-pixels .ensures) (w .whole-pixels2 .ensures))
+    (c .before .before .mono-row .ensures)
 
 colour-row-requires : tie.Need-colour-row-requires
 colour-row-requires c κs =
     let w = c .before .before .before in
     let b = w .before .before .before in
     let a = b .args in
-    (b .pre .0, (part-within (a .feed) (a .t) (a .j) (a .column) (a .m) (a .n) _ _ (b .pre .1 .0) (b .pre .1 .1) (w .before .whole-pixels .ensures) (w .whole-pixels2 .ensures), c .before .if1 .left))
+    (b .pre .0, (part-within (a .feed) (a .t) (a .j) (a .column) (a .m) _ _ (b .pre .1 .0) (b .pre .1 .1) (w .before .whole-pixels .ensures) (w .whole-pixels2 .ensures), c .before .if1 .left))
 
 same-length-2 : tie.Need-same-length-2
 same-length-2 c = search needs
@@ -54,11 +46,9 @@ returns-2 : tie.Need-returns-2
 returns-2 c =
     let w = c .before .before .before .before .before .before in
     let b = w .before .before .before in
-    let a = b .args in (
-      c .before .before .colour-row .ensures .0 ∙ ap (λ (ps : List Pixel). drawn (plainInk (a .p)) [] (a .c) (a .feed) ps (state (a .mem .now) (a .n)))
-          (part-bytes (a .feed) (a .last) (a .word) (a .t) (a .j) (a .column) (a .m) _ _ (b .pre .1 .0) (w .before .whole-pixels .ensures) (w .whole-pixels2 .ensures)),
-      c .before .before .colour-row .ensures .1,
-    )
+    let a = b .args in
+    rw (← part-bytes (a .feed) (a .last) (a .word) (a .t) (a .j) (a .column) (a .m) _ _ (b .pre .1 .0) (w .before .whole-pixels .ensures) (w .whole-pixels2 .ensures))
+    (c .before .before .colour-row .ensures)
 
 pub plain-row-spec : {M : Type 1} → statement M
 plain-row-spec =

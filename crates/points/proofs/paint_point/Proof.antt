@@ -5,13 +5,14 @@ use native.Mathlib.Omega.{arith}
 use borrow.Author.Tests.{not-true, not-false}
 use mathlib.Core.Bool.{true}
 use mathlib.Core.Path.{_≡_, sym, _∙_}
+use Rattle.paint.specs.Paint.{tallied}
 use Rattle.paint.specs.Clip.{inClip}
 use Rattle.paint.proofs.ClipLaws.{in-clip}
 use Rattle.line.proofs.DrawLaws.{point-on, paint-covered, paint-clipped}
 use Rattle.points.proofs.paint_point.Statement.{statement}
 use Rattle.points.proofs.paint_point.Tie as tie
 
-inside : (c : tie.Else1) → inClip (c .before .before .before .before .args .c) (c .before .before .before .before .args .p .x) (c .before .before .before .before .args .p .y) ≡ true
+inside : (c : tie.Else1) → inClip (c .before .before .before .before .before .args .c) (c .before .before .before .before .before .args .p .x) (c .before .before .before .before .before .args .p .y) ≡ true
 inside c = sym (c .before .covers .ensures) ∙ not-false (c .before .covers .result) (c .if1 .left)
 
 style-after-requires : tie.Need-style-after-requires
@@ -22,9 +23,9 @@ covers-requires c κs = search needs
 
 returns : tie.Need-returns
 returns c =
-    let a = c .before .before .before .before .args in
+    let a = c .before .before .before .before .before .args in
     let out = sym (c .before .covers .ensures) ∙ not-true (c .before .covers .result) (c .if1 .taken) in
-    (paint-clipped (a .ink) (a .pattern) (a .c) (a .pen) (a .p) (a .done .style) (a .done .count) (a .mem .now) out, (c .before .before .style-after .ensures, omega arith))
+    (paint-clipped (a .ink) (a .pattern) (a .c) (a .pen) (a .p) (a .done .style) (tallied (a .mem .now) (a .done .tally)) out, c .before .before .before .style-after .ensures)
 
 sub-x : tie.Need-sub-x
 sub-x c = omega (arith, in-clip _ _ _ (inside (c .before)))
@@ -37,8 +38,8 @@ stipple-bit-requires c κs = search needs
 
 put-point-requires : tie.Need-put-point-requires
 put-point-requires c κs =
-    let a = c .before .before .before .before .before .before .before .before .args in
-    let p = c .before .before .before .before .before .before .before .before .pre in
+    let a = c .before .before .before .before .before .before .before .before .before .args in
+    let p = c .before .before .before .before .before .before .before .before .before .pre in
     record { on = record { colour = p .surface; on = point-on (a .ink .target) _ (a .c) (a .p) (p .on) (inside (c .before .before .before .before)) }; room = p .room }
 
 same-length : tie.Need-same-length
@@ -46,10 +47,9 @@ same-length c = search needs
 
 returns-2 : tie.Need-returns-2
 returns-2 c =
-    let a = c .before .before .before .before .before .before .before .before .before .before .before .args in
-    let put = c .before .before .put-point .ensures in (
-      paint-covered (a .ink) (a .pattern) (a .c) (a .pen) (a .p) (a .done .style) (a .done .count) (a .mem .now) (inside (c .before .before .before .before .before .before .before)) (c .before .before .before .before .stipple-bit .ensures) (put .0),
-      (c .before .before .before .before .before .before .before .before .before .style-after .ensures, put .1),
+    let a = c .before .before .before .before .before .before .before .before .before .before .before .before .args in (
+      paint-covered (a .ink) (a .pattern) (a .c) (a .pen) (a .p) (a .done .style) (tallied (a .mem .now) (a .done .tally)) (inside (c .before .before .before .before .before .before .before)) (c .before .before .before .before .stipple-bit .ensures) (c .before .before .put-point .ensures),
+      c .before .before .before .before .before .before .before .before .before .before .style-after .ensures,
     )
 
 pub paint-point-spec : {M : Type 1} → statement M

@@ -8,7 +8,7 @@ use Prim.Native.Nat.{ℕ}
 use Rattle.surface.specs.Place.{readPx}
 use Rattle.surface.specs.Pixels.{px}
 use Rattle.paint.specs.declared.Source.{Source}
-use Rattle.paint.specs.Paint.{state, dab}
+use Rattle.paint.specs.Paint.{tallied, dab}
 use Rattle.paint.specs.Mix.{mixed, sourced}
 use Rattle.ink.specs.Pattern.{patternValue}
 use Rattle.points.proofs.PutLaws.{direct-source}
@@ -21,8 +21,8 @@ bit-source-requires c κs = search needs
 is-direct-requires : tie.Need-is-direct-requires
 is-direct-requires c κs = search needs
 
-put-plain-requires : tie.Need-put-plain-requires
-put-plain-requires c κs = search needs
+put-value-requires : tie.Need-put-value-requires
+put-value-requires c κs = search needs
 
 same-length : tie.Need-same-length
 same-length c = search needs
@@ -31,13 +31,11 @@ returns : tie.Need-returns
 returns c =
     let a = c .before .before .before .before .before .before .before .before .args in
     let s = a .ink .target in
-    let put = c .before .before .put-plain .ensures in
+    let put = c .before .before .put-value .ensures in
     let direct = direct-source (a .ink) (patternValue (a .ink) (a .pattern) (a .x) (a .y)) (readPx (a .mem .now) s (a .x) (a .y)) (a .bit)
-    (sym (c .before .before .before .before .before .is-direct .ensures) ∙ c .before .before .before .before .if1 .taken) (omega (arith, c .before .before .before .before .before .before .before .before .good)) (omega (arith, c .before .before .before .before .before .before .before .before .good)) in (
-      put .0 ∙ ap (λ (source : Source). dab s (px (a .x) (a .y)) (sourced source) (state (a .mem .now) (a .n))) (c .before .before .before .before .before .before .bit-source .ensures)
-          ∙ ap (λ (v : Option ℕ). dab s (px (a .x) (a .y)) v (state (a .mem .now) (a .n))) (sym direct),
-      put .1,
-    )
+    (sym (c .before .before .before .before .before .is-direct .ensures) ∙ c .before .before .before .before .if1 .taken) (omega (arith, c .before .before .before .before .before .before .before .before .good)) (omega (arith, c .before .before .before .before .before .before .before .before .good)) in
+    put ∙ ap (λ (source : Source). dab s (px (a .x) (a .y)) (sourced source) (tallied (a .mem .now) (a .n))) (c .before .before .before .before .before .before .bit-source .ensures)
+    ∙ ap (λ (v : Option ℕ). dab s (px (a .x) (a .y)) v (tallied (a .mem .now) (a .n))) (sym direct)
 
 pattern-at-requires : tie.Need-pattern-at-requires
 pattern-at-requires c κs = search needs
@@ -52,12 +50,9 @@ returns-2 : tie.Need-returns-2
 returns-2 c =
     let a = c .before .before .before .before .before .before .before .before .before .args in
     let s = a .ink .target in
-    let put = c .before .before .put-source .ensures in (
-      put .0
-          ∙ ap₂ (λ (v : ℕ) (source : Source). dab s (px (a .x) (a .y)) (mixed (a .ink) v source (readPx (a .mem .now) s (a .x) (a .y))) (state (a .mem .now) (a .n)))
-          (c .before .before .before .before .pattern-at .ensures) (c .before .before .before .before .before .before .before .bit-source .ensures),
-      put .1,
-    )
+    c .before .before .put-source .ensures
+    ∙ ap₂ (λ (v : ℕ) (source : Source). dab s (px (a .x) (a .y)) (mixed (a .ink) v source (readPx (a .mem .now) s (a .x) (a .y))) (tallied (a .mem .now) (a .n)))
+    (c .before .before .before .before .pattern-at .ensures) (c .before .before .before .before .before .before .before .bit-source .ensures)
 
 pub put-point-spec : {M : Type 1} → statement M
 put-point-spec =
@@ -65,7 +60,7 @@ put-point-spec =
     (tie.spec
     bit-source-requires
     is-direct-requires
-    put-plain-requires
+    put-value-requires
     same-length
     returns
     pattern-at-requires

@@ -94,8 +94,8 @@ move-rows-requires c κs =
     let tests = by-tests (a .t) (a .w) (a .h) (a .toLeft) (a .toTop) (c .before .before .before .is-plain .ensures) (c .before .before .is-late .ensures) (c .before .if3 .taken) in
     record { flat = in-rows (c .before .before .before .before .before .before .if1 .left); plain = tests .0; can = p .0; orderly = p .1 .1; early = tests .1 }
 
-mul-result : tie.Need-mul-result
-mul-result c =
+mul-count : tie.Need-mul-count
+mul-count c =
     let a = c .before .before .before .before .before .before .before .before .before .before .before .before .args in
     let p = c .before .before .before .before .before .before .before .before .before .before .before .before .pre .0 in
     omega (arith, product-lt 14 14 {a = a .w} {b = a .h} (omega (arith, p .wide)) (omega (arith, p .high)))
@@ -163,7 +163,7 @@ copy-rect-spec =
     is-plain-requires
     is-late-requires
     move-rows-requires
-    mul-result
+    mul-count
     same-length-3
     returns-3
     is-straight-requires

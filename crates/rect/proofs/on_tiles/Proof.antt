@@ -48,8 +48,8 @@ move-apart-requires c κs =
     let p = c .before .before .before .before .before .before .pre in
     by-tests (p .0) (p .1) (c .before .before .before .is-plain .ensures) (c .before .before .is-touching .ensures) (c .before .before .before .before .if1 .taken) (c .before .if2 .taken)
 
-mul-result : tie.Need-mul-result
-mul-result c =
+mul-count : tie.Need-mul-count
+mul-count c =
     let a = c .before .before .before .before .before .before .before .before .before .args in
     let p = c .before .before .before .before .before .before .before .before .before .pre .0 in
     omega (arith, product-lt 14 14 {a = a .w} {b = a .h} (omega (arith, p .wide)) (omega (arith, p .high)))
@@ -124,7 +124,7 @@ on-tiles-spec =
     is-plain-requires
     is-touching-requires
     move-apart-requires
-    mul-result
+    mul-count
     same-length
     returns
     is-solid-requires

@@ -1,36 +1,29 @@
 -- `straight::straight_rows` meets its contract: what remains of the rectangle, painted on the memory now, is the rectangle painted on the memory at the start.
 -- Assumes nothing.
+use native.Mathlib.Nat.{mul-zero, mul-add, mul-le-mul}
 use native.Mathlib.Omega.{arith}
-use mathlib.Core.Path.{_≡_, refl, ap, _∙_}
-use mathlib.Core.List.{List}
-use Prim.Native.Nat.{ℕ, _+_, _-_, _*_, _≤_}
-use lib.ListN.{length}
+use mathlib.Core.Path.{_≡_, ap, _∙_}
+use Prim.Native.Nat.{ℕ, _+_, _-_, _*_, _^_}
 use borrow.Author.Needs.{needs}
-use Rattle.surface.specs.Pixels.{Px, rect}
-use Rattle.paint.specs.Paint.{state, touch, paint}
+use Rattle.surface.specs.Pixels.{across}
+use Rattle.paint.specs.Tally.{tally}
+use Rattle.paint.specs.Paint.{state}
+use Rattle.paint.proofs.Frame.{painted-after}
+use Rattle.paint.proofs.Turns.{nth-in}
+use Rattle.paint.proofs.Loops.{RowsLeft, rows-begin, rows-go-on, rows-ended}
 use Rattle.straight.specs.Straight.{straightGiving, straightly}
-use Rattle.paint.proofs.Turns.{rows-left, rows-whole, rows-again, rows-end, nth-in}
 use Rattle.straight.proofs.StraightLaws.{nth-from, can-row}
 use Rattle.straight.proofs.straight_rows.Statement.{statement}
 use Rattle.straight.proofs.straight_rows.Tie as tie
 
 abbrev Inv-loop : tie.InvT-loop
-Inv-loop mem₀ t w h toLeft toTop n₀ i₀ mem n i =
-    (paint (t .target) (straightly t (rows-left toLeft toTop (t .x) (t .y) w h i)) (state mem n)
-    ≡ paint (t .target) (straightly t (rect toLeft toTop (t .x) (t .y) w h)) (state mem₀ 0))
-    × (length mem ≡ length mem₀) × (i ≤ h) × (n ≤ 8192 * i)
+Inv-loop mem₀ t w h toLeft toTop i₀ mem i = RowsLeft (t .target) (λ p now. straightGiving t now p) toLeft toTop (t .x) (t .y) w h mem₀ i mem (tally (w * i))
 
 abbrev μ-loop : tie.MeasureT-loop
-μ-loop mem₀ t w h toLeft toTop n₀ i₀ mem n i = h - i
+μ-loop mem₀ t w h toLeft toTop i₀ mem i = h - i
 
 loop-holds : tie.Need-loop-holds Inv-loop μ-loop
-loop-holds c =
-    let a = c .before .args in (
-      ap (λ (ps : List Px). paint (a .t .target) (straightly (a .t) ps) (state (a .mem .now) 0)) (rows-whole (a .toLeft) (a .toTop) (a .t .x) (a .t .y) (a .w) (a .h)),
-      refl,
-      omega arith,
-      omega arith,
-    )
+loop-holds c = rw mul-zero rows-begin
 
 place-requires : tie.Need-place-requires Inv-loop μ-loop
 place-requires c κs = (c .loop-test .taken, omega (arith, c .before .before .before .pre .high))
@@ -39,10 +32,9 @@ straight-row-requires : tie.Need-straight-row-requires Inv-loop μ-loop
 straight-row-requires c κs =
     let a = c .before .before .before .before .before .args in
     let k = c .before .before .before .loop in
-    let p = c .before .before .before .before .before .pre in
     let number = nth-in (a .toTop) 0 (a .h) (k .i) (c .before .before .loop-test .taken) in
     let e = c .before .place .ensures in
-    rw (k .inv .1) (can-row p (c .before .place .result) (k .n) (omega arith) (omega (arith, p .wide, p .high)))
+    rw (k .inv .long) (can-row (c .before .before .before .before .before .pre) (c .before .place .result) (omega arith))
 
 add-i : tie.Need-add-i Inv-loop μ-loop
 add-i c = search needs
@@ -54,25 +46,26 @@ loop-again : tie.Need-loop-again Inv-loop μ-loop
 loop-again c =
     let a = c .before .before .before .before .before .before .before .before .args in
     let k = c .before .before .before .before .before .before .loop in
-    let p = c .before .before .before .before .before .before .before .before .pre in
-    let j = c .before .before .before .before .place in (
-      rows-again (a .t .target) (λ p. touch p (λ now. straightGiving (a .t) now p)) (a .toLeft) (a .toTop) (a .t .x) (a .t .y) (a .w) (a .h) (k .i) (a .t .y + j .result)
-          (state (k .mem) (k .n)) _ (c .before .before .before .before .before .loop-test .taken)
-          (ap (λ (r : ℕ). a .t .y + r) (j .ensures) ∙ nth-from (a .toTop) (a .t .y) (a .h) (k .i)) (c .before .before .straight-row .ensures .painted) ∙ k .inv .0,
-      c .before .before .straight-row .kept .0 ∙ k .inv .1,
-      omega arith,
-      omega (arith, c .before .before .straight-row .ensures .counted, p .wide),
-    )
+    let j = c .before .before .before .before .place in
+    let more : a .w * (k .i + 1) ≡ a .w * k .i + a .w = omega (arith, mul-add (a .w) (k .i) 1) in
+    rw more
+    (rows-go-on (k .inv) (a .t .y + j .result) (c .before .before .before .before .before .loop-test .taken) (ap (λ (r : ℕ). a .t .y + r) (j .ensures) ∙ nth-from (a .toTop) (a .t .y) (a .h) (k .i))
+    (painted-after (a .t .target) (straightly (a .t) (across (a .toLeft) (a .t .x) (a .w) (a .t .y + j .result))) (k .mem) (tally (a .w * k .i)) (c .before .before .straight-row .ensures)))
+
+mul-count : tie.Need-mul-count Inv-loop μ-loop
+mul-count c =
+    let s = c .before .before .before in
+    omega (arith, mul-le-mul {n₁ = s .args .w} {m₁ = s .args .h} {n₂ = 2 ^ 13} {m₂ = 2 ^ 13} (omega (arith, s .pre .wide)) (omega (arith, s .pre .high)))
 
 same-length : tie.Need-same-length Inv-loop μ-loop
 same-length c = search needs
 
 returns : tie.Need-returns Inv-loop μ-loop
 returns c =
-    let a = c .before .before .before .args in
     let k = c .before .loop in
-    rows-end (a .t .target) (λ p. touch p (λ now. straightGiving (a .t) now p)) (a .toLeft) (a .toTop) (a .t .x) (a .t .y) (a .w) (a .h) (k .i)
-    (state (k .mem) (k .n)) (c .loop-test .left) ∙ k .inv .0
+    let a = c .before .before .before .args in
+    let all : a .h ≡ k .i = omega (arith, c .loop-test .left) in
+    ap (λ (n : ℕ). state (k .mem) (a .w * n)) all ∙ rows-ended (k .inv) (c .loop-test .left)
 
 pub straight-rows-spec : {M : Type 1} → statement M
 straight-rows-spec =
@@ -86,5 +79,6 @@ straight-rows-spec =
     add-i
     loop-less
     loop-again
+    mul-count
     same-length
     returns)

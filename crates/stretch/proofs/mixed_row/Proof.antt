@@ -7,7 +7,7 @@ use Prim.Native.Nat.{ℕ}
 use lib.ListN.{replicate}
 use Rattle.surface.specs.Pixels.{across}
 use Rattle.surface.proofs.Rects.{in-across}
-use Rattle.paint.specs.Paint.{state}
+use Rattle.paint.specs.Paint.{tallied}
 use Rattle.paint.proofs.Turns.{paint-same}
 use Rattle.ink.specs.Pattern.{patternRow}
 use Rattle.sweep.specs.Row.{rowGiving}
@@ -29,12 +29,10 @@ returns : tie.Need-returns
 returns c =
     let a = (c .before .before .before .before .before .before .before .before .args) in
     let laid = (c .before .before .before .before .before .before .before .before .pre .1 .1 .1 .1) in
-    let free = sym (c .before .before .before .before .before .is-patternless .ensures) ∙ (c .before .before .before .before .if1 .taken) in (
-      (c .before .before .mixed-across .ensures .0)
-          ∙ paint-same (a .t .ink .target) (λ p now. rowGiving (pixelTask (a .t) p) (a .blank) 0 now p) (λ p now. stretchGiving (a .t) (a .pattern) now now p) (across false (a .x) (a .w) (a .y))
-          (λ p i now. by-none (a .t) (a .pattern) now p refl (a .masks) (a .blank) (laid .bits) (replicate 8 0) (laid .unread) free) (state (a .mem .now) (a .n)),
-      (c .before .before .mixed-across .ensures .1),
-    )
+    let free = sym (c .before .before .before .before .before .is-patternless .ensures) ∙ (c .before .before .before .before .if1 .taken) in
+    (c .before .before .mixed-across .ensures)
+    ∙ paint-same (a .t .ink .target) (λ p now. rowGiving (pixelTask (a .t) p) (a .blank) 0 now p) (λ p now. stretchGiving (a .t) (a .pattern) now now p) (across false (a .x) (a .w) (a .y))
+    (λ p i now. by-none (a .t) (a .pattern) now p refl (a .masks) (a .blank) (laid .bits) (replicate 8 0) (laid .unread) free) (tallied (a .mem .now) (a .n))
 
 pattern-row-requires : tie.Need-pattern-row-requires
 pattern-row-requires c κs = search needs
@@ -57,14 +55,12 @@ returns-2 c =
     let laid = (c .before .before .before .before .before .before .before .before .before .before .before .pre .1 .1 .1 .1) in
     let quads = (c .before .before .before .quads-of) in
     let values = (c .before .before .before .before .before .row-values) in
-    let row = (c .before .before .before .before .before .before .pattern-row .ensures .0) in (
-      (c .before .before .mixed-across2 .ensures .0)
-          ∙ paint-same (a .t .ink .target) (λ p now. rowGiving (pixelTask (a .t) p) (quads .result) 0 now p) (λ p now. stretchGiving (a .t) (a .pattern) now now p) (across false (a .x) (a .w) (a .y))
-          (λ p i now. by-pattern (a .t) (a .pattern) now p (row ∙ ap (λ (y : ℕ). patternRow (a .t .ink) y) (sym (in-across false (a .x) (a .w) (a .y) p i .2))) (a .masks) (quads .result) (laid .bits)
-          (values .result) (quads .ensures) (values .ensures))
-          (state (a .mem .now) (a .n)),
-      (c .before .before .mixed-across2 .ensures .1),
-    )
+    let row = (c .before .before .before .before .before .before .pattern-row .ensures .0) in
+    (c .before .before .mixed-across2 .ensures)
+    ∙ paint-same (a .t .ink .target) (λ p now. rowGiving (pixelTask (a .t) p) (quads .result) 0 now p) (λ p now. stretchGiving (a .t) (a .pattern) now now p) (across false (a .x) (a .w) (a .y))
+    (λ p i now. by-pattern (a .t) (a .pattern) now p (row ∙ ap (λ (y : ℕ). patternRow (a .t .ink) y) (sym (in-across false (a .x) (a .w) (a .y) p i .2))) (a .masks) (quads .result) (laid .bits)
+    (values .result) (quads .ensures) (values .ensures))
+    (tallied (a .mem .now) (a .n))
 
 pub mixed-row-spec : {M : Type 1} → statement M
 mixed-row-spec =

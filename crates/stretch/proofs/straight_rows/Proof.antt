@@ -2,29 +2,37 @@
 -- Assumes nothing.
 use borrow.Author.Needs.{needs}
 use native.Mathlib.Omega.{arith}
-use mathlib.Core.Path.{refl}
-use Prim.Native.Nat.{_-_}
-use Rattle.stretch.specs.Row.{straightTouch}
-use Rattle.stretch.proofs.Taken.{can-step, steps-on, walk-place, can-take, can-row, RowsLeft, left-whole, left-again, left-none}
+use native.Mathlib.Nat.{mul-zero, mul-add, mul-le-mul}
+use mathlib.Core.Path.{_≡_, refl, ap, _∙_}
+use mathlib.Core.Bool.{false}
+use Prim.Native.Nat.{ℕ, _+_, _-_, _*_, _^_}
+use Rattle.surface.specs.Pixels.{across, origin}
+use Rattle.paint.specs.Tally.{tally}
+use Rattle.paint.specs.Paint.{state}
+use Rattle.paint.proofs.Frame.{painted-after}
+use Rattle.paint.proofs.Loops.{RowsLeft, rows-begin, rows-go-on, rows-ended}
+use Rattle.scale.specs.Scale.{walkAt}
+use Rattle.stretch.specs.Row.{straightly}
+use Rattle.stretch.proofs.Taken.{can-step, steps-on, walk-begins, walk-place, can-take, can-row}
+use Rattle.stretch.proofs.Straight.{straightlyAt}
 use Rattle.stretch.proofs.straight_rows.Statement.{statement}
 use Rattle.stretch.proofs.straight_rows.Tie as tie
 
 abbrev Inv-loop : tie.InvT-loop
-Inv-loop mem₀ t columns x y w h walk₀ n₀ j₀ mem walk n j = RowsLeft t (straightTouch t) x y w h j n mem₀ mem walk
+Inv-loop mem₀ t columns x y w h walk₀ j₀ mem walk j =
+    RowsLeft (t .ink .target) (straightlyAt t) false false x y w h mem₀ j mem (tally (w * j)) × (walk ≡ walkAt (t .rows) (origin + (y + j)))
 
 abbrev μ-loop : tie.MeasureT-loop
-μ-loop mem₀ t columns x y w h walk₀ n₀ j₀ mem walk n j = h - j
+μ-loop mem₀ t columns x y w h walk₀ j₀ mem walk j = h - j
 
 loop-holds : tie.Need-loop-holds Inv-loop μ-loop
-loop-holds c =
-    let a = (c .before .args) in
-    left-whole (a .t) (straightTouch (a .t)) (a .x) (a .y) (a .w) (a .h) (a .mem .now) (a .rows) (c .before .pre .0 .rowsAt)
+loop-holds c = let a = (c .before .args) in (rw mul-zero rows-begin, walk-begins (a .t .rows) (a .y) (c .before .pre .0 .rowsAt))
 
 sub-straight-row : tie.Need-sub-straight-row Inv-loop μ-loop
 sub-straight-row c =
     let p = (c .before .before .before .before .before .pre .0) in
     let k = (c .before .before .before .loop) in
-    omega (arith, walk-place ((c .before .before .before .before .before .args .t) .rows) _ (k .inv .here), can-take (p .can) 0 (k .j) (p .wide) (c .before .before .loop-test .taken) .top)
+    omega (arith, walk-place ((c .before .before .before .before .before .args .t) .rows) _ (k .inv .1), can-take (p .can) 0 (k .j) (p .wide) (c .before .before .loop-test .taken) .top)
 
 add-straight-row : tie.Need-add-straight-row Inv-loop μ-loop
 add-straight-row c = omega (arith, (c .before .before .before .before .before .pre .0 .can .high), (c .before .before .loop-test .taken))
@@ -33,15 +41,15 @@ straight-row-requires : tie.Need-straight-row-requires Inv-loop μ-loop
 straight-row-requires c κs =
     let p = (c .before .before .before .before .before .pre) in
     let k = (c .before .before .before .loop) in
-    let place = walk-place ((c .before .before .before .before .before .args .t) .rows) _ (k .inv .here) in
-    rw (k .inv .long, place) (can-row (p .0 .can) (k .j) (k .n) (p .0 .wide) (c .before .before .loop-test .taken) (omega (arith, p .0 .can .wide, p .0 .can .high, k .inv .few, (c .before .before .loop-test .taken))), (p .0 .columnsAt, (refl, p .1)))
+    let place = walk-place ((c .before .before .before .before .before .args .t) .rows) _ (k .inv .1) in
+    rw (k .inv .0 .long, place) (can-row (p .0 .can) (k .j) (p .0 .wide) (c .before .before .loop-test .taken), (p .0 .columnsAt, (refl, p .1)))
 
 next-requires : tie.Need-next-requires Inv-loop μ-loop
 next-requires c κs =
     let a = (c .before .before .before .before .before .before .before .before .args) in
     let rows = (c .before .before .before .before .before .before .before .before .pre .0 .can .rows) (c .before .before .before .before .before .before .before .before .pre .0 .wide) (c .before .before .before .before .before .before .before .before .pre .0 .high) in
     let k = (c .before .before .before .before .before .before .loop) in
-    can-step (a .y) (a .h) (k .j) (rows .0) (rows .1) (k .inv .here) (c .before .before .before .before .before .loop-test .taken)
+    can-step (a .y) (a .h) (k .j) (rows .0) (rows .1) (k .inv .1) (c .before .before .before .before .before .loop-test .taken)
 
 add-j : tie.Need-add-j Inv-loop μ-loop
 add-j c = search needs
@@ -56,15 +64,27 @@ loop-again c =
     let rows = p .can .rows (p .wide) (p .high) in
     let k = (c .before .before .before .before .before .before .before .loop) in
     let more = (c .before .before .before .before .before .before .loop-test .taken) in
-    let row = (c .before .before .before .straight-row) in
-    left-again (k .inv) _ _ _ (omega (arith, p .can .wide)) more (row .ensures .painted) (omega (arith, row .ensures .counted)) (row .kept .0)
-    (steps-on (a .y) (a .h) (k .j) (rows .0) (rows .1) (k .inv .here) more (c .next .ensures))
+    let next-row : a .w * (k .j + 1) ≡ a .w * k .j + a .w = omega (arith, mul-add (a .w) (k .j) 1) in (
+      rw next-row
+          (rows-go-on (k .inv .0) (a .y + k .j) more refl
+          (painted-after (a .t .ink .target) (straightly (a .t) (across false (a .x) (a .w) (a .y + k .j))) (k .mem) (tally (a .w * k .j)) (c .before .before .before .straight-row .ensures))),
+      steps-on (a .y) (a .h) (k .j) (rows .0) (rows .1) (k .inv .1) more (c .next .ensures),
+    )
+
+mul-count : tie.Need-mul-count Inv-loop μ-loop
+mul-count c =
+    let s = c .before .before .before in
+    omega (arith, mul-le-mul {n₁ = s .args .w} {m₁ = s .args .h} {n₂ = 2 ^ 13} {m₂ = 2 ^ 13} (omega (arith, s .pre .0 .can .wide)) (omega (arith, s .pre .0 .can .high)))
 
 same-length : tie.Need-same-length Inv-loop μ-loop
-same-length c = (c .before .loop .inv .long)
+same-length c = search needs
 
 returns : tie.Need-returns Inv-loop μ-loop
-returns c = left-none (c .before .loop .inv) (c .loop-test .left)
+returns c =
+    let k = c .before .loop in
+    let a = c .before .before .before .args in
+    let all : a .h ≡ k .j = omega (arith, c .loop-test .left, k .inv .0 .within) in
+    ap (λ (n : ℕ). state (k .mem) (a .w * n)) all ∙ rows-ended (k .inv .0) (c .loop-test .left)
 
 pub straight-rows-spec : {M : Type 1} → statement M
 straight-rows-spec =
@@ -80,5 +100,6 @@ straight-rows-spec =
     add-j
     loop-less
     loop-again
+    mul-count
     same-length
     returns)

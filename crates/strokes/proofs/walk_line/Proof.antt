@@ -7,33 +7,36 @@ use mathlib.Core.List.{List}
 use Prim.Native.Nat.{ℕ, _-_, _<_, _≤_}
 use lib.ListN.{length}
 use Rattle.paint.specs.declared.Source.{Source}
-use Rattle.paint.specs.Paint.{state, dab, paint}
+use Rattle.paint.specs.Tally.{tally}
+use Rattle.paint.specs.Paint.{state, tallied, dab, paint}
 use Rattle.paint.specs.Mix.{bitSource, sourced}
 use Rattle.paint.specs.Clip.{pixelAt}
 use Rattle.surface.proofs.Run.{in-rows, pixel-held}
 use Rattle.line.specs.declared.Point.{Point}
 use Rattle.line.specs.Line.{pointAt, pointCount, pointsFrom, points}
-use Rattle.line.specs.Stipple.{styleAfter}
+use Rattle.line.specs.Stipple.{stippleBit, styleAfter}
 use Rattle.strokes.specs.Walk.{walkTouches, wordOf, AtPoint, Fields}
 use Rattle.line.proofs.Sides.{count-le, longer-lt}
 use Rattle.line.proofs.PointLaws.{from-start}
 use Rattle.line.proofs.StippleLaws.{style-start, style-turn, style-done}
+use Rattle.paint.proofs.Tallies.{Upto, upto-none, upto-then, room-first}
 use Rattle.paint.proofs.Turns.{dab-at}
+use Rattle.paint.proofs.Loops.{put-upto}
 use Rattle.strokes.proofs.WalkLaws.{steps-small, walk-start, walk-next}
 use Rattle.strokes.proofs.WalkDraw.{walk-left, walk-none}
 use Rattle.strokes.proofs.walk_line.Statement.{statement}
 use Rattle.strokes.proofs.walk_line.Tie as tie
 
 abbrev Inv-loop : tie.InvT-loop
-Inv-loop mem₀ ink l pen style n t w₀ p₀ count₀ i₀ mem w p count i =
-    (paint (ink .target) (walkTouches ink pen (wordOf p) (pointsFrom l i (pointCount l - i))) (state mem count)
+Inv-loop mem₀ ink l pen style n t w₀ p₀ r₀ i₀ mem w p r i =
+    (paint (ink .target) (walkTouches ink pen (wordOf p) (pointsFrom l i (pointCount l - i))) (tallied mem r)
     ≡ paint (ink .target) (walkTouches ink pen style (points l)) (state mem₀ 0))
     × (styleAfter pen (pointCount l - i) (wordOf p) ≡ styleAfter pen (pointCount l) style)
     × (i < pointCount l → AtPoint (ink .target) l i w)
-    × Fields p × (length mem ≡ length mem₀) × (i ≤ pointCount l) × (count ≤ i)
+    × Fields p × (length mem ≡ length mem₀) × (i ≤ pointCount l) × Upto (tally 0) i r
 
 abbrev μ-loop : tie.MeasureT-loop
-μ-loop mem₀ ink l pen style n t w₀ p₀ count₀ i₀ mem w p count i = pointCount l - i
+μ-loop mem₀ ink l pen style n t w₀ p₀ r₀ i₀ mem w p r i = pointCount l - i
 
 steps-of-requires : tie.Need-steps-of-requires Inv-loop μ-loop
 steps-of-requires c κs = c .before .before .pre .ahead .line
@@ -65,11 +68,14 @@ loop-holds c =
       c .phase-of .ensures .0,
       refl,
       omega arith,
-      omega arith,
+      upto-none (tally 0),
     )
 
 point-count-requires : tie.Need-point-count-requires Inv-loop μ-loop
 point-count-requires c κs = c .before .before .before .before .before .before .before .before .before .pre .ahead .line
+
+wide-requires : tie.Need-wide-requires Inv-loop μ-loop
+wide-requires c κs = search needs
 
 phase-bit-requires : tie.Need-phase-bit-requires Inv-loop μ-loop
 phase-bit-requires c κs = c .before .before .before .loop .inv .3
@@ -77,61 +83,60 @@ phase-bit-requires c κs = c .before .before .before .loop .inv .3
 bit-source-requires : tie.Need-bit-source-requires Inv-loop μ-loop
 bit-source-requires c κs = search needs
 
-put-from-requires : tie.Need-put-from-requires Inv-loop μ-loop
-put-from-requires c κs =
-    let a = c .before .before .before .before .before .before .before .before .before .before .before .before .before .before .args in
-    let p = c .before .before .before .before .before .before .before .before .before .before .before .before .before .before .pre in
-    let k = c .before .before .before .before .before .loop in
-    let h : k .i < pointCount (a .l) = omega (arith, c .before .before .before .before .point-count .ensures) in
-    record {
-      held = rw (k .inv .4) (pixel-held (in-rows (p .flat)) (record { colour = p .surface; on = p .on (k .i) h }) _ (k .inv .2 h .at));
-      room = omega (arith, longer-lt (p .ahead .line), count-le (a .l));
-    }
+put-value-at-requires : tie.Need-put-value-at-requires Inv-loop μ-loop
+put-value-at-requires c κs =
+    let a = c .before .before .before .before .before .before .before .before .before .before .before .before .before .before .before .args in
+    let p = c .before .before .before .before .before .before .before .before .before .before .before .before .before .before .before .pre in
+    let k = c .before .before .before .before .before .before .loop in
+    let h : k .i < pointCount (a .l) = omega (arith, c .before .before .before .before .wide .ensures, c .before .before .before .before .before .point-count .ensures) in (
+      rw (k .inv .4) (pixel-held (in-rows (p .flat)) (record { colour = p .surface; on = p .on (k .i) h }) _ (k .inv .2 h .at)),
+      room-first (k .inv .6) (omega (arith, longer-lt (p .ahead .line), count-le (a .l))),
+    )
 
 walk-on-requires : tie.Need-walk-on-requires Inv-loop μ-loop
-walk-on-requires c κs = rw (c .before .before .before .before .before .before .before .before .before .before .before .before .before .before .steps-of .ensures) (steps-small (c .before .before .before .before .before .before .before .before .before .before .before .before .before .before .before .before .before .args .ink .target) (c .before .before .before .before .before .before .before .before .before .before .before .before .before .before .before .before .before .args .l) (c .before .before .before .before .before .before .before .before .before .before .before .before .before .before .before .before .before .pre .ahead .line))
+walk-on-requires c κs = rw (c .before .before .before .before .before .before .before .before .before .before .before .before .before .before .before .steps-of .ensures) (steps-small (c .before .before .before .before .before .before .before .before .before .before .before .before .before .before .before .before .before .before .args .ink .target) (c .before .before .before .before .before .before .before .before .before .before .before .before .before .before .before .before .before .before .args .l) (c .before .before .before .before .before .before .before .before .before .before .before .before .before .before .before .before .before .before .pre .ahead .line))
 
 phase-after-requires : tie.Need-phase-after-requires Inv-loop μ-loop
-phase-after-requires c κs = c .before .before .before .before .before .before .before .before .before .loop .inv .3
+phase-after-requires c κs = c .before .before .before .before .before .before .before .before .before .before .loop .inv .3
 
 add-i : tie.Need-add-i Inv-loop μ-loop
-add-i c = omega (arith, c .before .before .before .before .before .before .before .before .before .point-count .ensures)
+add-i c = omega (arith, c .before .before .before .before .before .before .before .before .before .wide .ensures, c .before .before .before .before .before .before .before .before .before .before .point-count .ensures)
 
 loop-less : tie.Need-loop-less Inv-loop μ-loop
-loop-less c = omega (arith, c .before .before .before .before .before .before .before .before .before .point-count .ensures)
+loop-less c = omega (arith, c .before .before .before .before .before .before .before .before .before .wide .ensures, c .before .before .before .before .before .before .before .before .before .before .point-count .ensures)
 
 loop-again : tie.Need-loop-again Inv-loop μ-loop
 loop-again c =
-    let a = c .before .before .before .before .before .before .before .before .before .before .before .before .before .before .before .before .before .before .before .args in
-    let p = c .before .before .before .before .before .before .before .before .before .before .before .before .before .before .before .before .before .before .before .pre in
-    let k = c .before .before .before .before .before .before .before .before .before .before .loop in
+    let a = c .before .before .before .before .before .before .before .before .before .before .before .before .before .before .before .before .before .before .before .before .args in
+    let p = c .before .before .before .before .before .before .before .before .before .before .before .before .before .before .before .before .before .before .before .before .pre in
+    let k = c .before .before .before .before .before .before .before .before .before .before .before .loop in
     let s = a .ink .target in
-    let h : k .i < pointCount (a .l) = omega (arith, c .before .before .before .before .before .before .before .before .before .point-count .ensures) in
+    let h : k .i < pointCount (a .l) = omega (arith, c .before .before .before .before .before .before .before .before .before .wide .ensures, c .before .before .before .before .before .before .before .before .before .before .point-count .ensures) in
     let at = k .inv .2 h in
     let q = pointAt (a .l) (k .i) in
-    let put = c .before .before .before .before .put-from .ensures .0 ∙ dab-at s (in-rows (p .flat)) (pixelAt (q .x) (q .y)) _ (sourced _) (state (k .mem) (k .count)) (at .at)
-    ∙ ap (λ (source : Source). dab s (pixelAt (q .x) (q .y)) (sourced source) (state (k .mem) (k .count))) (c .before .before .before .before .before .bit-source .ensures ∙ ap (bitSource (a .ink)) (c .before .before .before .before .before .before .phase-bit .ensures)) in (
-      walk-left (a .ink) (a .pen) (a .l) (k .i) (pointCount (a .l)) (wordOf (k .p)) (state (k .mem) (k .count)) h (c .phase-after .ensures .1) put ∙ k .inv .0,
+    let put = c .before .before .before .before .put-value-at .ensures ∙ dab-at s (in-rows (p .flat)) (pixelAt (q .x) (q .y)) _ (sourced (c .before .before .before .before .before .before .bit-source .result)) (tallied (k .mem) (k .tally)) (at .at)
+    ∙ ap (λ (source : Source). dab s (pixelAt (q .x) (q .y)) (sourced source) (tallied (k .mem) (k .tally))) (c .before .before .before .before .before .before .bit-source .ensures ∙ ap (bitSource (a .ink)) (c .before .before .before .before .before .before .before .phase-bit .ensures)) in (
+      walk-left (a .ink) (a .pen) (a .l) (k .i) (pointCount (a .l)) (wordOf (k .p)) (tallied (k .mem) (k .tally)) h (c .phase-after .ensures .1) put ∙ k .inv .0,
       style-turn (a .pen) (k .i) (pointCount (a .l)) (wordOf (k .p)) _ h (c .phase-after .ensures .1) ∙ k .inv .1,
-      (λ g. rw (c .before .walk-on .ensures, c .before .before .before .before .before .before .before .before .before .before .before .before .before .before .before .before .steps-of .ensures) (walk-next s (p .flat) (p .surface .small) (a .l) (p .ahead) (k .i) (omega (arith, count-le (a .l))) (k .w) at)),
+      (λ g. rw (c .before .walk-on .ensures, c .before .before .before .before .before .before .before .before .before .before .before .before .before .before .before .before .before .steps-of .ensures) (walk-next s (p .flat) (p .surface .small) (a .l) (p .ahead) (k .i) (omega (arith, count-le (a .l))) (k .w) at)),
       c .phase-after .ensures .0,
-      c .before .before .before .before .put-from .kept .0 ∙ k .inv .4,
+      c .before .before .before .before .put-value-at .kept .0 ∙ k .inv .4,
       omega arith,
-      omega (arith, c .before .before .before .before .put-from .ensures .1),
+      upto-then (k .inv .6) (put-upto s (pixelAt (q .x) (q .y)) (sourced (bitSource (a .ink) (stippleBit (a .pen) (wordOf (k .p))))) (k .mem) (k .tally) put),
     )
 
 style-of-requires : tie.Need-style-of-requires Inv-loop μ-loop
-style-of-requires c κs = c .before .before .loop .inv .3
+style-of-requires c κs = c .before .before .before .loop .inv .3
 
 same-length : tie.Need-same-length Inv-loop μ-loop
 same-length c = search needs
 
 returns : tie.Need-returns Inv-loop μ-loop
 returns c =
-    let a = c .before .before .before .before .before .before .before .before .before .before .before .before .args in
-    let k = c .before .before .before .loop in
-    let h : pointCount (a .l) ≤ k .i = omega (arith, c .before .before .point-count .ensures) in (
-      sym (walk-none (a .ink) (a .pen) (a .l) (k .i) (pointCount (a .l)) (wordOf (k .p)) (state (k .mem) (k .count)) h) ∙ k .inv .0,
+    let a = c .before .before .before .before .before .before .before .before .before .before .before .before .before .args in
+    let k = c .before .before .before .before .loop in
+    let h : pointCount (a .l) ≤ k .i = omega (arith, c .before .before .wide .ensures, c .before .before .before .point-count .ensures) in (
+      sym (walk-none (a .ink) (a .pen) (a .l) (k .i) (pointCount (a .l)) (wordOf (k .p)) (tallied (k .mem) (k .tally)) h) ∙ k .inv .0,
       c .style-of .ensures ∙ sym (style-done (a .pen) (k .i) (pointCount (a .l)) (wordOf (k .p)) h) ∙ k .inv .1,
     )
 
@@ -149,9 +154,10 @@ walk-line-spec =
     phase-of-requires
     loop-holds
     point-count-requires
+    wide-requires
     phase-bit-requires
     bit-source-requires
-    put-from-requires
+    put-value-at-requires
     walk-on-requires
     phase-after-requires
     add-i

@@ -6,7 +6,7 @@ use lib.ListN.{replicate}
 use borrow.Author.Needs.{needs}
 use Rattle.surface.specs.Pixels.{across}
 use Rattle.surface.proofs.Rects.{in-across}
-use Rattle.paint.specs.Paint.{state}
+use Rattle.paint.specs.Paint.{tallied}
 use Rattle.ink.specs.Pattern.{patternRow}
 use Rattle.sweep.specs.Copy.{giving}
 use Rattle.sweep.specs.Row.{rowGiving}
@@ -36,14 +36,12 @@ returns c =
     let laid = c .before .before .before .before .before .before .before .before .before .before .pre .1 .1 in
     let free = sym (c .before .before .before .before .before .is-patternless .ensures) ∙ c .before .before .before .before .if1 .taken in
     let bits = c .before .before .before .before .before .before .pattern-byte .ensures .0 in
-    let row = c .before .before .before .before .before .before .before .pattern-row .ensures .0 in (
-      c .before .before .paint-across .ensures .0
-          ∙ paint-same (a .t .ink .target) (λ p now. rowGiving (a .t) (a .blank) _ now p) (λ p now. giving (a .t) (a .pattern) now now p) (across (a .back) (a .t .x) (a .w) (a .y))
-          (λ p i now. by-no-row (a .t) (a .pattern) now p (row ∙ ap (λ (y : ℕ). patternRow (a .t .ink) y) (sym (in-across (a .back) (a .t .x) (a .w) (a .y) p i .2))) bits (a .masks) (a .blank)
-          (laid .bits) (replicate 8 0) (laid .unread) free)
-          (state (a .mem .now) (a .n)),
-      c .before .before .paint-across .ensures .1,
-    )
+    let row = c .before .before .before .before .before .before .before .pattern-row .ensures .0 in
+    c .before .before .paint-across .ensures
+    ∙ paint-same (a .t .ink .target) (λ p now. rowGiving (a .t) (a .blank) _ now p) (λ p now. giving (a .t) (a .pattern) now now p) (across (a .back) (a .t .x) (a .w) (a .y))
+    (λ p i now. by-no-row (a .t) (a .pattern) now p (row ∙ ap (λ (y : ℕ). patternRow (a .t .ink) y) (sym (in-across (a .back) (a .t .x) (a .w) (a .y) p i .2))) bits (a .masks) (a .blank)
+    (laid .bits) (replicate 8 0) (laid .unread) free)
+    (tallied (a .mem .now) (a .n))
 
 row-values-requires : tie.Need-row-values-requires
 row-values-requires c κs = search needs
@@ -64,14 +62,12 @@ returns-2 c =
     let quads = c .before .before .before .before .quads-of in
     let values = c .before .before .before .before .before .row-values in
     let bits = c .before .before .before .before .before .before .before .before .pattern-byte .ensures .0 in
-    let row = c .before .before .before .before .before .before .before .before .before .pattern-row .ensures .0 in (
-      c .before .before .paint-across2 .ensures .0
-          ∙ paint-same (a .t .ink .target) (λ p now. rowGiving (a .t) (quads .result) _ now p) (λ p now. giving (a .t) (a .pattern) now now p) (across (a .back) (a .t .x) (a .w) (a .y))
-          (λ p i now. by-row (a .t) (a .pattern) now p (row ∙ ap (λ (y : ℕ). patternRow (a .t .ink) y) (sym (in-across (a .back) (a .t .x) (a .w) (a .y) p i .2))) bits (a .masks) (quads .result)
-          (laid .bits) (values .result) (values .ensures) (quads .ensures))
-          (state (a .mem .now) (a .n)),
-      c .before .before .paint-across2 .ensures .1,
-    )
+    let row = c .before .before .before .before .before .before .before .before .before .pattern-row .ensures .0 in
+    c .before .before .paint-across2 .ensures
+    ∙ paint-same (a .t .ink .target) (λ p now. rowGiving (a .t) (quads .result) _ now p) (λ p now. giving (a .t) (a .pattern) now now p) (across (a .back) (a .t .x) (a .w) (a .y))
+    (λ p i now. by-row (a .t) (a .pattern) now p (row ∙ ap (λ (y : ℕ). patternRow (a .t .ink) y) (sym (in-across (a .back) (a .t .x) (a .w) (a .y) p i .2))) bits (a .masks) (quads .result)
+    (laid .bits) (values .result) (values .ensures) (quads .ensures))
+    (tallied (a .mem .now) (a .n))
 
 pub paint-row-spec : {M : Type 1} → statement M
 paint-row-spec =

@@ -1,26 +1,27 @@
 -- `tint::tint_across` meets its contract: the bytes are changed first, and then the pixels written are counted.
 -- Assumes nothing.
 use native.Mathlib.Omega.{arith}
-use mathlib.Core.Path.{_≡_, sym, ap₂, _∙_}
+use mathlib.Core.Path.{_≡_, refl, ap, ap₂, _∙_}
 use Prim.Native.Nat.{ℕ, _+_, _-_, _*_, _<_, _≤_}
 use lib.ListN.{getD}
 use borrow.Author.Needs.{needs}
-use Rattle.paint.specs.Paint.{state}
+use Rattle.paint.specs.Tally.{noted}
+use Rattle.paint.specs.Paint.{tallied}
+use Rattle.paint.proofs.Tallies.{room-less}
 use Rattle.tint.specs.Masking.{blended}
 use Rattle.tint.proofs.ByteLaws.{in-table}
-use Rattle.tint.proofs.RowLaws.{total, total-turn, total-none, row-blended, row-held}
+use Rattle.tint.proofs.RowLaws.{total, total-more, row-blended, row-held}
 use Rattle.tint.proofs.tint_across.Statement.{statement}
 use Rattle.tint.proofs.tint_across.Tie as tie
 
 abbrev Inv-loop : tie.InvT-loop
-Inv-loop mem bytes keep flip adds first x w y n at many from r₀ i₀ r i =
-    (r + total adds (first + i) (w - i) ≡ n + total adds first w) × (i ≤ w) × (r ≤ n + i)
+Inv-loop mem bytes keep flip adds first x w y n at many from more₀ i₀ more i = (more ≡ total adds first i) × (i ≤ w) × (more ≤ i)
 
 abbrev μ-loop : tie.MeasureT-loop
-μ-loop mem bytes keep flip adds first x w y n at many from r₀ i₀ r i = w - i
+μ-loop mem bytes keep flip adds first x w y n at many from more₀ i₀ more i = w - i
 
-abbrev start : tie.In-loop Inv-loop μ-loop → tie.Start Inv-loop μ-loop
-start c = c .before .before .before .before .before .before .before .before .before .before
+abbrev start : tie.After-slice-known2 Inv-loop μ-loop → tie.Start Inv-loop μ-loop
+start c = c .before .before .before .before .before .before .before .before
 
 -- the masks' bytes are in their tables
 room : (c : tie.Start Inv-loop μ-loop) → c .args .first * c .args .bytes + c .args .w * c .args .bytes ≤ 256
@@ -53,33 +54,30 @@ tint-bytes-requires c κs =
     )
 
 loop-holds : tie.Need-loop-holds Inv-loop μ-loop
-loop-holds c =
-    let a = c .before .before .before .before .before .before .before .before .args in
-    let e : a .first + 0 ≡ a .first = omega arith in
-    let f : a .w - 0 ≡ a .w = omega arith in
-    (rw (e, f), omega arith, omega arith)
+unfolding total
+loop-holds c = (refl, omega arith, omega arith)
 
 -- the number of a mask, and that it counts one pixel at most
-within : (c : tie.In-loop Inv-loop μ-loop) → start c .args .first + c .before .loop .i < 64
-within c = let p = start c .pre in omega (arith, p .0 .eight, p .2, c .loop-test .taken)
+within : (c : tie.In-loop Inv-loop μ-loop) → start (c .before .before) .args .first + c .before .loop .i < 64
+within c = let p = start (c .before .before) .pre in omega (arith, p .0 .eight, p .2, c .loop-test .taken)
 
-one : (c : tie.In-loop Inv-loop μ-loop) → getD (start c .args .adds .now) (start c .args .first + c .before .loop .i) 0 ≤ 1
-one c = let p = start c .pre in p .0 .sound (c .before .loop .i) (omega (arith, p .2, c .loop-test .taken)) .few
+one : (c : tie.In-loop Inv-loop μ-loop) → getD (start (c .before .before) .args .adds .now) (start (c .before .before) .args .first + c .before .loop .i) 0 ≤ 1
+one c = let p = start (c .before .before) .pre in p .0 .sound (c .before .loop .i) (omega (arith, p .2, c .loop-test .taken)) .few
 
-add-r : tie.Need-add-r Inv-loop μ-loop
-add-r c = omega (arith, within c)
+add-more : tie.Need-add-more Inv-loop μ-loop
+add-more c = omega (arith, within c)
 
-cast-r : tie.Need-cast-r Inv-loop μ-loop
-cast-r c = omega (arith, within c)
+cast-more : tie.Need-cast-more Inv-loop μ-loop
+cast-more c = omega (arith, within c)
 
-mul-r : tie.Need-mul-r Inv-loop μ-loop
-mul-r c = omega (arith, within c)
+mul-more : tie.Need-mul-more Inv-loop μ-loop
+mul-more c = omega (arith, within c)
 
-element-copy-out-r : tie.Need-element-copy-out-r Inv-loop μ-loop
-element-copy-out-r c = omega (arith, within c)
+element-copy-out-more : tie.Need-element-copy-out-more Inv-loop μ-loop
+element-copy-out-more c = omega (arith, within c)
 
-add-r-2 : tie.Need-add-r-2 Inv-loop μ-loop
-add-r-2 c = omega (arith, one (c .before), start (c .before) .pre .0 .on .room, c .before .before .loop .inv .2, c .before .loop-test .taken)
+add-more-2 : tie.Need-add-more-2 Inv-loop μ-loop
+add-more-2 c = omega (arith, one (c .before), start (c .before .before .before) .pre .2, c .before .before .loop .inv .2, c .before .loop-test .taken)
 
 add-i : tie.Need-add-i Inv-loop μ-loop
 add-i c = search needs
@@ -89,29 +87,29 @@ loop-less c = search needs
 
 loop-again : tie.Need-loop-again Inv-loop μ-loop
 loop-again c =
-    let a = start (c .before) .args in
+    let a = start (c .before .before .before) .args in
     let l = c .before .before .loop in
-    let taken = c .before .loop-test .taken in
-    (total-turn (a .adds .now) (a .first) (a .w) (l .i) (l .r) taken ∙ l .inv .0, omega (arith, taken), omega (arith, one (c .before), l .inv .2))
+    (omega (arith, l .inv .0, total-more (a .adds .now) (a .first) (l .i)), omega (arith, c .before .loop-test .taken), omega (arith, one (c .before), l .inv .2))
+
+note-requires : tie.Need-note-requires Inv-loop μ-loop
+note-requires c κs = room-less (start (c .before .before) .pre .0 .room) (omega (arith, c .before .loop .inv))
 
 same-length : tie.Need-same-length Inv-loop μ-loop
-same-length c = c .before .before .before .before .tint-bytes .kept .0
+same-length c = c .before .before .before .before .before .tint-bytes .kept .0
 
 returns : tie.Need-returns Inv-loop μ-loop
 returns c =
-    let l = c .before .loop in
-    let b = c .before .before .before .before in
-    let s = b .before .before .before .before .before .before in
-    let a = s .args in
-    let p = s .pre in (
-      ap₂ state
-          (b .tint-bytes .ensures ∙ ap₂ (λ (at n : ℕ). blended (a .keep .now) (a .flip .now) (a .first * n) at (a .w * n) (a .mem .now)) (b .before .before .place-in-rows .ensures) (p .1))
-          (sym (total-none (a .adds .now) (a .first) (a .w) (l .i) (l .r) (c .loop-test .left)) ∙ l .inv .0)
-          ∙ row-blended (a .s) (a .keep .now) (a .flip .now) (a .adds .now) (a .first) (a .x) (a .y) (p .0 .flat) (p .0 .colour .some) (p .0 .colour .small .bytes)
-          (λ i. omega (arith, b .before .before .before .before .shared-slice-known .given i)) (λ i. omega (arith, b .before .before .before .shared-slice-known2 .given i))
-          (p .0 .sound) (a .w) (a .n) (a .mem .now) (p .2) (λ i. omega (arith, b .before .before .before .before .before .slice-known .given i)),
-      omega (arith, l .inv .1, l .inv .2),
-    )
+    let l = c .before .before .loop in
+    let b = c .before .before .before .before .before in
+    let a = start (c .before .before .before) .args in
+    let p = start (c .before .before .before) .pre in
+    let end : l .i ≡ a .w = omega (arith, l .inv .1, c .before .loop-test .left) in
+    ap₂ tallied
+    (b .tint-bytes .ensures ∙ ap₂ (λ (at n : ℕ). blended (a .keep .now) (a .flip .now) (a .first * n) at (a .w * n) (a .mem .now)) (b .before .before .place-in-rows .ensures) (p .1))
+    (c .note .ensures ∙ ap (λ (k : ℕ). noted k (a .n)) (l .inv .0 ∙ ap (total (a .adds .now) (a .first)) end))
+    ∙ row-blended (a .s) (a .keep .now) (a .flip .now) (a .adds .now) (a .first) (a .x) (a .y) (p .0 .flat) (p .0 .colour .some) (p .0 .colour .small .bytes)
+    (λ i. omega (arith, b .before .before .before .before .shared-slice-known .given i)) (λ i. omega (arith, b .before .before .before .shared-slice-known2 .given i))
+    (p .0 .sound) (a .w) (a .n) (a .mem .now) (p .2) (λ i. omega (arith, b .before .before .before .before .before .slice-known .given i))
 
 pub tint-across-spec : {M : Type 1} → statement M
 tint-across-spec =
@@ -126,13 +124,14 @@ tint-across-spec =
     cast-from
     tint-bytes-requires
     loop-holds
-    add-r
-    cast-r
-    mul-r
-    element-copy-out-r
-    add-r-2
+    add-more
+    cast-more
+    mul-more
+    element-copy-out-more
+    add-more-2
     add-i
     loop-less
     loop-again
+    note-requires
     same-length
     returns)
