@@ -22,9 +22,9 @@ use Rattle.paint.specs.Mix.{mixed}
 use Rattle.ink.specs.Pattern.{patternValue}
 use Rattle.paint.specs.Clip.{inClip, pixelAt}
 use Rattle.paint.specs.Asked.{Room}
-use Rattle.paint.proofs.Tallies.{Upto, upto-none, upto-then, upto-more, room-first}
+use Rattle.paint.proofs.Tallies.{room-first}
 use Rattle.paint.proofs.Turns.{paint-append}
-use Rattle.paint.proofs.Loops.{painted-length, painted-upto}
+use Rattle.paint.proofs.Loops.{Left, left-begins, left-takes, left-ended}
 use Rattle.host.specs.declared.Feed.{Feed}
 use Rattle.host.specs.Host.{Pixel, pixel, valueOf, whole, run, byByte, byBytes, byWord}
 use Rattle.host.specs.Asked.{Sizes}
@@ -77,37 +77,17 @@ module _ (ink : Ink) (pattern : List ℕ) (c : Clip) (feed : Feed) where
       by-test true t ts l = omega arith
       by-test false t ts l = omega arith
 
-  drawn-upto : (ps : List Pixel) (m : List ℕ) (n : Tally) {m′ : List ℕ} {r : Tally} → tallied m′ r ≡ drawn ink pattern c feed ps (tallied m n) → Upto n (length ps) r
-  drawn-upto ps m n put = upto-more (painted-upto (ink .target) (hostTouches ink pattern c feed ps) m n put) (touches-length ps)
+  -- ---- a loop that draws: a turn draws the front of what is left
+  pub draw-takes : (rest ps rest′ : List Pixel) {all : List Touch} {m₀ : List ℕ} {n : Tally} {k k′ : ℕ} {m m′ : List ℕ} {r r′ : Tally}
+      → Left (ink .target) all m₀ n k (hostTouches ink pattern c feed rest) m r → rest ≡ ps ++ rest′ → k + length ps ≤ k′
+      → tallied m′ r′ ≡ drawn ink pattern c feed ps (tallied m r) → Left (ink .target) all m₀ n k′ (hostTouches ink pattern c feed rest′) m′ r′
+  draw-takes rest ps rest′ left e fits put =
+      left-takes left (hostTouches ink pattern c feed ps) (ap (hostTouches ink pattern c feed) e ∙ touches-append ps rest′) (omega (arith, touches-length ps)) put
 
--- ---- a loop that draws: what is left, drawn on the state now, is all of it drawn on the state at the start, and at most k pixels were written
-pub record DrawLeft (ink : Ink) (pattern : List ℕ) (c : Clip) (feed : Feed) (all : List Pixel) (m₀ : List ℕ) (n : Tally) (k : ℕ) (rest : List Pixel) (m : List ℕ) (r : Tally)
-    : Type 0 where
-  pub draws : drawn ink pattern c feed rest (tallied m r) ≡ drawn ink pattern c feed all (tallied m₀ n)
-  pub long : length m ≡ length m₀
-  pub upto : Upto n k r
-
-module _ {ink : Ink} {pattern : List ℕ} {c : Clip} {feed : Feed} {all : List Pixel} {m₀ : List ℕ} {n : Tally} where
-  pub draw-begins : {k : ℕ} {rest : List Pixel} → rest ≡ all → DrawLeft ink pattern c feed all m₀ n k rest m₀ n
-  draw-begins e = record {
-    draws = ap (λ (ps : List Pixel). drawn ink pattern c feed ps (tallied m₀ n)) e;
-    long = refl;
-    upto = upto-more (upto-none n) (omega arith);
-  }
-
-  module _ {k : ℕ} {rest : List Pixel} {m : List ℕ} {r : Tally} (left : DrawLeft ink pattern c feed all m₀ n k rest m r) where
-    -- a turn draws the front of what is left
-    pub draw-goes-on : (ps rest′ : List Pixel) {k′ : ℕ} {m′ : List ℕ} {r′ : Tally} → rest ≡ ps ++ rest′ → k + length ps ≤ k′
-        → tallied m′ r′ ≡ drawn ink pattern c feed ps (tallied m r) → DrawLeft ink pattern c feed all m₀ n k′ rest′ m′ r′
-    draw-goes-on ps rest′ e fits put = record {
-      draws = ap (drawn ink pattern c feed rest′) put ∙ sym (drawn-append ink pattern c feed ps rest′ (tallied m r))
-          ∙ ap (λ (l : List Pixel). drawn ink pattern c feed l (tallied m r)) (sym e) ∙ left .draws;
-      long = painted-length (ink .target) (hostTouches ink pattern c feed ps) m r put ∙ left .long;
-      upto = upto-more (upto-then (left .upto) (drawn-upto ink pattern c feed ps m r put)) fits;
-    }
-
-    pub draw-ended : rest ≡ [] → tallied m r ≡ drawn ink pattern c feed all (tallied m₀ n)
-    draw-ended e = none-drawn ink pattern c feed (tallied m r) e ∙ left .draws
+  pub draw-ended : {all : List Touch} {rest : List Pixel} {m₀ : List ℕ} {n : Tally} {k : ℕ} {m : List ℕ} {r : Tally}
+      → rest ≡ [] → Left (ink .target) all m₀ n k (hostTouches ink pattern c feed rest) m r → tallied m r ≡ paint (ink .target) all (tallied m₀ n)
+  unfolding hostTouches
+  draw-ended e left = left-ended left (ap (hostTouches ink pattern c feed) e)
 
 -- ---- the pixels of a byte, and the bytes of a word
 module _ (feed : Feed) (last word : ℕ) where
@@ -156,12 +136,12 @@ module _ (feed : Feed) (last word : ℕ) where
 
 -- ---- the loop over the bytes of word number k: t of them are taken
 pub record WordLeft (ink : Ink) (pattern : List ℕ) (c : Clip) (feed : Feed) (last word k : ℕ) (m₀ : List ℕ) (t : ℕ) (m : List ℕ) (r : Tally) : Type 0 where
-  pub left : DrawLeft ink pattern c feed (byWord feed last word k) m₀ (tally 0) (2 ^ 13 * t) (byBytes feed last word (4 * k + t) (4 - t)) m r
+  pub left : Left (ink .target) (hostTouches ink pattern c feed (byWord feed last word k)) m₀ (tally 0) (2 ^ 13 * t) (hostTouches ink pattern c feed (byBytes feed last word (4 * k + t) (4 - t))) m r
 
 module _ {ink : Ink} {pattern : List ℕ} {c : Clip} {feed : Feed} {last word k : ℕ} {m₀ : List ℕ} where
   pub word-begins : WordLeft ink pattern c feed last word k m₀ 0 m₀ (tally 0)
   unfolding byWord
-  word-begins = record { left = draw-begins (ap (λ (o : ℕ). byBytes feed last word o 4) (add-zero (4 * k))) }
+  word-begins = record { left = left-begins (ap (λ (o : ℕ). hostTouches ink pattern c feed (byBytes feed last word o 4)) (add-zero (4 * k))) }
 
   module _ {t : ℕ} {m : List ℕ} {r : Tally} (now : WordLeft ink pattern c feed last word k m₀ t m r) where
     pub word-room : Sizes feed → t < 4 → Room r (feed .width)
@@ -173,10 +153,10 @@ module _ {ink : Ink} {pattern : List ℕ} {c : Clip} {feed : Feed} {last word k 
         let e : 4 - t ≡ n + (4 - (t + n)) = omega arith in
         let a : 4 * k + (t + n) ≡ 4 * k + t + n = omega arith in
         record {
-          left = draw-goes-on (now .left) (byBytes feed last word (4 * k + t) n) _ (rw (e, a) (bytes-append feed last word (4 * k + t) n (4 - (t + n))))
+          left = draw-takes ink pattern c feed (byBytes feed last word (4 * k + t) (4 - t)) (byBytes feed last word (4 * k + t) n) _ (now .left) (rw (e, a) (bytes-append feed last word (4 * k + t) n (4 - (t + n))))
               (omega (arith, bytes-length feed last word (omega (arith, sizes .width)) (4 * k + t) n)) put;
         }
 
     pub word-ended : 4 ≤ t → tallied m r ≡ drawn ink pattern c feed (byWord feed last word k) (state m₀ 0)
     unfolding byBytes
-    word-ended all = let e : 4 - t ≡ 0 = omega arith in draw-ended (now .left) (rw e)
+    word-ended all = let e : 4 - t ≡ 0 = omega arith in draw-ended ink pattern c feed {rest = byBytes feed last word (4 * k + t) (4 - t)} (rw e) (now .left)

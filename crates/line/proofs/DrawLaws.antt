@@ -3,7 +3,7 @@
 use mathlib.Core.Path.{_≡_, refl, sym, ap, ap₂, subst, _∙_}
 use mathlib.Core.Logic.{⊎-elim}
 use mathlib.Core.Bool.{Bool, true, false, not, _&&_, _||_, and-true}
-use mathlib.Core.List.{List, [], _∷_, map, List·Memᴰ, List·Memᴰ·head, List·Memᴰ·tail, List·Memᴰ·not-nil, List·Memᴰ·cases-cons, Memᴰ·map}
+use mathlib.Core.List.{List, [], _∷_, _++_, map, List·Memᴰ, List·Memᴰ·head, List·Memᴰ·tail, List·Memᴰ·not-nil, List·Memᴰ·cases-cons, Memᴰ·map}
 use Prim.Native.Nat.{ℕ, zero, suc, _+_, _-_, _<_, _≤_, min, max}
 use native.Mathlib.Omega.{arith}
 use lib.ListN.{length}
@@ -148,12 +148,6 @@ module _ (s : Surface) (len : ℕ) (c : Clip) (p : Point) (ps : List Point) wher
   unfolding lineOff
   off-turn = rw on-turn (not-and (allOn s len (coveredPoints c (p ∷ []))) (allOn s len (coveredPoints c ps)))
 
-pub paint-turn : (ink : Ink) (pattern : List ℕ) (c : Clip) (pen : Pen) (style : ℕ) (p : Point) (ps : List Point) (st : State)
-    → paint (ink .target) (lineTouches ink pattern c pen style (p ∷ ps)) st
-    ≡ paint (ink .target) (lineTouches ink pattern c pen (after pen style) ps) (paint (ink .target) (lineTouches ink pattern c pen style (p ∷ [])) st)
-unfolding paint lineTouches
-paint-turn ink pattern c pen style p ps st = either (inClip c (p .x) (p .y)) (λ e. rw e) (λ e. rw e)
-
 -- ---- the points that a loop has left
 module _ (s : Surface) (len : ℕ) (c : Clip) (l : Line) (i e : ℕ) where
   pub on-left : i < e → allOn s len (coveredPoints c (pointsFrom l i (e - i))) ≡ true
@@ -170,13 +164,13 @@ module _ (s : Surface) (len : ℕ) (c : Clip) (l : Line) (i e : ℕ) where
   unfolding lineOff allOn coveredPoints
   off-none h = rw (from-none l i e h)
 
-module _ (ink : Ink) (pattern : List ℕ) (c : Clip) (pen : Pen) (l : Line) (i e style : ℕ) (st : State) where
-  pub paint-left : {p : Point} {next : ℕ} {st′ : State} → i < e → p ≡ pointAt l i → next ≡ after pen style
-      → st′ ≡ paint (ink .target) (lineTouches ink pattern c pen style (p ∷ [])) st
-      → paint (ink .target) (lineTouches ink pattern c pen next (pointsFrom l (i + 1) (e - (i + 1)))) st′
-      ≡ paint (ink .target) (lineTouches ink pattern c pen style (pointsFrom l i (e - i))) st
-  paint-left h p n q = rw (from-cons l i e h, q, n, p) (sym (paint-turn ink pattern c pen style (pointAt l i) (pointsFrom l (i + 1) (e - (i + 1))) st))
+module _ (ink : Ink) (pattern : List ℕ) (c : Clip) (pen : Pen) (l : Line) (i e style : ℕ) where
+  pub touches-left : {p : Point} {next : ℕ} → i < e → p ≡ pointAt l i → next ≡ after pen style
+      → lineTouches ink pattern c pen style (pointsFrom l i (e - i))
+      ≡ lineTouches ink pattern c pen style (p ∷ []) ++ lineTouches ink pattern c pen next (pointsFrom l (i + 1) (e - (i + 1)))
+  unfolding lineTouches
+  touches-left h p n = rw (from-cons l i e h, n, p) (either (inClip c (pointAt l i .x) (pointAt l i .y)) (λ t. rw t) (λ t. rw t))
 
-  pub paint-none : e ≤ i → paint (ink .target) (lineTouches ink pattern c pen style (pointsFrom l i (e - i))) st ≡ st
-  unfolding paint lineTouches
-  paint-none h = rw (from-none l i e h)
+  pub touches-none : e ≤ i → lineTouches ink pattern c pen style (pointsFrom l i (e - i)) ≡ []
+  unfolding lineTouches
+  touches-none h = rw (from-none l i e h)

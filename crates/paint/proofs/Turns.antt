@@ -1,6 +1,6 @@
--- What a turn of a painting loop does: what remains, painted on the state after it, is what remained before it, painted on the state before.
+-- What remains of a row, and of the rows of a rectangle, after some turns of a loop; and what painting asks for.
 -- Assumes nothing.
-use mathlib.Core.Path.{_≡_, refl, sym, ap, _∙_}
+use mathlib.Core.Path.{_≡_, refl, ap, _∙_}
 use mathlib.Core.Bool.{Bool, true, false}
 use mathlib.Core.List.{List, [], _∷_, _++_, map, List·Memᴰ, List·Memᴰ·head, List·Memᴰ·tail}
 use mathlib.Core.Option.{Option, none, some}
@@ -29,12 +29,12 @@ unfolding row-left
 row-whole false x w y = let p : x + 0 ≡ x = omega arith in let q : w - 0 ≡ w = omega arith in rw (p, q)
 row-whole true x w y = let q : w - 0 ≡ w = omega arith in rw q
 
-row-turn : (l : Bool) (x w i y : ℕ) → i < w → row-left l x w i y ≡ px (nth l x w i) y ∷ row-left l x w (i + 1) y
+pub row-turn : (l : Bool) (x w i y : ℕ) → i < w → row-left l x w i y ≡ px (nth l x w i) y ∷ row-left l x w (i + 1) y
 unfolding row-left across
 row-turn false x w i y h = let q : w - i ≡ suc (w - (i + 1)) = omega arith in let p : x + i + 1 ≡ x + (i + 1) = omega arith in rw (q, p)
 row-turn true x w i y h = let q : w - i ≡ suc (w - (i + 1)) = omega arith in let p : w - 1 - i ≡ w - (i + 1) = omega arith in rw (q, p)
 
-row-done : (l : Bool) (x w i y : ℕ) → w ≤ i → row-left l x w i y ≡ []
+pub row-done : (l : Bool) (x w i y : ℕ) → w ≤ i → row-left l x w i y ≡ []
 unfolding row-left across
 row-done l x w i y h = let q : w - i ≡ 0 = omega arith in rw q
 
@@ -43,12 +43,12 @@ unfolding rows-left
 rows-whole l false x y w h = let p : y + 0 ≡ y = omega arith in let q : h - 0 ≡ h = omega arith in rw (p, q)
 rows-whole l true x y w h = let q : h - 0 ≡ h = omega arith in rw q
 
-rows-turn : (l t : Bool) (x y w h j : ℕ) → j < h → rows-left l t x y w h j ≡ across l x w (nth t y h j) ++ rows-left l t x y w h (j + 1)
+pub rows-turn : (l t : Bool) (x y w h j : ℕ) → j < h → rows-left l t x y w h j ≡ across l x w (nth t y h j) ++ rows-left l t x y w h (j + 1)
 unfolding rows-left rect
 rows-turn l false x y w h j g = let q : h - j ≡ suc (h - (j + 1)) = omega arith in let p : y + j + 1 ≡ y + (j + 1) = omega arith in rw (q, p)
 rows-turn l true x y w h j g = let q : h - j ≡ suc (h - (j + 1)) = omega arith in let p : h - 1 - j ≡ h - (j + 1) = omega arith in rw (q, p)
 
-rows-done : (l t : Bool) (x y w h j : ℕ) → h ≤ j → rows-left l t x y w h j ≡ []
+pub rows-done : (l t : Bool) (x y w h j : ℕ) → h ≤ j → rows-left l t x y w h j ≡ []
 unfolding rows-left rect
 rows-done l t x y w h j g = let q : h - j ≡ 0 = omega arith in rw q
 
@@ -62,32 +62,6 @@ pub paint-append : (s : Surface) (ts us : List Touch) (st : State) → paint s (
 unfolding paint
 paint-append s [] us st = refl
 paint-append s (t ∷ ts) us st = paint-append s ts us (dab s (t .at) (t .gives (st .mem)) st)
-
-map-append : (f : Px → Touch) (ps qs : List Px) → map f (ps ++ qs) ≡ map f ps ++ map f qs
-map-append f [] qs = refl
-map-append f (p ∷ ps) qs = ap (λ (ts : List Touch). f p ∷ ts) (map-append f ps qs)
-
-module _ (s : Surface) (f : Px → Touch) where
-  pub row-again : (l : Bool) (x₀ w i y x : ℕ) (st st′ : State) → i < w → x ≡ nth l x₀ w i
-      → st′ ≡ dab s (f (px x y) .at) (f (px x y) .gives (st .mem)) st
-      → paint s (map f (row-left l x₀ w (i + 1) y)) st′ ≡ paint s (map f (row-left l x₀ w i y)) st
-  unfolding paint
-  row-again l x₀ w i y x st st′ h e p = rw (row-turn l x₀ w i y h, ← e, p)
-
-  pub row-ends : (l : Bool) (x w i y : ℕ) (st : State) → w ≤ i → st ≡ paint s (map f (row-left l x w i y)) st
-  unfolding paint
-  row-ends l x w i y st h = rw (row-done l x w i y h)
-
-  pub rows-again : (l t : Bool) (x y₀ w h j y : ℕ) (st st′ : State) → j < h → y ≡ nth t y₀ h j → st′ ≡ paint s (map f (across l x w y)) st
-      → paint s (map f (rows-left l t x y₀ w h (j + 1))) st′ ≡ paint s (map f (rows-left l t x y₀ w h j)) st
-  rows-again l t x y₀ w h j y st st′ g e p =
-      rw (rows-turn l t x y₀ w h j g, ← e, p)
-      (sym (paint-append s (map f (across l x w y)) (map f (rows-left l t x y₀ w h (j + 1))) st)
-      ∙ ap (λ (ts : List Touch). paint s ts st) (sym (map-append f (across l x w y) (rows-left l t x y₀ w h (j + 1)))))
-
-  pub rows-end : (l t : Bool) (x y w h j : ℕ) (st : State) → h ≤ j → st ≡ paint s (map f (rows-left l t x y w h j)) st
-  unfolding paint
-  rows-end l t x y w h j st g = rw (rows-done l t x y w h j g)
 
 -- painting asks only what each pixel is given
 pub paint-same : (s : Surface) (f g : Px → List ℕ → Option ℕ) (ps : List Px) → ((p : Px) → List·Memᴰ p ps → (now : List ℕ) → f p now ≡ g p now) → (st : State)
@@ -125,12 +99,9 @@ across-append x (suc m) n y =
     let q : suc m + n ≡ suc (m + n) = omega arith in
     rw (p, q) (ap (λ (ps : List Px). px x y ∷ ps) (across-append (x + 1) m n y))
 
-pub part-again : (s : Surface) (f : Px → Touch) (x w i m y : ℕ) (st st′ : State) → i + m ≤ w → st′ ≡ paint s (map f (across false (x + i) m y)) st
-    → paint s (map f (row-left false x w (i + m) y)) st′ ≡ paint s (map f (row-left false x w i y)) st
+pub part-turn : (x w i m y : ℕ) → i + m ≤ w → row-left false x w i y ≡ across false (x + i) m y ++ row-left false x w (i + m) y
 unfolding row-left
-part-again s f x w i m y st st′ h e =
+part-turn x w i m y h =
     let p : w - i ≡ m + (w - (i + m)) = omega arith in
     let q : x + (i + m) ≡ x + i + m = omega arith in
-    rw (p, q, e)
-    (sym (ap (λ (ts : List Touch). paint s ts st) (ap (map f) (across-append (x + i) m (w - (i + m)) y) ∙ map-append f (across false (x + i) m y) (across false (x + i + m) (w - (i + m)) y))
-    ∙ paint-append s (map f (across false (x + i) m y)) (map f (across false (x + i + m) (w - (i + m)) y)) st))
+    rw (p, q) (across-append (x + i) m (w - (i + m)) y)

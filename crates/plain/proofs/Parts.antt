@@ -12,19 +12,20 @@ use Rattle.paint.specs.Asked.{Room}
 use Rattle.paint.proofs.Tallies.{room-left}
 use Rattle.host.specs.declared.Feed.{Feed}
 use Rattle.host.specs.Host.{lastByteOf, pixel, valueOf}
-use Rattle.host.specs.Draw.{drawn}
-use Rattle.host.proofs.Drawing.{DrawLeft, draw-begins, draw-goes-on, draw-ended}
+use Rattle.host.specs.Draw.{hostTouches, drawn}
+use Rattle.paint.proofs.Loops.{Left, left-begins}
+use Rattle.host.proofs.Drawing.{draw-takes, draw-ended}
 use Rattle.plain.specs.Plain.{stretch}
 use Rattle.plain.proofs.Stretch.{stretch-append, stretch-length}
 
 -- the pixels of row j from start up to end, those before pixel i drawn
 pub record StretchLeft (ink : Ink) (pattern : List ℕ) (c : Clip) (feed : Feed) (last word j start end : ℕ) (m₀ : List ℕ) (n : Tally) (i : ℕ) (m : List ℕ) (r : Tally) : Type 0 where
-  pub left : DrawLeft ink pattern c feed (stretch feed last word j start (end - start)) m₀ n (i - start) (stretch feed last word j i (end - i)) m r
+  pub left : Left (ink .target) (hostTouches ink pattern c feed (stretch feed last word j start (end - start))) m₀ n (i - start) (hostTouches ink pattern c feed (stretch feed last word j i (end - i))) m r
   pub low : start ≤ i
 
 module _ {ink : Ink} {pattern : List ℕ} {c : Clip} {feed : Feed} {last word j start end : ℕ} {m₀ : List ℕ} {n : Tally} where
   pub stretch-begins : StretchLeft ink pattern c feed last word j start end m₀ n start m₀ n
-  stretch-begins = record { left = draw-begins refl; low = omega arith }
+  stretch-begins = record { left = left-begins refl; low = omega arith }
 
   module _ {i : ℕ} {m : List ℕ} {r : Tally} (now : StretchLeft ink pattern c feed last word j start end m₀ n i m r) where
     pub stretch-room : (k : ℕ) → Room n (end - start) → i + k ≤ end → Room r k
@@ -36,7 +37,7 @@ module _ {ink : Ink} {pattern : List ℕ} {c : Clip} {feed : Feed} {last word j 
     stretch-takes k fits put =
         let e : end - i ≡ k + (end - (i + k)) = omega arith in
         record {
-          left = draw-goes-on (now .left) (stretch feed last word j i k) _ (rw e (sym (stretch-append feed last word j i k (end - (i + k)))))
+          left = draw-takes ink pattern c feed (stretch feed last word j i (end - i)) (stretch feed last word j i k) _ (now .left) (rw e (sym (stretch-append feed last word j i k (end - (i + k)))))
               (omega (arith, now .low, stretch-length feed last word j i k)) put;
           low = omega (arith, now .low);
         }
@@ -48,4 +49,4 @@ module _ {ink : Ink} {pattern : List ℕ} {c : Clip} {feed : Feed} {last word j 
 
     pub stretch-ended : end ≤ i → tallied m r ≡ drawn ink pattern c feed (stretch feed last word j start (end - start)) (tallied m₀ n)
     unfolding stretch
-    stretch-ended all = let e : end - i ≡ 0 = omega arith in draw-ended (now .left) (rw e)
+    stretch-ended all = let e : end - i ≡ 0 = omega arith in draw-ended ink pattern c feed {rest = stretch feed last word j i (end - i)} (rw e) (now .left)

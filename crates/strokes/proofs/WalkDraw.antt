@@ -2,7 +2,7 @@
 -- Assumes nothing.
 use mathlib.Core.Path.{_≡_, refl, sym, ap₂, subst, _∙_}
 use mathlib.Core.Bool.{true, not, _&&_}
-use mathlib.Core.List.{List, [], _∷_}
+use mathlib.Core.List.{List, [], _∷_, _++_}
 use Prim.Native.Nat.{ℕ, zero, suc, _+_, _-_, _^_, _<_, _≤_}
 use native.Mathlib.Decide.{ℕ-discrete}
 use native.Mathlib.Omega.{arith}
@@ -15,7 +15,7 @@ use Rattle.surface.proofs.OnLaws.{and-left, and-right}
 use Rattle.surface.proofs.Lists.{by-cases}
 use Rattle.paint.specs.declared.Clip.{Clip}
 use Rattle.ink.specs.declared.Ink.{Ink}
-use Rattle.paint.specs.Paint.{State, dab, Touch, touch, paint}
+use Rattle.paint.specs.Paint.{Touch, touch}
 use Rattle.ink.specs.Pattern.{patternValue}
 use Rattle.paint.specs.Mix.{bitSource, placed, direct, sourced}
 use Rattle.paint.specs.Clip.{inClip, pixelAt}
@@ -34,16 +34,14 @@ use Rattle.line.proofs.DrawLaws.{point-on, on-turn}
 use Rattle.points.proofs.PutLaws.{direct-source}
 
 -- ---- one point, and the others
-module _ (ink : Ink) (pen : Pen) (l : Line) (i e style : ℕ) (st : State) where
-  pub walk-left : {next : ℕ} {st′ : State} → i < e → next ≡ after pen style
-      → st′ ≡ dab (ink .target) (pixelAt (pointAt l i .x) (pointAt l i .y)) (sourced (bitSource ink (stippleBit pen style))) st
-      → paint (ink .target) (walkTouches ink pen next (pointsFrom l (i + 1) (e - (i + 1)))) st′
-      ≡ paint (ink .target) (walkTouches ink pen style (pointsFrom l i (e - i))) st
-  unfolding paint walkTouches
-  walk-left h n q = rw (from-cons l i e h, q, n)
+module _ (ink : Ink) (pen : Pen) (l : Line) (i e style : ℕ) where
+  pub walk-left : {next : ℕ} → i < e → next ≡ after pen style
+      → walkTouches ink pen style (pointsFrom l i (e - i)) ≡ walkTouches ink pen style (pointAt l i ∷ []) ++ walkTouches ink pen next (pointsFrom l (i + 1) (e - (i + 1)))
+  unfolding walkTouches
+  walk-left h n = rw (from-cons l i e h, n)
 
-  pub walk-none : e ≤ i → paint (ink .target) (walkTouches ink pen style (pointsFrom l i (e - i))) st ≡ st
-  unfolding paint walkTouches
+  pub walk-none : e ≤ i → walkTouches ink pen style (pointsFrom l i (e - i)) ≡ []
+  unfolding walkTouches
   walk-none h = rw (from-none l i e h)
 
 -- ---- a line whose ends are inside the clip

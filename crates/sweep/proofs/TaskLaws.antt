@@ -86,7 +86,7 @@ pub can-row : {t : Task} {s : Surface} {g : Px → List ℕ → Option ℕ} {l t
     → CanPaint t w h (length m₀) → RowsLeft s g l top (t .x) (t .y) w h m₀ j m r → j < h → y ≡ nth top (t .y) h j → RowReady t w y (length m) r
 can-row {t} {top = top} {w} {h} {j} {y} can left more here =
     let inside = nth-in top (t .y) h j more in
-    rw (left .long) (record {
+    rw (left .left .long) (record {
       colour = can .colour;
       wide = can .wide;
       room = rows-room left (omega (arith, can .wide)) (omega (arith, can .high)) more;
@@ -99,4 +99,4 @@ pub row-pixel : {t : Task} {s : Surface} {g : Px → List ℕ → Option ℕ} {b
     → OnColour (t .ink .target) (length m) x y × HasSource t (length m) x y
 row-pixel {t} {back = back} {w} {i = i} {x} ready left more here =
     let inside = nth-in back (t .x) w i more in
-    rw (left .long) (ready .each x (omega arith) (omega arith))
+    rw (left .left .long) (ready .each x (omega arith) (omega arith))

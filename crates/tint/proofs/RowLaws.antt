@@ -154,7 +154,7 @@ module _ {s : Surface} {keep flip adds : List ℕ} {first x w y : ℕ} {m₀ : L
   module _ {i : ℕ} {m : List ℕ} {r : Tally} (left : TintLeft s keep flip adds first x w y m₀ n i m r) (k : ℕ) (fits : i + k ≤ w) where
     -- k more can be tinted
     pub can-part : CanTint s keep flip adds first (length m) (x + i) k y r
-    can-part = rw (left .long) (can-from can i k fits (left .upto))
+    can-part = rw (left .left .long) (can-from can i k fits (left .left .upto))
 
     -- and are: eight columns further on the masks are the same
     pub tint-takes : i % 8 ≡ 0 → {m′ : List ℕ} {r′ : Tally} → tallied m′ r′ ≡ paint s (tintings s keep flip adds first (x + i) (across false (x + i) k y)) (tallied m r)

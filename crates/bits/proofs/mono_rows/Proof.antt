@@ -25,7 +25,7 @@ mono-row-requires c κs =
     let left = c .before .before .loop .inv in
     let p = c .before .before .before .before .pre in
     let more = c .before .loop-test .taken in
-    rw (left .long) (mono-line p _ more (rows-room left (omega (arith, p .wide)) (omega (arith, p .high)) more))
+    rw (left .left .long) (mono-line p _ more (rows-room left (omega (arith, p .wide)) (omega (arith, p .high)) more))
 
 add-j : tie.Need-add-j Inv-loop μ-loop
 add-j c = search needs
@@ -39,7 +39,7 @@ loop-again c =
     rows-go-on (k .inv) (c .before .before .before .before .before .before .before .args .t .y + k .j) (c .before .before .before .before .loop-test .taken) refl (c .before .before .mono-row .ensures)
 
 same-length : tie.Need-same-length Inv-loop μ-loop
-same-length c = c .before .loop .inv .long
+same-length c = c .before .loop .inv .left .long
 
 returns : tie.Need-returns Inv-loop μ-loop
 returns c = rows-ended (c .before .loop .inv) (c .loop-test .left)

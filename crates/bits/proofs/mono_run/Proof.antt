@@ -39,7 +39,7 @@ mono-in-rows-requires c κs =
     let p = c .before .before .before .before .before .before .pre in
     let row = p .0 in
     let k = c .before .before .before .before .loop in
-    rw (k .inv .long, p .1 .1 .1) (record { small = row .small; mono = row .mono; on = row .source (k .i) (c .before .before .before .loop-test .taken) }, row .fromFlat)
+    rw (k .inv .left .long, p .1 .1 .1) (record { small = row .small; mono = row .mono; on = row .source (k .i) (c .before .before .before .loop-test .taken) }, row .fromFlat)
 
 add-put-run : tie.Need-add-put-run Inv-loop μ-loop
 add-put-run c = omega (arith, c .before .before .before .before .before .before .loop-test .taken, c .before .before .before .before .before .before .before .before .before .pre .0 .target .wide)
@@ -51,12 +51,12 @@ put-run-requires c κs =
     let left = c .before .before .before .before .before .before .before .loop .inv in
     let m = c .before .before .before .before .least .ensures in
     let u = c .before .before .before .before .before .before .loop-test .taken in
-    rw (left .long, p .1 .1 .0) (
+    rw (left .left .long, p .1 .1 .0) (
       (
         (row .colour, row .flat),
         (
           record { wide = omega (arith, m, u, row .target .wide); on = λ q l h. row .target .on q (omega arith) (omega (arith, m, u)) },
-          room-left (row .room) (left .upto) (omega (arith, m, u)),
+          room-left (row .room) (left .left .upto) (omega (arith, m, u)),
         ),
       ),
       (omega (arith, m), p .1 .0),
@@ -79,7 +79,7 @@ loop-again c =
     ∙ byte-once (p .0) (k .i) (m .result) _ (tallied (k .mem) (k .r)) u (omega (arith, m .ensures, u)) (omega (arith, m .ensures)) (sym (rw (p .1 .1 .1) at (c .before .before .before .before .before .mono-in-rows .ensures .0))))
 
 same-length : tie.Need-same-length Inv-loop μ-loop
-same-length c = c .before .loop .inv .long
+same-length c = c .before .loop .inv .left .long
 
 returns : tie.Need-returns Inv-loop μ-loop
 returns c = row-ended (c .before .loop .inv) (c .loop-test .left)

@@ -57,7 +57,7 @@ add-put-bit c = omega (arith, c .wide .ensures, held c .inside)
 put-bit-requires : tie.Need-put-bit-requires Inv-loop μ-loop
 put-bit-requires c κs =
     let left = c .before .before .before .loop .inv in
-    (rw (left .long, c .wide .ensures) (held c), row-room left (c .before .before .before .before .before .before .pre .0 .1 .1) (c .before .before .loop-test .taken))
+    (rw (left .left .long, c .wide .ensures) (held c), row-room left (c .before .before .before .before .before .before .pre .0 .1 .1) (c .before .before .loop-test .taken))
 
 add-i : tie.Need-add-i Inv-loop μ-loop
 add-i c = omega arith
@@ -77,7 +77,7 @@ loop-again c =
     (ap (λ (d : ℕ). coloured (a .p) (bitOf (a .byte) (a .k + d))) z)
 
 same-length : tie.Need-same-length Inv-loop μ-loop
-same-length c = c .before .loop .inv .long
+same-length c = c .before .loop .inv .left .long
 
 returns : tie.Need-returns Inv-loop μ-loop
 returns c = row-ended (c .before .loop .inv) (c .loop-test .left)

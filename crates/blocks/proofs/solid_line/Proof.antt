@@ -23,7 +23,7 @@ loop-holds c = (even-start, refl)
 put-pixel-requires : tie.Need-put-pixel-requires Inv-loop μ-loop
 put-pixel-requires c κs =
     let k = c .before .before .loop in
-    rw (k .inv .0 .1 .long) (c .before .before .before .before .pre .on (k .x) (omega arith) (omega arith))
+    rw (k .inv .0 .1 .left .long) (c .before .before .before .before .pre .on (k .x) (omega arith) (omega arith))
 
 add-x : tie.Need-add-x Inv-loop μ-loop
 add-x c = search needs

@@ -1,19 +1,23 @@
 -- `host::host_byte` meets its contract: what is left of the byte's pixels, drawn on what stands now, is the byte drawn on what stood.
 -- Assumes nothing.
 use native.Mathlib.Omega.{arith}
+use mathlib.Core.Path.{ap}
 use mathlib.Core.List.{[], _∷_}
 use Prim.Native.Nat.{_+_, _-_, _%_, _≤_}
 use Rattle.paint.specs.Paint.{tallied}
 use Rattle.paint.proofs.Tallies.{room-left}
+use Rattle.paint.proofs.Loops.{Left, left-begins}
 use Rattle.host.specs.Host.{pixel, run, byByte}
+use Rattle.host.specs.Draw.{hostTouches}
 use Rattle.host.proofs.Places.{whole-width, step-some, column-small}
-use Rattle.host.proofs.Drawing.{none-drawn, DrawLeft, draw-begins, draw-goes-on, draw-ended, run-turn, run-done, byte-run, byte-none}
+use Rattle.host.proofs.Drawing.{none-drawn, draw-takes, draw-ended, run-turn, run-done, byte-run, byte-none}
 use Rattle.host.proofs.host_byte.Statement.{statement}
 use Rattle.host.proofs.host_byte.Tie as tie
 
 abbrev Inv-loop : tie.InvT-loop
 Inv-loop mem₀ ink pattern c feed last word o step j column start end r₀ i₀ mem r i =
-    DrawLeft ink pattern c feed (byByte feed last word o) mem₀ r₀ (i - start) (run feed last word o i (end - i)) mem r × (start ≤ i)
+    Left (ink .target) (hostTouches ink pattern c feed (byByte feed last word o)) mem₀ r₀ (i - start) (hostTouches ink pattern c feed (run feed last word o i (end - i))) mem r
+    × (start ≤ i)
 
 abbrev μ-loop : tie.MeasureT-loop
 μ-loop mem₀ ink pattern c feed last word o step j column start end r₀ i₀ mem r i = end - i
@@ -42,8 +46,11 @@ whole-pixels-requires-2 c κs =
 
 loop-holds : tie.Need-loop-holds Inv-loop μ-loop
 loop-holds c =
-    let a = c .before .before .before .before .before .args in
-    (draw-begins (byte-run (a .feed) (a .last) (a .word) (a .o) (c .before .before .if1 .left) (c .before .whole-pixels .ensures) (c .whole-pixels2 .ensures)), omega arith)
+    let a = c .before .before .before .before .before .args in (
+      left-begins (ap (hostTouches (a .ink) (a .pattern) (a .c) (a .feed))
+          (byte-run (a .feed) (a .last) (a .word) (a .o) (c .before .before .if1 .left) (c .before .whole-pixels .ensures) (c .whole-pixels2 .ensures))),
+      omega arith,
+    )
 
 value-of-requires : tie.Need-value-of-requires Inv-loop μ-loop
 value-of-requires c κs = (c .before .before .before .before .before .before .before .pre .0 .rows .sizes .bytes, omega arith)
@@ -70,7 +77,7 @@ loop-again c =
     let a = l .before .before .before .before .before .before .args in
     let v = c .before .before .before .before .value-of in
     let low = l .loop .inv .1 in (
-      draw-goes-on (l .loop .inv .0) (pixel (l .loop .i) _ (v .result) ∷ []) _
+      draw-takes (a .ink) (a .pattern) (a .c) (a .feed) (run (a .feed) (a .last) (a .word) (a .o) (l .loop .i) _) (pixel (l .loop .i) _ (v .result) ∷ []) _ (l .loop .inv .0)
           (run-turn (a .feed) (a .last) (a .word) (a .o) (l .loop .i) _ (v .result) (c .before .before .before .before .before .loop-test .taken) (v .ensures)) (omega arith)
           (c .before .before .host-pixel .ensures),
       omega arith,
@@ -80,7 +87,9 @@ same-length : tie.Need-same-length Inv-loop μ-loop
 same-length c = c .before .loop .inv .0 .long
 
 returns-2 : tie.Need-returns-2 Inv-loop μ-loop
-returns-2 c = let a = c .before .before .before .before .before .before .before .args in draw-ended (c .before .loop .inv .0) (run-done (a .feed) (a .last) (a .word) (a .o) _ _ (c .loop-test .left))
+returns-2 c =
+    let a = c .before .before .before .before .before .before .before .args in
+    draw-ended (a .ink) (a .pattern) (a .c) (a .feed) (run-done (a .feed) (a .last) (a .word) (a .o) _ _ (c .loop-test .left)) (c .before .loop .inv .0)
 
 pub host-byte-spec : {M : Type 1} → statement M
 host-byte-spec =

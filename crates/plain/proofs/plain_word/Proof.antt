@@ -46,8 +46,8 @@ returns c =
     let b = c .before .before .before .before .before in
     let a = b .args in
     let at = k .inv .1 (c .before .before .loop-test .taken) in
-    draw-ended (k .inv .0 .left)
-    (past-none (a .feed) (a .last) (a .word) (step-some (a .feed) (b .pre .opened .rows)) _ _ (omega (arith, at .0, mul-le-mul-right (a .feed .step) (c .if1 .taken))))
+    draw-ended (plainInk (a .p)) [] (a .c) (a .feed)
+    (past-none (a .feed) (a .last) (a .word) (step-some (a .feed) (b .pre .opened .rows)) _ _ (omega (arith, at .0, mul-le-mul-right (a .feed .step) (c .if1 .taken)))) (k .inv .0 .left)
 
 sub-least : tie.Need-sub-least Inv-loop μ-loop
 sub-least c = omega (arith, c .before .before .before .loop .inv .1 (c .before .before .loop-test .taken) .1)

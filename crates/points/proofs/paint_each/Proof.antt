@@ -2,16 +2,15 @@
 -- Assumes nothing.
 use borrow.Author.Needs.{needs}
 use native.Mathlib.Omega.{arith}
-use mathlib.Core.Path.{_≡_, refl, sym, ap, _∙_}
+use mathlib.Core.Path.{_≡_, sym, ap, _∙_}
 use mathlib.Core.Bool.{true}
-use mathlib.Core.List.{List}
+use mathlib.Core.List.{List, [], _∷_}
 use Prim.Native.Nat.{_-_, _≤_}
 use lib.ListN.{length}
 use Rattle.spans.specs.Span.{allOn}
-use Rattle.paint.specs.Paint.{state, tallied, paint}
 use Rattle.paint.specs.Tally.{tally}
-use Rattle.paint.proofs.Tallies.{Upto, upto-none, upto-then, upto-more, room-first}
-use Rattle.paint.proofs.Loops.{painted-upto}
+use Rattle.paint.proofs.Tallies.{room-first}
+use Rattle.paint.proofs.Loops.{Left, left-begins, left-takes, left-ended}
 use Rattle.line.specs.declared.Point.{Point}
 use Rattle.line.specs.Line.{pointCount, pointsFrom, points}
 use Rattle.line.specs.Stipple.{styleAfter}
@@ -19,17 +18,16 @@ use Rattle.line.specs.Draw.{coveredPoints, lineTouches}
 use Rattle.line.proofs.Sides.{count-le, longer-lt}
 use Rattle.line.proofs.PointLaws.{from-start}
 use Rattle.line.proofs.StippleLaws.{style-start, style-turn, style-done}
-use Rattle.line.proofs.DrawLaws.{one-touch, on-left, paint-left, paint-none}
+use Rattle.line.proofs.DrawLaws.{one-touch, on-left, touches-left, touches-none}
 use Rattle.points.proofs.paint_each.Statement.{statement}
 use Rattle.points.proofs.paint_each.Tie as tie
 
 abbrev Inv-loop : tie.InvT-loop
 Inv-loop mem₀ ink pattern c l pen style total done₀ i₀ mem done i =
-    (paint (ink .target) (lineTouches ink pattern c pen (done .style) (pointsFrom l i (total - i))) (tallied mem (done .tally))
-    ≡ paint (ink .target) (lineTouches ink pattern c pen style (points l)) (state mem₀ 0))
+    Left (ink .target) (lineTouches ink pattern c pen style (points l)) mem₀ (tally 0) i (lineTouches ink pattern c pen (done .style) (pointsFrom l i (total - i))) mem (done .tally)
     × (styleAfter pen (total - i) (done .style) ≡ styleAfter pen (pointCount l) style)
     × (allOn (ink .target) (length mem₀) (coveredPoints c (pointsFrom l i (total - i))) ≡ true)
-    × (length mem ≡ length mem₀) × (i ≤ total) × Upto (tally 0) i (done .tally)
+    × (i ≤ total)
 
 abbrev μ-loop : tie.MeasureT-loop
 μ-loop mem₀ ink pattern c l pen style total done₀ i₀ mem done i = total - i
@@ -41,12 +39,10 @@ loop-holds : tie.Need-loop-holds Inv-loop μ-loop
 loop-holds c =
     let a = c .before .before .args in
     let q = from-start (a .l) _ (c .point-count .ensures) in (
-      ap (λ (ps : List Point). paint (a .ink .target) (lineTouches (a .ink) (a .pattern) (a .c) (a .pen) (a .style) ps) (state (a .mem .now) 0)) q,
+      left-begins (ap (lineTouches (a .ink) (a .pattern) (a .c) (a .pen) (a .style)) q),
       style-start (a .pen) _ _ (a .style) (c .point-count .ensures),
       ap (λ (ps : List Point). allOn (a .ink .target) (length (a .mem .now)) (coveredPoints (a .c) ps)) q ∙ c .before .before .pre .on,
-      refl,
       omega arith,
-      upto-none (tally 0),
     )
 
 line-point-requires : tie.Need-line-point-requires Inv-loop μ-loop
@@ -58,11 +54,11 @@ paint-point-requires c κs =
     let p = c .before .before .before .before .before .before .pre in
     let k = c .before .before .before .loop in
     let n = on-left (a .ink .target) (length (a .mem .now)) (a .c) (a .l) (k .i) _ (c .before .before .loop-test .taken) (k .inv .2) in
-    rw (k .inv .3, c .before .line-point .ensures) (record {
+    rw (k .inv .0 .long, c .before .line-point .ensures) (record {
       surface = p .surface;
       clip = p .clip;
       on = n .0;
-      room = room-first (k .inv .5) (omega (arith, longer-lt (p .line), count-le (a .l), c .before .before .before .before .point-count .ensures));
+      room = room-first (k .inv .0 .upto) (omega (arith, longer-lt (p .line), count-le (a .l), c .before .before .before .before .point-count .ensures));
     })
 
 add-i : tie.Need-add-i Inv-loop μ-loop
@@ -77,13 +73,12 @@ loop-again c =
     let k = c .before .before .before .before .before .before .loop in
     let h = c .before .before .before .before .before .loop-test .taken in
     let r = c .before .before .paint-point .ensures in (
-      paint-left (a .ink) (a .pattern) (a .c) (a .pen) (a .l) (k .i) _ (k .done .style) (tallied (k .mem) (k .done .tally)) h (c .before .before .before .before .line-point .ensures) (r .1) (r .0) ∙ k .inv .0,
+      left-takes (k .inv .0) (lineTouches (a .ink) (a .pattern) (a .c) (a .pen) (k .done .style) (c .before .before .before .before .line-point .result ∷ []))
+          (touches-left (a .ink) (a .pattern) (a .c) (a .pen) (a .l) (k .i) _ (k .done .style) h (c .before .before .before .before .line-point .ensures) (r .1))
+          (omega (arith, one-touch (a .ink) (a .pattern) (a .c) (a .pen) (c .before .before .before .before .line-point .result) (k .done .style))) (r .0),
       style-turn (a .pen) (k .i) _ (k .done .style) _ h (r .1) ∙ k .inv .1,
       on-left (a .ink .target) (length (a .mem .now)) (a .c) (a .l) (k .i) _ h (k .inv .2) .1,
-      c .before .before .paint-point .kept .0 ∙ k .inv .3,
       omega arith,
-      upto-then (k .inv .5) (upto-more (painted-upto (a .ink .target) (lineTouches (a .ink) (a .pattern) (a .c) (a .pen) (k .done .style) _) (k .mem) (k .done .tally) (r .0))
-          (one-touch (a .ink) (a .pattern) (a .c) (a .pen) _ (k .done .style))),
     )
 
 same-length : tie.Need-same-length Inv-loop μ-loop
@@ -94,7 +89,7 @@ returns c =
     let a = c .before .before .before .before .args in
     let k = c .before .loop in
     let h = c .loop-test .left in (
-      sym (paint-none (a .ink) (a .pattern) (a .c) (a .pen) (a .l) (k .i) _ (k .done .style) (tallied (k .mem) (k .done .tally)) h) ∙ k .inv .0,
+      left-ended (k .inv .0) (touches-none (a .ink) (a .pattern) (a .c) (a .pen) (a .l) (k .i) _ (k .done .style) h),
       sym (style-done (a .pen) (k .i) _ (k .done .style) h) ∙ k .inv .1,
     )
 

@@ -24,7 +24,7 @@ put-in-rows-requires : tie.Need-put-in-rows-requires Inv-loop μ-loop
 put-in-rows-requires c κs =
     let k = c .before .before .loop in
     let p = c .before .before .before .before .pre in
-    (rw (k .inv .0 .1 .long) (p .1 .on (k .x) (omega arith) (omega arith)), p .0)
+    (rw (k .inv .0 .1 .left .long) (p .1 .on (k .x) (omega arith) (omega arith)), p .0)
 
 add-x : tie.Need-add-x Inv-loop μ-loop
 add-x c = search needs

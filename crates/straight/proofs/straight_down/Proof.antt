@@ -35,7 +35,7 @@ straight-pixel-requires : tie.Need-straight-pixel-requires Inv-loop μ-loop
 straight-pixel-requires c κs =
     let p = c .before .before .before .before .before .before .pre in
     let k = c .before .before .before .before .loop in
-    rw (c .before .pixel-at .ensures, c .pixel-at2 .ensures, k .inv .0 .long) (pixel-copies (p .0) (p .1) (k .i - 1) (omega arith))
+    rw (c .before .pixel-at .ensures, c .pixel-at2 .ensures, k .inv .0 .left .long) (pixel-copies (p .0) (p .1) (k .i - 1) (omega arith))
 
 loop-less : tie.Need-loop-less Inv-loop μ-loop
 loop-less c = search needs
@@ -53,7 +53,7 @@ loop-again c =
     )
 
 same-length : tie.Need-same-length Inv-loop μ-loop
-same-length c = c .before .loop .inv .0 .long
+same-length c = c .before .loop .inv .0 .left .long
 
 returns : tie.Need-returns Inv-loop μ-loop
 returns c = let a = c .before .before .before .args in row-copied (a .t) (a .j) (c .before .loop .inv .0) (omega arith)

@@ -34,7 +34,7 @@ straight-row-requires c κs =
     let k = c .before .before .before .loop in
     let number = nth-in (a .toTop) 0 (a .h) (k .i) (c .before .before .loop-test .taken) in
     let e = c .before .place .ensures in
-    rw (k .inv .long) (can-row (c .before .before .before .before .before .pre) (c .before .place .result) (omega arith))
+    rw (k .inv .left .long) (can-row (c .before .before .before .before .before .pre) (c .before .place .result) (omega arith))
 
 add-i : tie.Need-add-i Inv-loop μ-loop
 add-i c = search needs

@@ -28,7 +28,7 @@ straight-pixel-requires : tie.Need-straight-pixel-requires Inv-loop μ-loop
 straight-pixel-requires c κs =
     let p = c .before .before .before .before .before .before .pre in
     let k = c .before .before .before .before .loop in
-    rw (c .before .pixel-at .ensures, c .pixel-at2 .ensures, k .inv .long) (pixel-copies (p .0) (p .1) (k .i) (omega arith))
+    rw (c .before .pixel-at .ensures, c .pixel-at2 .ensures, k .inv .left .long) (pixel-copies (p .0) (p .1) (k .i) (omega arith))
 
 add-i : tie.Need-add-i Inv-loop μ-loop
 add-i c = search needs
@@ -44,7 +44,7 @@ loop-again c =
     (rw (c .before .before .before .before .pixel-at .ensures, c .before .before .before .pixel-at2 .ensures) at (c .before .before .straight-pixel .ensures))
 
 same-length : tie.Need-same-length Inv-loop μ-loop
-same-length c = c .before .loop .inv .long
+same-length c = c .before .loop .inv .left .long
 
 returns : tie.Need-returns Inv-loop μ-loop
 returns c = let a = c .before .before .before .args in row-copied (a .t) (a .j) (c .before .loop .inv) (c .loop-test .left)

@@ -38,14 +38,14 @@ source-at-requires : tie.Need-source-at-requires Inv-loop μ-loop
 source-at-requires c κs =
     let begin = (c .before .before .before .before .before .before .before) in
     let k = (c .before .before .before .loop) in
-    rw (walk-place (begin .args .t .columns) _ (k .inv .1), k .inv .0 .long, begin .pre .1 .1 .0)
+    rw (walk-place (begin .args .t .columns) _ (k .inv .1), k .inv .0 .left .long, begin .pre .1 .1 .0)
     (record { small = begin .pre .0 .0 .small; on = begin .pre .0 .0 .each (k .i) (c .before .before .loop-test .taken) .from }, begin .pre .1 .1 .1 .0)
 
 get-pixel-requires : tie.Need-get-pixel-requires Inv-loop μ-loop
 get-pixel-requires c κs =
     let begin = (c .before .before .before .before .before .before .before .before .before) in
     let k = (c .before .before .before .before .before .loop) in
-    rw (k .inv .0 .long) (begin .pre .0 .0 .each (k .i) (c .before .before .before .before .loop-test .taken) .on)
+    rw (k .inv .0 .left .long) (begin .pre .0 .0 .each (k .i) (c .before .before .before .before .loop-test .taken) .on)
 
 pattern-column-requires : tie.Need-pattern-column-requires Inv-loop μ-loop
 pattern-column-requires c κs = search needs
@@ -96,7 +96,7 @@ put-value-requires : tie.Need-put-value-requires Inv-loop μ-loop
 put-value-requires c κs =
     let begin = (c .before .before .before .before .before .before .before .before .before .before .before .before .before .before) in
     let k = (c .before .before .before .before .before .before .before .before .before .before .loop) in
-    rw (k .inv .0 .long) (begin .pre .0 .0 .each (k .i) (c .before .before .before .before .before .before .before .before .before .loop-test .taken) .on, row-room (k .inv .0) (begin .pre .0 .1) (c .before .before .before .before .before .before .before .before .before .loop-test .taken))
+    rw (k .inv .0 .left .long) (begin .pre .0 .0 .each (k .i) (c .before .before .before .before .before .before .before .before .before .loop-test .taken) .on, row-room (k .inv .0) (begin .pre .0 .1) (c .before .before .before .before .before .before .before .before .before .loop-test .taken))
 
 next-requires : tie.Need-next-requires Inv-loop μ-loop
 next-requires c κs =
@@ -125,7 +125,7 @@ loop-again c =
     )
 
 same-length : tie.Need-same-length Inv-loop μ-loop
-same-length c = (c .before .loop .inv .0 .long)
+same-length c = (c .before .loop .inv .0 .left .long)
 
 returns : tie.Need-returns Inv-loop μ-loop
 returns c = row-ended (c .before .loop .inv .0) (c .loop-test .left)

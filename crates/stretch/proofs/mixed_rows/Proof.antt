@@ -53,7 +53,7 @@ mixed-row-requires c κs =
     let more = (c .before .before .loop-test .taken) in
     let room = rows-room (k .inv .0) (omega (arith, p .can .wide)) (omega (arith, p .can .high)) more in
     let laid : Laid (openTask (c .before .before .before .before .before .before .before .before .before .before .args .t)) _ _ = record { bits = (c .before .before .before .before .before .masks-of .ensures); unread = (c .before .before .before .before .quads-of .ensures) } in
-    rw (k .inv .0 .long, walk-place ((c .before .before .before .before .before .before .before .before .before .before .args .t) .rows) _ (k .inv .1)) ((can-row (p .can) (k .j) (p .wide) more, room), (p .columnsAt, (refl, (((c .before .before .before .before .before .before .before .range-of .ensures), (c .before .before .before .before .before .before .range-of2 .ensures)), laid))))
+    rw (k .inv .0 .left .long, walk-place ((c .before .before .before .before .before .before .before .before .before .before .args .t) .rows) _ (k .inv .1)) ((can-row (p .can) (k .j) (p .wide) more, room), (p .columnsAt, (refl, (((c .before .before .before .before .before .before .before .range-of .ensures), (c .before .before .before .before .before .before .range-of2 .ensures)), laid))))
 
 next-requires : tie.Need-next-requires Inv-loop μ-loop
 next-requires c κs =
@@ -81,7 +81,7 @@ loop-again c =
     )
 
 same-length : tie.Need-same-length Inv-loop μ-loop
-same-length c = (c .before .loop .inv .0 .long)
+same-length c = (c .before .loop .inv .0 .left .long)
 
 returns : tie.Need-returns Inv-loop μ-loop
 returns c = rows-ended (c .before .loop .inv .0) (c .loop-test .left)

@@ -43,7 +43,7 @@ straight-pixel-requires : tie.Need-straight-pixel-requires Inv-loop μ-loop
 straight-pixel-requires c κs =
     let begin = (c .before .before .before .before .before .before .before) in
     let k = (c .before .before .before .before .before .loop) in
-    rw ((c .before .before .before .pixel-at .ensures), (c .before .pixel-at2 .ensures), k .inv .0 .long, walk-place (begin .args .t .columns) _ (k .inv .1)) ((pixel-copies (begin .pre .0) (begin .pre .1 .1 .0) (k .i) (c .before .before .before .before .loop-test .taken)), begin .pre .1 .1 .1)
+    rw ((c .before .before .before .pixel-at .ensures), (c .before .pixel-at2 .ensures), k .inv .0 .left .long, walk-place (begin .args .t .columns) _ (k .inv .1)) ((pixel-copies (begin .pre .0) (begin .pre .1 .1 .0) (k .i) (c .before .before .before .before .loop-test .taken)), begin .pre .1 .1 .1)
 
 next-requires : tie.Need-next-requires Inv-loop μ-loop
 next-requires c κs =
@@ -69,7 +69,7 @@ loop-again c =
     )
 
 same-length : tie.Need-same-length Inv-loop μ-loop
-same-length c = (c .before .loop .inv .0 .long)
+same-length c = (c .before .loop .inv .0 .left .long)
 
 returns : tie.Need-returns Inv-loop μ-loop
 returns c = let a = (c .before .before .before .args) in row-copied (a .t) (a .x) (a .y) (c .before .loop .inv .0) (c .loop-test .left)

@@ -42,7 +42,7 @@ straight-row-requires c κs =
     let p = (c .before .before .before .before .before .pre) in
     let k = (c .before .before .before .loop) in
     let place = walk-place ((c .before .before .before .before .before .args .t) .rows) _ (k .inv .1) in
-    rw (k .inv .0 .long, place) (can-row (p .0 .can) (k .j) (p .0 .wide) (c .before .before .loop-test .taken), (p .0 .columnsAt, (refl, p .1)))
+    rw (k .inv .0 .left .long, place) (can-row (p .0 .can) (k .j) (p .0 .wide) (c .before .before .loop-test .taken), (p .0 .columnsAt, (refl, p .1)))
 
 next-requires : tie.Need-next-requires Inv-loop μ-loop
 next-requires c κs =

@@ -2,26 +2,25 @@
 -- Assumes nothing.
 use borrow.Author.Needs.{needs}
 use native.Mathlib.Omega.{arith}
-use mathlib.Core.Path.{_≡_, refl, sym, ap, _∙_}
-use mathlib.Core.List.{List}
+use mathlib.Core.Path.{_≡_, refl, sym, ap, ap₂, _∙_}
+use mathlib.Core.List.{List, [], _∷_}
 use Prim.Native.Nat.{ℕ, _-_, _<_, _≤_}
-use lib.ListN.{length}
 use Rattle.paint.specs.declared.Source.{Source}
 use Rattle.paint.specs.Tally.{tally}
-use Rattle.paint.specs.Paint.{state, tallied, dab, paint}
+use Rattle.paint.specs.Paint.{tallied, dab, paint}
 use Rattle.paint.specs.Mix.{bitSource, sourced}
 use Rattle.paint.specs.Clip.{pixelAt}
 use Rattle.surface.proofs.Run.{in-rows, pixel-held}
 use Rattle.line.specs.declared.Point.{Point}
 use Rattle.line.specs.Line.{pointAt, pointCount, pointsFrom, points}
-use Rattle.line.specs.Stipple.{stippleBit, styleAfter}
+use Rattle.line.specs.Stipple.{styleAfter}
 use Rattle.strokes.specs.Walk.{walkTouches, wordOf, AtPoint, Fields}
 use Rattle.line.proofs.Sides.{count-le, longer-lt}
 use Rattle.line.proofs.PointLaws.{from-start}
 use Rattle.line.proofs.StippleLaws.{style-start, style-turn, style-done}
-use Rattle.paint.proofs.Tallies.{Upto, upto-none, upto-then, room-first}
+use Rattle.paint.proofs.Tallies.{room-first}
 use Rattle.paint.proofs.Turns.{dab-at}
-use Rattle.paint.proofs.Loops.{put-upto}
+use Rattle.paint.proofs.Loops.{Left, left-begins, left-takes, left-ended}
 use Rattle.strokes.proofs.WalkLaws.{steps-small, walk-start, walk-next}
 use Rattle.strokes.proofs.WalkDraw.{walk-left, walk-none}
 use Rattle.strokes.proofs.walk_line.Statement.{statement}
@@ -29,11 +28,10 @@ use Rattle.strokes.proofs.walk_line.Tie as tie
 
 abbrev Inv-loop : tie.InvT-loop
 Inv-loop mem₀ ink l pen style n t w₀ p₀ r₀ i₀ mem w p r i =
-    (paint (ink .target) (walkTouches ink pen (wordOf p) (pointsFrom l i (pointCount l - i))) (tallied mem r)
-    ≡ paint (ink .target) (walkTouches ink pen style (points l)) (state mem₀ 0))
+    Left (ink .target) (walkTouches ink pen style (points l)) mem₀ (tally 0) i (walkTouches ink pen (wordOf p) (pointsFrom l i (pointCount l - i))) mem r
     × (styleAfter pen (pointCount l - i) (wordOf p) ≡ styleAfter pen (pointCount l) style)
     × (i < pointCount l → AtPoint (ink .target) l i w)
-    × Fields p × (length mem ≡ length mem₀) × (i ≤ pointCount l) × Upto (tally 0) i r
+    × Fields p × (i ≤ pointCount l)
 
 abbrev μ-loop : tie.MeasureT-loop
 μ-loop mem₀ ink l pen style n t w₀ p₀ r₀ i₀ mem w p r i = pointCount l - i
@@ -61,14 +59,11 @@ loop-holds c =
     let a = c .before .before .before .before .before .before .before .before .args in
     let e = c .phase-of .ensures .1 in
     let n = pointCount (a .l) in (
-      ap (λ (u : ℕ). paint (a .ink .target) (walkTouches (a .ink) (a .pen) u (pointsFrom (a .l) 0 (n - 0))) (state (a .mem .now) 0)) e
-          ∙ ap (λ (ps : List Point). paint (a .ink .target) (walkTouches (a .ink) (a .pen) (a .style) ps) (state (a .mem .now) 0)) (from-start (a .l) n refl),
+      left-begins (ap₂ (λ (u : ℕ) (ps : List Point). walkTouches (a .ink) (a .pen) u ps) e (from-start (a .l) n refl)),
       ap (styleAfter (a .pen) (n - 0)) e ∙ style-start (a .pen) n n (a .style) refl,
       (λ h. walk-start (a .ink .target) (a .l) _ _ (c .before .before .byte-of .ensures) (c .before .long-side .ensures)),
       c .phase-of .ensures .0,
-      refl,
       omega arith,
-      upto-none (tally 0),
     )
 
 point-count-requires : tie.Need-point-count-requires Inv-loop μ-loop
@@ -89,8 +84,8 @@ put-value-at-requires c κs =
     let p = c .before .before .before .before .before .before .before .before .before .before .before .before .before .before .before .pre in
     let k = c .before .before .before .before .before .before .loop in
     let h : k .i < pointCount (a .l) = omega (arith, c .before .before .before .before .wide .ensures, c .before .before .before .before .before .point-count .ensures) in (
-      rw (k .inv .4) (pixel-held (in-rows (p .flat)) (record { colour = p .surface; on = p .on (k .i) h }) _ (k .inv .2 h .at)),
-      room-first (k .inv .6) (omega (arith, longer-lt (p .ahead .line), count-le (a .l))),
+      rw (k .inv .0 .long) (pixel-held (in-rows (p .flat)) (record { colour = p .surface; on = p .on (k .i) h }) _ (k .inv .2 h .at)),
+      room-first (k .inv .0 .upto) (omega (arith, longer-lt (p .ahead .line), count-le (a .l))),
     )
 
 walk-on-requires : tie.Need-walk-on-requires Inv-loop μ-loop
@@ -106,6 +101,7 @@ loop-less : tie.Need-loop-less Inv-loop μ-loop
 loop-less c = omega (arith, c .before .before .before .before .before .before .before .before .before .wide .ensures, c .before .before .before .before .before .before .before .before .before .before .point-count .ensures)
 
 loop-again : tie.Need-loop-again Inv-loop μ-loop
+unfolding paint walkTouches
 loop-again c =
     let a = c .before .before .before .before .before .before .before .before .before .before .before .before .before .before .before .before .before .before .before .before .args in
     let p = c .before .before .before .before .before .before .before .before .before .before .before .before .before .before .before .before .before .before .before .before .pre in
@@ -116,13 +112,12 @@ loop-again c =
     let q = pointAt (a .l) (k .i) in
     let put = c .before .before .before .before .put-value-at .ensures ∙ dab-at s (in-rows (p .flat)) (pixelAt (q .x) (q .y)) _ (sourced (c .before .before .before .before .before .before .bit-source .result)) (tallied (k .mem) (k .tally)) (at .at)
     ∙ ap (λ (source : Source). dab s (pixelAt (q .x) (q .y)) (sourced source) (tallied (k .mem) (k .tally))) (c .before .before .before .before .before .before .bit-source .ensures ∙ ap (bitSource (a .ink)) (c .before .before .before .before .before .before .before .phase-bit .ensures)) in (
-      walk-left (a .ink) (a .pen) (a .l) (k .i) (pointCount (a .l)) (wordOf (k .p)) (tallied (k .mem) (k .tally)) h (c .phase-after .ensures .1) put ∙ k .inv .0,
+      left-takes (k .inv .0) (walkTouches (a .ink) (a .pen) (wordOf (k .p)) (q ∷ [])) (walk-left (a .ink) (a .pen) (a .l) (k .i) (pointCount (a .l)) (wordOf (k .p)) h (c .phase-after .ensures .1))
+          (omega arith) put,
       style-turn (a .pen) (k .i) (pointCount (a .l)) (wordOf (k .p)) _ h (c .phase-after .ensures .1) ∙ k .inv .1,
       (λ g. rw (c .before .walk-on .ensures, c .before .before .before .before .before .before .before .before .before .before .before .before .before .before .before .before .before .steps-of .ensures) (walk-next s (p .flat) (p .surface .small) (a .l) (p .ahead) (k .i) (omega (arith, count-le (a .l))) (k .w) at)),
       c .phase-after .ensures .0,
-      c .before .before .before .before .put-value-at .kept .0 ∙ k .inv .4,
       omega arith,
-      upto-then (k .inv .6) (put-upto s (pixelAt (q .x) (q .y)) (sourced (bitSource (a .ink) (stippleBit (a .pen) (wordOf (k .p))))) (k .mem) (k .tally) put),
     )
 
 style-of-requires : tie.Need-style-of-requires Inv-loop μ-loop
@@ -136,7 +131,7 @@ returns c =
     let a = c .before .before .before .before .before .before .before .before .before .before .before .before .before .args in
     let k = c .before .before .before .before .loop in
     let h : pointCount (a .l) ≤ k .i = omega (arith, c .before .before .wide .ensures, c .before .before .before .point-count .ensures) in (
-      sym (walk-none (a .ink) (a .pen) (a .l) (k .i) (pointCount (a .l)) (wordOf (k .p)) (tallied (k .mem) (k .tally)) h) ∙ k .inv .0,
+      left-ended (k .inv .0) (walk-none (a .ink) (a .pen) (a .l) (k .i) (pointCount (a .l)) (wordOf (k .p)) h),
       c .style-of .ensures ∙ sym (style-done (a .pen) (k .i) (pointCount (a .l)) (wordOf (k .p)) h) ∙ k .inv .1,
     )
 

@@ -51,7 +51,7 @@ loop-again c =
     rw next (tint-takes (start b .pre .0) (l .inv) 8 (fits b) (omega arith) (c .before .before .tint-across .ensures))
 
 same-length : tie.Need-same-length Inv-loop μ-loop
-same-length c = c .before .loop .inv .long
+same-length c = c .before .loop .inv .left .long
 
 returns : tie.Need-returns Inv-loop μ-loop
 returns c = row-ended (c .before .loop .inv) (omega (arith, c .loop-test .left))

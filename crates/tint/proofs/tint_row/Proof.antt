@@ -55,7 +55,7 @@ tint-across-requires : tie.Need-tint-across-requires
 tint-across-requires c κs = let b = c .before in (can-part (start b .pre) (left b) (start b .args .w % 8) (fits b), refl, omega arith)
 
 same-length : tie.Need-same-length
-same-length c = c .before .before .tint-across .kept .0 ∙ left (c .before .before .before .before) .long
+same-length c = c .before .before .tint-across .kept .0 ∙ left (c .before .before .before .before) .left .long
 
 returns : tie.Need-returns
 returns c =

@@ -33,7 +33,7 @@ tint-row-requires c κs =
     let l = c .before .before .before .before .loop in
     let a = c .before .before .before .before .before .before .args in
     let p = c .before .before .before .before .before .before .pre in
-    rw (l .inv .long)
+    rw (l .inv .left .long)
     (record {
       flat = p .0;
       colour = p .1 .0 .colour;
@@ -60,7 +60,7 @@ loop-again c =
     (c .before .before .tint-row .ensures ∙ down-row (a .s) (a .keep .now) (a .flip .now) (a .adds .now) (a .x) (a .y) (a .w) (l .j) (tallied (l .mem) (l .n)))
 
 same-length : tie.Need-same-length Inv-loop μ-loop
-same-length c = c .before .loop .inv .long
+same-length c = c .before .loop .inv .left .long
 
 returns : tie.Need-returns Inv-loop μ-loop
 returns c = rows-ended (c .before .loop .inv) (c .loop-test .left)
