@@ -43,7 +43,7 @@ pixels-of f [] = refl
 pixels-of f (p ∷ ps) = ap (λ (qs : List Px). p ∷ qs) (pixels-of f ps)
 
 -- ---- the tally
-pub dab-upto : (s : Surface) (p : Px) (o : Option ℕ) (st : State) → Upto (st .tally) 1 (dab s p o st .tally)
+dab-upto : (s : Surface) (p : Px) (o : Option ℕ) (st : State) → Upto (st .tally) 1 (dab s p o st .tally)
 unfolding dab
 dab-upto s p none st = upto-more (upto-none (st .tally)) (omega arith)
 dab-upto s p (some v) st = upto-noted 1 (st .tally)
@@ -56,7 +56,7 @@ paint-upto s (t ∷ ts) st =
     upto-more (upto-then (dab-upto s (t .at) (t .gives (st .mem)) st) (paint-upto s ts put)) (omega arith)
 
 -- what is painted, and what it adds to the tally, is the same after any tally
-abbrev pub after : Tally → State → State
+abbrev after : Tally → State → State
 after n st = tallied (st .mem) (noted (st .tally .count) n)
 
 dab-after : (s : Surface) (p : Px) (o : Option ℕ) (n : Tally) (st : State) → dab s p o (after n st) ≡ after n (dab s p o st)
@@ -64,7 +64,7 @@ unfolding dab
 dab-after s p none n st = refl
 dab-after s p (some v) n st = let e : n .count + st .tally .count + 1 ≡ n .count + (st .tally .count + 1) = omega arith in rw e
 
-pub paint-after : (s : Surface) (ts : List Touch) (n : Tally) (st : State) → paint s ts (after n st) ≡ after n (paint s ts st)
+paint-after : (s : Surface) (ts : List Touch) (n : Tally) (st : State) → paint s ts (after n st) ≡ after n (paint s ts st)
 unfolding paint
 paint-after s [] n st = refl
 paint-after s (t ∷ ts) n st =

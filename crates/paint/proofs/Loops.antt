@@ -6,7 +6,7 @@ use mathlib.Core.Bool.{Bool, false}
 use mathlib.Core.List.{List, [], _∷_, _++_, map, map-append}
 use mathlib.Core.Option.{Option}
 use Prim.Native.Nat.{ℕ, suc, _+_, _*_, _^_, _<_, _≤_}
-use native.Mathlib.Nat.{add-mul, mul-le-mul}
+use native.Mathlib.Nat.{mul-add, add-mul, mul-le-mul}
 use native.Mathlib.Omega.{arith}
 use lib.ListN.{length}
 use Rattle.surface.specs.declared.Surface.{Surface}
@@ -17,7 +17,7 @@ use Rattle.paint.specs.Tally.{tally}
 use Rattle.paint.specs.Paint.{State, tallied, state, Touch, touch, dab, paint, nth}
 use Rattle.paint.specs.Asked.{Room}
 use Rattle.paint.proofs.Tallies.{Upto, upto-none, upto-then, upto-more, room-left, room-first}
-use Rattle.paint.proofs.Frame.{paint-length, paint-upto}
+use Rattle.paint.proofs.Frame.{paint-length, paint-upto, painted-after}
 use Rattle.paint.proofs.Turns.{row-left, row-whole, row-turn, row-done, part-turn, rows-left, rows-whole, rows-turn, rows-done, paint-append}
 
 -- pixels, each with what it is given
@@ -124,3 +124,18 @@ module _ {s : Surface} {g : Px → List ℕ → Option ℕ} {l t : Bool} {x y w 
 
     pub rows-ended : h ≤ j → tallied m r ≡ paint s (touches g (rect l t x y w h)) (state m₀ 0)
     rows-ended all = left-ended (now .left) (ap (touches g) (rows-done l t x y w h j all))
+
+-- ---- loops that write every pixel, nothing written before
+pub row-full : {s : Surface} {g : Px → List ℕ → Option ℕ} {back : Bool} {x w y i : ℕ} {m₀ m : List ℕ} → RowLeft s g back x w y m₀ (tally 0) i m (tally i) → w ≤ i
+    → state m w ≡ paint s (touches g (across back x w y)) (state m₀ 0)
+row-full {w = w} {i = i} {m = m} now all = let e : w ≡ i = omega (arith, now .within) in ap (state m) e ∙ row-ended now all
+
+module _ {s : Surface} {g : Px → List ℕ → Option ℕ} {l t : Bool} {x y w h j : ℕ} {m₀ m : List ℕ} (now : RowsLeft s g l t x y w h m₀ j m (tally (w * j))) where
+  pub rows-fill : {m′ : List ℕ} (y′ : ℕ) → j < h → y′ ≡ nth t y h j → state m′ w ≡ paint s (touches g (across l x w y′)) (state m 0)
+      → RowsLeft s g l t x y w h m₀ (j + 1) m′ (tally (w * (j + 1)))
+  rows-fill y′ more here put =
+      let e : w * (j + 1) ≡ w * j + w = omega (arith, mul-add w j 1) in
+      rw e (rows-go-on now y′ more here (painted-after s (touches g (across l x w y′)) m (tally (w * j)) put))
+
+  pub rows-full : h ≤ j → state m (w * h) ≡ paint s (touches g (rect l t x y w h)) (state m₀ 0)
+  rows-full all = let e : h ≡ j = omega (arith, now .within) in ap (λ (n : ℕ). state m (w * n)) e ∙ rows-ended now all

@@ -25,7 +25,7 @@ use Rattle.runs.specs.Runs.{Given, evenly}
 use Rattle.runs.specs.Asked.{RectOn}
 use Rattle.paint.proofs.Owners.{byte-of, of-byte}
 use Rattle.paint.proofs.Settle.{Settled, settled, summed, counted}
-use Rattle.paint.proofs.Loops.{RowLeft, row-begins, row-goes-on, row-ended}
+use Rattle.paint.proofs.Loops.{RowLeft, row-begins, row-goes-on, row-full}
 
 -- ---- the loop over a row, by its column: as many pixels are written as columns were passed
 abbrev pub EvenTo : Surface → ℕ → ℕ → ℕ → ℕ → List ℕ → ℕ → List ℕ → Type 0
@@ -43,7 +43,7 @@ module _ {s : Surface} {v x0 w y : ℕ} {m₀ : List ℕ} where
         (omega arith, rw next (row-goes-on (to .1) x (omega arith) (omega arith) (ap (λ (left : List ℕ). state left (x - x0 + 1)) e) refl))
 
     pub even-ends : x0 + w ≤ x → state m w ≡ paint s (evenly v (across false x0 w y)) (state m₀ 0)
-    even-ends all = ap (state m) (omega (arith, to .1 .within)) ∙ row-ended (to .1) (omega arith)
+    even-ends all = row-full (to .1) (omega arith)
 
 -- ---- a rectangle of one value, by its bytes
 abbrev pub byteNumber : ℕ → Px → ℕ → ℕ

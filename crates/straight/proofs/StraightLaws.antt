@@ -3,7 +3,7 @@
 use mathlib.Core.Path.{_≡_, refl, sym, ap, ap₂, subst, _∙_}
 use mathlib.Core.Bool.{Bool, true, false, cond}
 use mathlib.Core.List.{List}
-use Prim.Native.Nat.{ℕ, zero, suc, _+_, _-_, _*_, _/_, _%_, _^_, _<_, _≤_}
+use Prim.Native.Nat.{ℕ, zero, suc, _+_, _-_, _*_, _/_, _%_, _^_, _<_}
 use native.Mathlib.Nat.{lt-of-lt-of-le, pow-le-pow-right}
 use native.Mathlib.Omega.{arith}
 use lib.ListN.{getD}
@@ -11,15 +11,15 @@ use lib.Seq.{set-getD}
 use Rattle.colour.specs.Convert.{converted}
 use Rattle.surface.specs.Place.{byteOf, readBytes, writeBytes, readPx, writePx}
 use Rattle.surface.specs.Asked.{Held}
-use Rattle.surface.specs.Pixels.{px, across}
+use Rattle.surface.specs.Pixels.{px}
 use Rattle.surface.proofs.Bytes.{read-fits}
 use Rattle.surface.proofs.Run.{in-rows, pixel-held, run-pixel, read-run, write-run}
 use Rattle.paint.specs.Tally.{tally}
-use Rattle.paint.specs.Paint.{state, dab, paint, nth}
+use Rattle.paint.specs.Paint.{state, dab, nth}
 use Rattle.paint.proofs.Frame.{Bytes}
-use Rattle.paint.proofs.Loops.{RowLeft, row-goes-on, row-ended}
+use Rattle.paint.proofs.Loops.{RowLeft, row-goes-on}
 use Rattle.straight.specs.declared.Straight.{Straight}
-use Rattle.straight.specs.Straight.{keyed, straightValue, straightGiving, straightly, copied}
+use Rattle.straight.specs.Straight.{keyed, straightValue, straightGiving, copied}
 use Rattle.straight.specs.Asked.{CanCopy, RowCopies, Formats, PixelCopies, RunAt}
 
 -- ---- bytes that are given what they have
@@ -114,11 +114,6 @@ module _ {t : Straight} {w j len from to d s : ℕ} (row : RowCopies t w j len) 
       → Copying t w j back m₀ (i + 1) m′
   row-copies {back} {i} {m = m} {m′} left more e copy =
       row-goes-on left (t .x + k) more (ap (λ (r : ℕ). t .x + r) e ∙ nth-from back (t .x) w i) (pixel-given i m m′ copy) refl
-
--- and after the last
-pub row-copied : (t : Straight) (j : ℕ) {w i : ℕ} {back : Bool} {m₀ m : List ℕ} → Copying t w j back m₀ i m → w ≤ i
-    → state m w ≡ paint (t .target) (straightly t (across back (t .x) w (t .y + j))) (state m₀ 0)
-row-copied t j {w} {i} {m = m} left all = let e : w ≡ i = omega (arith, left .within) in ap (state m) e ∙ row-ended left all
 
 -- ---- the rows of a rectangle
 pub can-row : {t : Straight} {w h len : ℕ} → CanCopy t w h len → (j : ℕ) → j < h → RowCopies t w j len

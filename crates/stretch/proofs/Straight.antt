@@ -4,7 +4,7 @@ use mathlib.Core.Path.{_≡_, refl, sym, ap, ap₂, subst, _∙_}
 use mathlib.Core.Bool.{Bool, true, false, not, _&&_}
 use mathlib.Core.List.{List}
 use mathlib.Core.Option.{Option}
-use Prim.Native.Nat.{ℕ, _+_, _-_, _*_, _<_, _≤_}
+use Prim.Native.Nat.{ℕ, _+_, _-_, _*_, _<_}
 use native.Mathlib.Omega.{arith}
 use borrow.Author.Tests.{not-true}
 use Rattle.surface.specs.Place.{byteOf}
@@ -13,8 +13,8 @@ use Rattle.surface.specs.Pixels.{Px, px, across, origin}
 use Rattle.surface.proofs.OnLaws.{and-left, and-right}
 use Rattle.surface.proofs.Run.{in-rows, pixel-held, run-pixel}
 use Rattle.paint.specs.Tally.{tally}
-use Rattle.paint.specs.Paint.{state, dab, paint}
-use Rattle.paint.proofs.Loops.{RowLeft, row-goes-on, row-ended}
+use Rattle.paint.specs.Paint.{state, dab}
+use Rattle.paint.proofs.Loops.{RowLeft, row-goes-on}
 use Rattle.straight.specs.Straight.{straightGiving, copied}
 use Rattle.straight.specs.Asked.{PixelCopies}
 use Rattle.straight.proofs.StraightLaws.{copied-px}
@@ -24,7 +24,7 @@ use Rattle.scale.specs.declared.Stretch.{Stretch}
 use Rattle.scale.specs.declared.Walk.{Walk}
 use Rattle.scale.specs.Scale.{scaled, walkAt}
 use Rattle.scale.specs.Stretch.{takenAt, pixelTask}
-use Rattle.stretch.specs.Row.{openTask, straightly}
+use Rattle.stretch.specs.Row.{openTask}
 use Rattle.stretch.specs.Asked.{rowOf, RowTakes, RunAt}
 use Rattle.stretch.proofs.Taken.{walk-place}
 
@@ -95,8 +95,3 @@ module _ {t : Stretch} {x y w len from to d s : ℕ} (row : RowTakes t x y w len
   row-copies {m = m} {m′} left here more copy =
       let place = walk-place (t .columns) (origin + (x + i)) here in
       row-goes-on left (x + i) more refl (pixel-given i m m′ (copy ∙ ap (λ (k : ℕ). copied (straightOf (openTask t)) (d + i * to) (s + (k - origin) * from) m) place)) refl
-
--- and after the last
-pub row-copied : (t : Stretch) (x y : ℕ) {w i : ℕ} {m₀ m : List ℕ} → Copying t x w y m₀ i m → w ≤ i
-    → state m w ≡ paint (t .ink .target) (straightly t (across false x w y)) (state m₀ 0)
-row-copied t x y {w} {i} {m = m} left all = let e : w ≡ i = omega (arith, left .within) in ap (state m) e ∙ row-ended left all

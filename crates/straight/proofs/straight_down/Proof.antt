@@ -5,8 +5,8 @@ use mathlib.Core.Path.{_≡_}
 use mathlib.Core.Bool.{true}
 use Prim.Native.Nat.{_+_, _-_, _≤_}
 use borrow.Author.Needs.{needs}
-use Rattle.paint.proofs.Loops.{row-begins}
-use Rattle.straight.proofs.StraightLaws.{Copying, pixel-copies, row-copies, row-copied}
+use Rattle.paint.proofs.Loops.{row-begins, row-full}
+use Rattle.straight.proofs.StraightLaws.{Copying, pixel-copies, row-copies}
 use Rattle.straight.proofs.straight_down.Statement.{statement}
 use Rattle.straight.proofs.straight_down.Tie as tie
 
@@ -56,7 +56,7 @@ same-length : tie.Need-same-length Inv-loop μ-loop
 same-length c = c .before .loop .inv .0 .left .long
 
 returns : tie.Need-returns Inv-loop μ-loop
-returns c = let a = c .before .before .before .args in row-copied (a .t) (a .j) (c .before .loop .inv .0) (omega arith)
+returns c = row-full (c .before .loop .inv .0) (omega arith)
 
 pub straight-down-spec : {M : Type 1} → statement M
 straight-down-spec =

@@ -1,17 +1,14 @@
 -- `straight::straight_rows` meets its contract: what remains of the rectangle, painted on the memory now, is the rectangle painted on the memory at the start.
 -- Assumes nothing.
-use native.Mathlib.Nat.{mul-zero, mul-add, mul-le-mul}
+use native.Mathlib.Nat.{mul-zero, mul-le-mul}
 use native.Mathlib.Omega.{arith}
-use mathlib.Core.Path.{_≡_, ap, _∙_}
+use mathlib.Core.Path.{ap, _∙_}
 use Prim.Native.Nat.{ℕ, _+_, _-_, _*_, _^_}
 use borrow.Author.Needs.{needs}
-use Rattle.surface.specs.Pixels.{across}
 use Rattle.paint.specs.Tally.{tally}
-use Rattle.paint.specs.Paint.{state}
-use Rattle.paint.proofs.Frame.{painted-after}
 use Rattle.paint.proofs.Turns.{nth-in}
-use Rattle.paint.proofs.Loops.{RowsLeft, rows-begin, rows-go-on, rows-ended}
-use Rattle.straight.specs.Straight.{straightGiving, straightly}
+use Rattle.paint.proofs.Loops.{RowsLeft, rows-begin, rows-fill, rows-full}
+use Rattle.straight.specs.Straight.{straightGiving}
 use Rattle.straight.proofs.StraightLaws.{nth-from, can-row}
 use Rattle.straight.proofs.straight_rows.Statement.{statement}
 use Rattle.straight.proofs.straight_rows.Tie as tie
@@ -47,10 +44,8 @@ loop-again c =
     let a = c .before .before .before .before .before .before .before .before .args in
     let k = c .before .before .before .before .before .before .loop in
     let j = c .before .before .before .before .place in
-    let more : a .w * (k .i + 1) ≡ a .w * k .i + a .w = omega (arith, mul-add (a .w) (k .i) 1) in
-    rw more
-    (rows-go-on (k .inv) (a .t .y + j .result) (c .before .before .before .before .before .loop-test .taken) (ap (λ (r : ℕ). a .t .y + r) (j .ensures) ∙ nth-from (a .toTop) (a .t .y) (a .h) (k .i))
-    (painted-after (a .t .target) (straightly (a .t) (across (a .toLeft) (a .t .x) (a .w) (a .t .y + j .result))) (k .mem) (tally (a .w * k .i)) (c .before .before .straight-row .ensures)))
+    rows-fill (k .inv) (a .t .y + j .result) (c .before .before .before .before .before .loop-test .taken)
+    (ap (λ (r : ℕ). a .t .y + r) (j .ensures) ∙ nth-from (a .toTop) (a .t .y) (a .h) (k .i)) (c .before .before .straight-row .ensures)
 
 mul-count : tie.Need-mul-count Inv-loop μ-loop
 mul-count c =
@@ -61,11 +56,7 @@ same-length : tie.Need-same-length Inv-loop μ-loop
 same-length c = search needs
 
 returns : tie.Need-returns Inv-loop μ-loop
-returns c =
-    let k = c .before .loop in
-    let a = c .before .before .before .args in
-    let all : a .h ≡ k .i = omega (arith, c .loop-test .left) in
-    ap (λ (n : ℕ). state (k .mem) (a .w * n)) all ∙ rows-ended (k .inv) (c .loop-test .left)
+returns c = rows-full (c .before .loop .inv) (c .loop-test .left)
 
 pub straight-rows-spec : {M : Type 1} → statement M
 straight-rows-spec =

@@ -4,8 +4,8 @@ use native.Mathlib.Omega.{arith}
 use mathlib.Core.Bool.{false}
 use Prim.Native.Nat.{_-_}
 use borrow.Author.Needs.{needs}
-use Rattle.paint.proofs.Loops.{row-begins}
-use Rattle.straight.proofs.StraightLaws.{Copying, pixel-copies, row-copies, row-copied}
+use Rattle.paint.proofs.Loops.{row-begins, row-full}
+use Rattle.straight.proofs.StraightLaws.{Copying, pixel-copies, row-copies}
 use Rattle.straight.proofs.straight_up.Statement.{statement}
 use Rattle.straight.proofs.straight_up.Tie as tie
 
@@ -47,7 +47,7 @@ same-length : tie.Need-same-length Inv-loop μ-loop
 same-length c = c .before .loop .inv .left .long
 
 returns : tie.Need-returns Inv-loop μ-loop
-returns c = let a = c .before .before .before .args in row-copied (a .t) (a .j) (c .before .loop .inv) (c .loop-test .left)
+returns c = row-full (c .before .loop .inv) (c .loop-test .left)
 
 pub straight-up-spec : {M : Type 1} → statement M
 straight-up-spec =

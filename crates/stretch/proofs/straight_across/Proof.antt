@@ -5,10 +5,10 @@ use native.Mathlib.Omega.{arith}
 use mathlib.Core.Path.{_≡_}
 use Prim.Native.Nat.{_+_, _-_}
 use Rattle.surface.specs.Pixels.{origin}
-use Rattle.paint.proofs.Loops.{row-begins}
+use Rattle.paint.proofs.Loops.{row-begins, row-full}
 use Rattle.scale.specs.Scale.{walkAt}
 use Rattle.stretch.proofs.Taken.{can-step, steps-on, walk-begins, walk-place}
-use Rattle.stretch.proofs.Straight.{Copying, pixel-copies, row-copies, row-copied}
+use Rattle.stretch.proofs.Straight.{Copying, pixel-copies, row-copies}
 use Rattle.stretch.proofs.straight_across.Statement.{statement}
 use Rattle.stretch.proofs.straight_across.Tie as tie
 
@@ -72,7 +72,7 @@ same-length : tie.Need-same-length Inv-loop μ-loop
 same-length c = (c .before .loop .inv .0 .left .long)
 
 returns : tie.Need-returns Inv-loop μ-loop
-returns c = let a = (c .before .before .before .args) in row-copied (a .t) (a .x) (a .y) (c .before .loop .inv .0) (c .loop-test .left)
+returns c = row-full (c .before .loop .inv .0) (c .loop-test .left)
 
 pub straight-across-spec : {M : Type 1} → statement M
 straight-across-spec =

@@ -2,17 +2,14 @@
 -- Assumes nothing.
 use borrow.Author.Needs.{needs}
 use native.Mathlib.Omega.{arith}
-use native.Mathlib.Nat.{mul-zero, mul-add, mul-le-mul}
-use mathlib.Core.Path.{_≡_, refl, ap, _∙_}
+use native.Mathlib.Nat.{mul-zero, mul-le-mul}
+use mathlib.Core.Path.{_≡_, refl}
 use mathlib.Core.Bool.{false}
-use Prim.Native.Nat.{ℕ, _+_, _-_, _*_, _^_}
-use Rattle.surface.specs.Pixels.{across, origin}
+use Prim.Native.Nat.{_+_, _-_, _*_, _^_}
+use Rattle.surface.specs.Pixels.{origin}
 use Rattle.paint.specs.Tally.{tally}
-use Rattle.paint.specs.Paint.{state}
-use Rattle.paint.proofs.Frame.{painted-after}
-use Rattle.paint.proofs.Loops.{RowsLeft, rows-begin, rows-go-on, rows-ended}
+use Rattle.paint.proofs.Loops.{RowsLeft, rows-begin, rows-fill, rows-full}
 use Rattle.scale.specs.Scale.{walkAt}
-use Rattle.stretch.specs.Row.{straightly}
 use Rattle.stretch.proofs.Taken.{can-step, steps-on, walk-begins, walk-place, can-take, can-row}
 use Rattle.stretch.proofs.Straight.{straightlyAt}
 use Rattle.stretch.proofs.straight_rows.Statement.{statement}
@@ -63,11 +60,8 @@ loop-again c =
     let p = (c .before .before .before .before .before .before .before .before .before .pre .0) in
     let rows = p .can .rows (p .wide) (p .high) in
     let k = (c .before .before .before .before .before .before .before .loop) in
-    let more = (c .before .before .before .before .before .before .loop-test .taken) in
-    let next-row : a .w * (k .j + 1) ≡ a .w * k .j + a .w = omega (arith, mul-add (a .w) (k .j) 1) in (
-      rw next-row
-          (rows-go-on (k .inv .0) (a .y + k .j) more refl
-          (painted-after (a .t .ink .target) (straightly (a .t) (across false (a .x) (a .w) (a .y + k .j))) (k .mem) (tally (a .w * k .j)) (c .before .before .before .straight-row .ensures))),
+    let more = (c .before .before .before .before .before .before .loop-test .taken) in (
+      rows-fill (k .inv .0) (a .y + k .j) more refl (c .before .before .before .straight-row .ensures),
       steps-on (a .y) (a .h) (k .j) (rows .0) (rows .1) (k .inv .1) more (c .next .ensures),
     )
 
@@ -80,11 +74,7 @@ same-length : tie.Need-same-length Inv-loop μ-loop
 same-length c = search needs
 
 returns : tie.Need-returns Inv-loop μ-loop
-returns c =
-    let k = c .before .loop in
-    let a = c .before .before .before .args in
-    let all : a .h ≡ k .j = omega (arith, c .loop-test .left, k .inv .0 .within) in
-    ap (λ (n : ℕ). state (k .mem) (a .w * n)) all ∙ rows-ended (k .inv .0) (c .loop-test .left)
+returns c = rows-full (c .before .loop .inv .0) (c .loop-test .left)
 
 pub straight-rows-spec : {M : Type 1} → statement M
 straight-rows-spec =
