@@ -1,10 +1,10 @@
--- Laws of drawing: what is touched is what is covered, each covered pixel is inside the clip and none comes twice; and one turn of a loop over the points.
+-- Laws of drawing: what is touched is what is covered, each covered pixel is inside the clip; and one turn of a loop over the points.
 -- Assumes nothing.
 use mathlib.Core.Path.{_≡_, refl, sym, ap, ap₂, subst, _∙_}
 use mathlib.Core.Logic.{⊎-elim}
 use mathlib.Core.Bool.{Bool, true, false, not, _&&_, _||_, and-true}
 use mathlib.Core.List.{List, [], _∷_, _++_, map, List·Memᴰ, List·Memᴰ·head, List·Memᴰ·tail, List·Memᴰ·not-nil, List·Memᴰ·cases-cons, Memᴰ·map}
-use Prim.Native.Nat.{ℕ, zero, suc, _+_, _-_, _<_, _≤_, min, max}
+use Prim.Native.Nat.{ℕ, _+_, _-_, _<_, _≤_, min, max}
 use native.Mathlib.Omega.{arith}
 use lib.ListN.{length}
 use Rattle.surface.specs.declared.Surface.{Surface}
@@ -13,7 +13,7 @@ use Rattle.surface.specs.Pixels.{Px, rect, origin}
 use Rattle.spans.specs.Span.{allOn}
 use Rattle.surface.proofs.OnLaws.{and-left, and-right}
 use Rattle.surface.proofs.Lists.{In}
-use Rattle.surface.proofs.Rects.{Distinct, rect-in}
+use Rattle.surface.proofs.Rects.{rect-in}
 use Rattle.spans.proofs.Corner.{all-each, each-all}
 use Rattle.paint.specs.declared.Clip.{Clip}
 use Rattle.ink.specs.declared.Ink.{Ink}
@@ -25,11 +25,11 @@ use Rattle.paint.proofs.ClipLaws.{in-clip}
 use Rattle.line.specs.declared.Point.{Point}
 use Rattle.line.specs.declared.Line.{Line}
 use Rattle.line.specs.declared.Pen.{Pen}
-use Rattle.line.specs.Line.{longer, pointAt, pointsFrom, pointCount, points}
+use Rattle.line.specs.Line.{pointAt, pointsFrom, points}
 use Rattle.line.specs.Stipple.{stippleBit, after}
 use Rattle.line.specs.Draw.{coveredPoints, lineTouches, lineOff}
-use Rattle.line.proofs.Sides.{either, count-le}
-use Rattle.line.proofs.PointLaws.{from-each, points-in-box, points-differ, same-point, from-cons, from-none}
+use Rattle.line.proofs.Sides.{either}
+use Rattle.line.proofs.PointLaws.{points-in-box, from-cons, from-none}
 
 not-and : (a b : Bool) → not (a && b) ≡ (not a || not b)
 not-and true b = refl
@@ -45,7 +45,7 @@ touches-covered ink pattern c pen style (p ∷ ps) =
     either (inClip c (p .x) (p .y)) (λ e. rw e (ap (λ (qs : List Px). pixelAt (p .x) (p .y) ∷ qs) more)) (λ e. rw e more)
 
 -- what holds of each point inside the clip holds of each covered pixel
-covered-each : (P : Px → Type 0) (c : Clip) (ps : List Point)
+pub covered-each : (P : Px → Type 0) (c : Clip) (ps : List Point)
     → ((p : Point) → List·Memᴰ p ps → inClip c (p .x) (p .y) ≡ true → P (pixelAt (p .x) (p .y))) → (q : Px) → In q (coveredPoints c ps) → P q
 unfolding coveredPoints
 covered-each P c [] f q m = absurd (List·Memᴰ·not-nil m)
@@ -77,35 +77,6 @@ box-on s len c l w h e f on =
     let b = points-in-box l p m in
     all-each s len (rect false false 0 0 w h) on (pixelAt (p .x) (p .y))
     (rect-in false false 0 0 w h _ (record { left = omega arith; right = omega arith; top = omega arith; bottom = omega arith }))))))
-
--- ---- no pixel comes twice
-same-pixel : (c : Clip) (p q : Point) → inClip c (p .x) (p .y) ≡ true → inClip c (q .x) (q .y) ≡ true
-    → pixelAt (p .x) (p .y) ≡ pixelAt (q .x) (q .y) → p ≡ q
-same-pixel c p q e f g =
-    let a = in-clip c (p .x) (p .y) e in
-    let b = in-clip c (q .x) (q .y) f in
-    let x : p .x - origin ≡ q .x - origin = ap (λ (r : Px). r .x) g in
-    let y : p .y - origin ≡ q .y - origin = ap (λ (r : Px). r .y) g in
-    same-point p q (omega arith) (omega arith)
-
-from-distinct : (c : Clip) (l : Line) (i k : ℕ) → i + k ≤ longer l + 1 → Distinct (coveredPoints c (pointsFrom l i k))
-unfolding coveredPoints pointsFrom
-from-distinct c l i zero h = tt
-from-distinct c l i (suc k) h =
-    let more = from-distinct c l (i + 1) k (omega arith) in
-    let p = pointAt l i in
-    either (inClip c (p .x) (p .y))
-    (λ e. rw e (
-      covered-each (λ q. pixelAt (p .x) (p .y) ≡ q → ⊥) c (pointsFrom l (i + 1) k)
-          (from-each (λ q. inClip c (q .x) (q .y) ≡ true → pixelAt (p .x) (p .y) ≡ pixelAt (q .x) (q .y) → ⊥) l (i + 1) k (λ j a b f g.
-          let s = points-differ l i j (omega arith) (omega arith) (same-pixel c p (pointAt l j) e f g) in omega arith)),
-      more,
-    ))
-    (λ e. rw e more)
-
-pub covered-distinct : (c : Clip) (l : Line) → Distinct (coveredPoints c (points l))
-unfolding points
-covered-distinct c l = from-distinct c l 0 (pointCount l) (omega (arith, count-le l))
 
 -- ---- one point
 module _ (s : Surface) (len : ℕ) (c : Clip) (p : Point) where
