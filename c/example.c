@@ -1,4 +1,5 @@
-/* A sheet of 96 x 64 pixels: a background, two fills, a line and a glyph, drawn by register writes and saved as a PPM picture.
+/* A sheet of 96 x 64 pixels: a background, two fills, a line and a glyph, drawn by register writes and saved as a PPM picture. Of each drawing it says how
+   many pixels were written and how many of them changed; the last fill is done again, and changes none.
 
    On x86-64:
        rt staticlib capi
@@ -28,38 +29,48 @@ static uint8_t memory[MEMORY];
 
 static uint32_t both(uint32_t x, uint32_t y) { return y << 16 | x; }
 
-/* Writes a register, and stops with the number of the answer where it is refused. Gives the count of pixels. */
-static uint32_t out(uint32_t offset, uint32_t word)
+/* The pixels that were written since the last report, and how many of them changed. */
+static uint32_t written, changed;
+
+/* Writes a register, and stops with the number of the answer where it is refused. */
+static void out(uint32_t offset, uint32_t word)
 {
-    uint64_t answer = rimebarrow_write(state, sizeof state, memory, sizeof memory, offset, word);
+    uint32_t differ;
+    uint64_t answer = rimebarrow_write(state, sizeof state, memory, sizeof memory, offset, word, &differ);
     if (rimebarrow_number(answer) != 0) {
         fprintf(stderr, "write of %08x to %02x refused: %u\n", (unsigned)word, (unsigned)offset, (unsigned)rimebarrow_number(answer));
         exit(1);
     }
-    return rimebarrow_value(answer);
+    written += rimebarrow_value(answer);
+    changed += differ;
 }
 
-static uint32_t fill(uint32_t x, uint32_t y, uint32_t w, uint32_t h, uint32_t colour)
+static void report(const char *what)
+{
+    printf("%s: %u pixels, %u changed\n", what, (unsigned)written, (unsigned)changed);
+    written = changed = 0;
+}
+
+static void fill(uint32_t x, uint32_t y, uint32_t w, uint32_t h, uint32_t colour)
 {
     out(COLOR_FORE, colour);
     out(DST_SIZE, both(w, h));
     out(COMMAND, FILL);
-    return out(LAUNCH, both(x, y));
+    out(LAUNCH, both(x, y));
 }
 
-static uint32_t line(uint32_t x0, uint32_t y0, uint32_t x1, uint32_t y1, uint32_t colour)
+static void line(uint32_t x0, uint32_t y0, uint32_t x1, uint32_t y1, uint32_t colour)
 {
     out(COLOR_FORE, colour);
     out(SRC_XY, both(x0, y0));
     out(COMMAND, LINE);
-    return out(LAUNCH, both(x1, y1));
+    out(LAUNCH, both(x1, y1));
 }
 
 /* An R of 8 x 7 bits, a byte a row, the leftmost pixel in the high bit; two words of data, low byte first. */
-static uint32_t glyph(uint32_t x, uint32_t y, uint32_t fore, uint32_t back)
+static void glyph(uint32_t x, uint32_t y, uint32_t fore, uint32_t back)
 {
     static const uint32_t words[2] = {0x7c66667c, 0x0066666c};
-    uint32_t count = 0;
     out(COLOR_FORE, fore);
     out(COLOR_BACK, back);
     out(SRC_FORMAT, PACKED_BYTES);
@@ -68,8 +79,7 @@ static uint32_t glyph(uint32_t x, uint32_t y, uint32_t fore, uint32_t back)
     out(DST_XY, both(x, y));
     out(COMMAND, HOST_BLIT);
     for (int k = 0; k < 2; k++)
-        count += out(LAUNCH, words[k]);
-    return count;
+        out(LAUNCH, words[k]);
 }
 
 static void save(const char *path)
@@ -100,10 +110,18 @@ int main(int argc, char **argv)
     out(CLIP0_MAX, both(WIDTH, HEIGHT));
     out(DST_BASE, 0);
     out(DST_FORMAT, FORMAT_32 | STRIDE);
-    printf("background: %u pixels\n", (unsigned)fill(0, 0, WIDTH, HEIGHT, 0x00f0ece0));
-    printf("fills: %u and %u pixels\n", (unsigned)fill(8, 8, 40, 24, 0x00b03030), (unsigned)fill(40, 24, 48, 32, 0x003060a0));
-    printf("line: %u pixels\n", (unsigned)line(4, 60, 90, 4, 0x00202020));
-    printf("glyph: %u pixels\n", (unsigned)glyph(12, 44, 0x00000000, 0x00ffffff));
+    fill(0, 0, WIDTH, HEIGHT, 0x00f0ece0);
+    report("background");
+    fill(8, 8, 40, 24, 0x00b03030);
+    report("first fill");
+    fill(40, 24, 48, 32, 0x003060a0);
+    report("second fill");
+    fill(40, 24, 48, 32, 0x003060a0);
+    report("the same again");
+    line(4, 60, 90, 4, 0x00202020);
+    report("line");
+    glyph(12, 44, 0x00000000, 0x00ffffff);
+    report("glyph");
     printf("dstXY reads %08x\n", (unsigned)rimebarrow_value(rimebarrow_read(state, sizeof state, DST_XY)));
     save(path);
     printf("saved %s\n", path);

@@ -20,7 +20,8 @@
    and one more, of these functions alone:
    255  the state has another length than RIMEBARROW_STATE_SIZE, another mark in its first word, or a word at 04 that is neither 0 nor 1. Any other
         bytes are taken as an engine's, also where rimebarrow_open did not make them
-   A call that is answered with a number other than 0 has changed no byte of state and memory; a refused view puts 0 into its two numbers. */
+   A call that is answered with a number other than 0 has changed no byte of state and memory; a refused write puts 0 into *changed, and a refused view puts
+   0 into its two numbers. */
 #ifndef RIMEBARROW_H
 #define RIMEBARROW_H
 
@@ -48,8 +49,10 @@ size_t rimebarrow_state_size(void);
 uint32_t rimebarrow_open(uint8_t *state, size_t state_length, size_t memory_length);
 
 /* Writes a word to the register at an offset, as a program writes it to the card, and carries out the command where there is one.
-   Gives the number of the answer in the high 32 bits, and in the low 32 the count of pixels written. */
-uint64_t rimebarrow_write(uint8_t *state, size_t state_length, uint8_t *memory, size_t memory_length, uint32_t offset, uint32_t word);
+   Gives the number of the answer in the high 32 bits, and in the low 32 the count of pixels written. Puts into *changed how many of these have a byte that
+   is not what it was just before the pixel was stored. All bytes of a pixel count, at 32 bits also the top one; so 0 says that the memory is what it was.
+   Where the answer is a refusal or 255, and where nothing is drawn, both counts are 0. */
+uint64_t rimebarrow_write(uint8_t *state, size_t state_length, uint8_t *memory, size_t memory_length, uint32_t offset, uint32_t word, uint32_t *changed);
 
 /* Reads the register at an offset. Gives the number of the answer (0, 2 or 255) in the high 32 bits, and in the low 32 the word, 0 where refused. */
 uint64_t rimebarrow_read(const uint8_t *state, size_t state_length, uint32_t offset);

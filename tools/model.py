@@ -1,18 +1,20 @@
-"""A plain model of the 2D engine, written from the scope paper and change requests One, Three
-and Six, with the readings of docs/DECISIONS.md where these leave a choice; to be read beside
-them and compared with other programs. It is not meant to be fast.
+"""A plain model of the 2D engine, written from the scope paper and change requests One, Two,
+Three and Six, with the readings of docs/DECISIONS.md where these leave a choice; to be read
+beside them and compared with other programs. It is not meant to be fast.
 
-Names in quotes in the comments are sections of the paper; "Thumbnails" is request One,
-"The smear" request Three and "Tiles" request Six. A name after the word DECISIONS is an entry
-there. Run as a program it plays a stream from its input.
+Names in quotes in the comments are sections of the paper; "Thumbnails" is request One, "What
+really changed" request Two, "The smear" request Three and "Tiles" request Six. A name after the
+word DECISIONS is an entry there. Run as a program it plays a stream from its input.
 """
 
 import copy
 import sys
 from dataclasses import dataclass
-from typing import Iterator
+from typing import Iterable, Iterator
 
 Pixel = tuple[int, int]  # (x, y), signed integers (DECISIONS, "Positions do not wrap within a command")
+Drawn = tuple[int, int]  # pixels written, and those of them that changed ("What really changed")
+Answer = tuple[int, int, int]  # the number, and what was drawn; a refusal has 0 and 0
 
 LIMIT = 16_777_216  # "What a write answers", row 1
 PROGRAM_MEMORY = 65_536  # "The program"
@@ -189,6 +191,12 @@ def line_points(start: Pixel, end: Pixel) -> list[Pixel]:
     return points
 
 
+def sum_of(parts: Iterable[Drawn]) -> Drawn:
+    """What is drawn in several parts: both numbers added up."""
+    parts = list(parts)
+    return sum(count for count, _ in parts), sum(changed for _, changed in parts)
+
+
 class Engine:
     def __init__(self, length: int) -> None:
         """By "Registers": a fresh engine has all of them 0. Any length will do (DECISIONS, "Opening")."""
@@ -199,19 +207,20 @@ class Engine:
 
     # --- "What a write answers" ---
 
-    def write(self, mem: bytearray, offset: int, word: int) -> tuple[int, int]:
-        """One register write: the answer's number and the count of pixels written."""
+    def write(self, mem: bytearray, offset: int, word: int) -> Answer:
+        """One register write: the answer's number, the count of pixels written and, by "What
+        really changed", of these the ones whose bytes differ."""
         if len(mem) > LIMIT or len(mem) != self.length:  # row 1
-            return 1, 0
+            return 1, 0, 0
         if offset not in REGISTERS and not is_launch(offset) and pattern_index(offset) is None:
-            return 2, 0  # row 2
+            return 2, 0, 0  # row 2
         if self.waiting is not None and not is_launch(offset) and offset != COMMAND:
-            return 3, 0  # row 3
+            return 3, 0, 0  # row 3
         before = copy.deepcopy((self.registers, self.pattern, self.waiting))
-        number, count = self.take(mem, offset, word)
-        if number != 0:  # the very register write is undone too
+        answer = self.take(mem, offset, word)
+        if answer[0] != 0:  # the very register write is undone too
             self.registers, self.pattern, self.waiting = before
-        return number, count
+        return answer
 
     def read(self, offset: int) -> tuple[int, int]:
         """A register read back; row 2 also for the launch area; a refused read gives 0."""
@@ -222,20 +231,20 @@ class Engine:
             return 2, 0
         return 0, int.from_bytes(self.pattern[index:index + 4], "little")
 
-    def take(self, mem: bytearray, offset: int, word: int) -> tuple[int, int]:
+    def take(self, mem: bytearray, offset: int, word: int) -> Answer:
         """A write that passed rows 1 to 3. "Which pixels": what runs, where launch data goes."""
         index = pattern_index(offset)
         if index is not None:
             self.pattern[index:index + 4] = word.to_bytes(4, "little")
-            return 0, 0
+            return 0, 0, 0
         if not is_launch(offset):
             self.store(REGISTERS[offset][0], word)
             if offset == COMMAND:
                 self.waiting = None  # a write to command abandons the rest
-            return self.run(mem, b"") if offset == COMMAND and self.flag(8) else (0, 0)
+            return self.run(mem, b"") if offset == COMMAND and self.flag(8) else (0, 0, 0)
         data = word.to_bytes(4, "little")  # host data comes low byte first
         if self.waiting is not None:
-            return 0, self.feed(mem, data)
+            return 0, *self.feed(mem, data)
         if self.number() in FROM_MEMORY:
             self.store("srcXY", word)
         elif self.number() in (FILL, LINE, POLYLINE):
@@ -379,25 +388,25 @@ class Engine:
         points = line_points(self.place("srcXY"), self.place("dstXY"))
         return points[:-1] if self.number() == POLYLINE else points
 
-    def run(self, mem: bytearray, data: bytes) -> tuple[int, int]:
+    def run(self, mem: bytearray, data: bytes) -> Answer:
         """Carries out the command; data is the launch word's bytes, or none with bit 8."""
         number, covered = self.judge(len(mem))
         if number != 0 or self.number() == NOP:
-            return number, 0
+            return number, 0, 0
         if self.number() == HOST:
             self.waiting = bytearray()
-            return 0, self.feed(mem, data)
+            return 0, *self.feed(mem, data)
         if self.number() in (LINE, POLYLINE):
-            return 0, self.draw_line(mem)
-        count = 0
+            return 0, *self.draw_line(mem)
+        parts = []
         for x, y in covered:
             if self.number() in FROM_MEMORY:  # by "The smear" each read sees the writes before it
-                count += self.draw_from_source(mem, x, y, self.source().get(mem, *self.source_of(x, y)))
+                parts.append(self.draw_from_source(mem, x, y, self.source().get(mem, *self.source_of(x, y))))
             else:  # a fill's source is colorFore; its transparency is by the mono pattern
                 bit = self.mono_pattern_bit(x, y) if self.flag(13) else None
-                count += self.draw(mem, x, y, self.colour(1), bit, False)
+                parts.append(self.draw(mem, x, y, self.colour(1), bit, False))
         self.advance()
-        return 0, count
+        return 0, *sum_of(parts)
 
     def advance(self) -> None:
         """Bits 10 and 11, after a copy, host blit or fill; each wraps in its 13 bits."""
@@ -413,19 +422,19 @@ class Engine:
         source = self.source()
         return (height - 1) * source.step + row_bytes(width, source.depth) if width * height else 0
 
-    def feed(self, mem: bytearray, data: bytes) -> int:
+    def feed(self, mem: bytearray, data: bytes) -> Drawn:
         """Host data; what is left over at the end is dropped. A blit that has all it needs ends."""
-        count = 0
+        parts = []
         for byte in data:
             if len(self.waiting) < self.host_bytes():
                 self.waiting.append(byte)
-                count += self.draw_host_pixels(mem, self.waiting)
+                parts.append(self.draw_host_pixels(mem, self.waiting))
         if len(self.waiting) == self.host_bytes():
             self.waiting = None
             self.advance()
-        return count
+        return sum_of(parts)
 
-    def draw_host_pixels(self, mem: bytearray, data: bytearray) -> int:
+    def draw_host_pixels(self, mem: bytearray, data: bytearray) -> Drawn:
         """A pixel is drawn when its last byte has come: here those that end with the data."""
         source = self.source()
         row, along = divmod(len(data) - 1, source.step)
@@ -434,11 +443,11 @@ class Engine:
             first, past = along // source.size(), (along + 1) // source.size()  # one pixel or none
         host = Surface(0, source.step, source.depth)  # the data seen as a surface
         left, top, right, _ = self.rectangle()
-        count = 0
+        parts = []
         for column in range(first, past):
             if left + column < right and self.in_clip(left + column, top + row):
-                count += self.draw_from_source(mem, left + column, top + row, host.get(data, column, row))
-        return count
+                parts.append(self.draw_from_source(mem, left + column, top + row, host.get(data, column, row)))
+        return sum_of(parts)
 
     # --- "What is put there" ---
 
@@ -465,7 +474,7 @@ class Engine:
         depth = self.target().depth  # eight pixels are as many bytes as one has bits
         return Surface(0, depth, depth).get(self.pattern, *self.pattern_place(x, y))
 
-    def draw_from_source(self, mem: bytearray, x: int, y: int, value: int) -> int:
+    def draw_from_source(self, mem: bytearray, x: int, y: int, value: int) -> Drawn:
         """A copied or host pixel. Mono never matches; keys are tested before conversion."""
         depth = self.source().depth
         if depth == 1:
@@ -474,20 +483,20 @@ class Engine:
         match = self.extra(0) and key_match(value, depth, low, high)
         return self.draw(mem, x, y, convert(value, depth, self.target().depth), None, match)
 
-    def draw_line(self, mem: bytearray) -> int:
+    def draw_line(self, mem: bytearray) -> Drawn:
         """Draws the points inside the clip; the stipple steps after each, clipped or not."""
-        count = 0
+        parts = []
         for x, y in self.points():
             bit = None
             if self.flag(12):
                 number = bits(self.registers["lineStyle"], 28, 24)
                 bit = bits(self.registers["lineStipple"], number, number)
             if self.in_clip(x, y):
-                count += self.draw(mem, x, y, self.colour(bit != 0), bit, False)
+                parts.append(self.draw(mem, x, y, self.colour(bit != 0), bit, False))
             if self.flag(12):
                 self.step_stipple()
         self.registers["srcXY"] = self.registers["dstXY"]  # "Which pixels"
-        return count
+        return sum_of(parts)
 
     def step_stipple(self) -> None:
         """Repeat position 23:16 below 7:0, then bit number 28:24 below 12:8; stored back."""
@@ -500,19 +509,21 @@ class Engine:
             number = number + 1 if number < bits(style, 12, 8) else 0
         self.registers["lineStyle"] = number << 24 | position << 16 | bits(style, 15, 0)
 
-    def draw(self, mem: bytearray, x: int, y: int, source: int, bit: int | None, source_match: bool) -> int:
-        """Writes one covered pixel and counts 1, or leaves it (bit 16) and counts 0. The bit
-        is that of the mono source, mono pattern or stipple, where there is one."""
+    def draw(self, mem: bytearray, x: int, y: int, source: int, bit: int | None, source_match: bool) -> Drawn:
+        """Writes one covered pixel, or leaves it (bit 16), and then it counts as neither. The bit
+        is that of the mono source, mono pattern or stipple, where there is one. By "What really
+        changed" a pixel counts there if one of its bytes is not what it was just before this."""
         if self.flag(16) and bit == 0:
-            return 0
+            return 0, 0
         target = self.target()
         old = target.get(mem, x, y)
         low, high = self.registers["dstColorkeyMin"], self.registers["dstColorkeyMax"]
         choice = 2 * source_match + (self.extra(1) and key_match(old, target.depth, low, high))
         rops = self.registers["rop"] << 8 | bits(self.registers["command"], 31, 24)  # ROP0 to ROP3
         rop = bits(rops, 8 * choice + 7, 8 * choice)
+        before = [mem[at] for at in target.places(x, y)]
         target.put(mem, x, y, combine(rop, self.pattern_colour(x, y), source, old, target.depth))
-        return 1
+        return 1, int([mem[at] for at in target.places(x, y)] != before)
 
 
 def row_view(mem: bytearray, base: int, form: int, x: int, y: int, width: int) -> tuple[int, int, int]:
@@ -558,7 +569,7 @@ def play(stream: bytes) -> str:
         if len(pair) < 8:
             return "short write\n"
         offset, word = int.from_bytes(pair[:4], "little"), int.from_bytes(pair[4:], "little")
-        number, _ = engine.write(mem, offset, word)
+        number, _, _ = engine.write(mem, offset, word)
         if number != 0:
             return f"refused {number} at {start // 8}\n"
     return picture(engine, mem)

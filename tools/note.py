@@ -1,6 +1,7 @@
 """What crates/note must write, by the model: python3 tools/note.py > crates/note/stdout
 
-The register writes are read from the program's source; answers, counts and the bytes that differ are the model's.
+The register writes are read from the program's source; answers, the numbers of pixels and the bytes that differ are the
+model's.
 """
 
 import re
@@ -22,9 +23,9 @@ def play(name: str, form: int, stride: int, size: int) -> None:
     for part, differ in PARTS.items():
         body = SOURCE.read_text().split(f"fn {part}(")[1].split("\n}")[0]
         for aloud, text, offset, word in WRITE.findall(body):
-            number, pixels = engine.write(mem, int(offset, 0), form if word == "format" else int(word, 0))
+            number, pixels, changed = engine.write(mem, int(offset, 0), form if word == "format" else int(word, 0))
             if aloud:
-                print(text + ("refused" if number else f"taken, pixels {pixels}"))
+                print(text + ("refused" if number else f"taken, pixels {pixels}, changed {changed}"))
         if differ:
             print(differ + str(sum(a not in aside and start[a] != mem[a] for a in range(2048))))
 

@@ -22,7 +22,7 @@ LENGTH = 128
 class OpenKey(Engine):
     """Keys always count, and one whose min is not below its max matches every pixel."""
 
-    def write(self, mem: bytearray, offset: int, word: int) -> tuple[int, int]:
+    def write(self, mem: bytearray, offset: int, word: int) -> model.Answer:
         def match(value: int, depth: int, low: int, high: int) -> bool:
             return low >= high or key_match(value, depth, low, high)
 
@@ -36,7 +36,7 @@ class OpenKey(Engine):
 class BitZeroLeft(Engine):
     """Mono pixel x is bit x mod 8."""
 
-    def write(self, mem: bytearray, offset: int, word: int) -> tuple[int, int]:
+    def write(self, mem: bytearray, offset: int, word: int) -> model.Answer:
         right = Surface.get
 
         def get(self: Surface, data: bytes, x: int, y: int) -> int:
@@ -74,13 +74,13 @@ class Stage:
     def open(self, length: int) -> None:
         self.sheets = [(Engine(length), bytearray(length)), (self.kind(length), bytearray(length))]
 
-    def put(self, _e, _mem, offset: int, word: int) -> tuple[int, int]:
+    def put(self, _e, _mem, offset: int, word: int) -> model.Answer:
         answer, _ = [engine.write(mem, offset, word) for engine, mem in self.sheets]
         return answer
 
     def put_aloud(self, *write) -> None:
-        number, count = self.put(*write)
-        print("refused" if number else f"pixels {count}")
+        number, count, changed = self.put(*write)
+        print("refused" if number else f"pixels {count}, changed {changed}")
 
     def say(self, text: str) -> None:
         print(text, end="")

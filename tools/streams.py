@@ -8,7 +8,7 @@ number of writes N and a seed byte, then N times offset, word and kind. The memo
 65,536 where M is more, so that row 1 answers every write of such a stream (test_model.py has the
 real limit); byte i is (7 i i + 13 i + seed byte) mod 256 at the start. Kind 1: the memory is passed
 without its last byte, if it has one.
-expected.txt: for each stream its head, a line `answer count` for each write, and checksums
+expected.txt: for each stream its head, a line `number count changed` for each write, and checksums
 (FNV-1a) of registers 08 to 70, pattern and one byte for a waiting host blit, and of memory.
 """
 
@@ -21,16 +21,19 @@ from collections import Counter
 from pathlib import Path
 
 from model import (BUILT, COMMAND, COPY, FILL, FROM_MEMORY, HOST, KEPT, LIMIT, LINE, NOP, OFFSETS, POLYLINE, SOURCE_BITS,
-                   STRETCH, Engine, Pixel, Surface, allowed, bits, halves, is_launch, row_bytes)
+                   STRETCH, Answer, Engine, Pixel, Surface, allowed, bits, halves, is_launch, row_bytes)
 
 MIXED, STRETCHED, SMEARED, TILED = 336, 64, 96, 96  # streams of all commands, then of stretched copies, of smears, of tiles
 SMEARS = MIXED + STRETCHED  # the first of smears
 TILES = SMEARS + SMEARED  # and of tiles
-STREAMS, LENGTH = TILES + TILED, 72  # streams, and the least number of writes of an ordinary one
+EQUALS, EQUALLED = TILES + TILED, 84  # and of pixels that get what they have, with their number
+STREAMS, LENGTH = EQUALS + EQUALLED, 72  # streams, and the least number of writes of an ordinary one
 SWEEPS = 4  # so many streams of each of the first two begin with one
 BY_DISTANCE = 64  # so many of smears are one: a format, a corner and a kind of copy at every distance
 PLANS = {"each": 4, "whole": 8, "corners": 16, "ends": 4, "beyond": 4, "one_place": 4, "refused": 2, "pairs": 2}
 PLANNED = [(name, which) for name, count in PLANS.items() for which in range(count)]  # the first of tiles, each by a plan
+EQUAL_PLANS = {"twice": 16, "overlaps": 16, "equal": 8, "one_byte": 8, "keyed": 8, "wide": 4}
+EQUAL_PLANNED = [(name, which) for name, count in EQUAL_PLANS.items() for which in range(count)]  # the first of equal pixels
 TINY = (0, 1, 3, 64)  # lengths of memory
 ROOM = 65_536  # the longest memory there is
 BIG = {MIXED - 5: ROOM, MIXED - 3: LIMIT, MIXED - 2: LIMIT + 1, MIXED - 1: ROOM, SMEARS - 2: ROOM, SMEARS - 1: ROOM}
@@ -41,6 +44,17 @@ ON_TILES = ("fill", "copy", "copy", "stretch", "host", "host", "line", "touch", 
 CUT = (1, 129, 300, 4000)  # lengths of memory in which no tile is whole
 KINDS = ((0xCC, 0), (0x66, 0), (0xCC, 1), (0x5A, 3))  # raster operation and keys of a copy
 TILE_BIT = 1 << 31  # of a base
+STIPPLED, MONO_PATTERN, TRANSPARENT = 1 << 12, 1 << 13, 1 << 16  # of a command
+OWN, MONO, OTHER = range(3)  # formats of a source: the target's, mono, or another where there is one
+STROKES = (  # command, raster operation, other bits, keys and source; to do one again changes nothing
+    (FILL, 0xCC, 0, 0, OWN), (FILL, 0xF0, 11 << 17, 0, OWN), (FILL, 0x3C, 5 << 17, 0, OWN), (FILL, 0xAA, 0, 2, OWN),
+    (FILL, 0xF0, MONO_PATTERN, 0, OWN), (FILL, 0xF0, MONO_PATTERN | TRANSPARENT, 0, OWN), (COPY, 0xCC, 0, 0, OWN),
+    (COPY, 0xC0, 0, 0, OWN),
+    (COPY, 0xCC, 0, 1, OWN), (COPY, 0xCC, 0, 2, OWN), (COPY, 0xCC, 0, 0, MONO), (COPY, 0xCC, TRANSPARENT, 0, MONO),
+    (COPY, 0xCC, 0, 3, OTHER), (STRETCH, 0xCC, 0, 0, OWN), (STRETCH, 0x33, 0, 1, OTHER), (STRETCH, 0xCC, 0, 2, MONO),
+    (HOST, 0xCC, 0, 0, MONO), (HOST, 0xCC, 0, 1, OWN), (LINE, 0xCC, 0, 0, OWN), (LINE, 0xF0, STIPPLED, 2, OWN),
+    (POLYLINE, 0xCC, STIPPLED | TRANSPARENT, 0, OWN))
+OPERATIONS = (0xCC, 0xF0, 0x00, 0xFF, 0x55, 0xAA, 0x66, 0x5A, 0x88, 0xEE, 0xA0, 0xFA, 0x33, 0x0F, 0x3C, 0xE2)
 NAMES = {NOP: "nop", COPY: "copy", STRETCH: "stretch", HOST: "host", FILL: "fill", LINE: "line", POLYLINE: "polyline"}
 NOT_BUILT = [number for number in range(16) if number not in BUILT]
 FORMAT = {depth: number for number, depth in SOURCE_BITS.items()}
@@ -86,7 +100,7 @@ class Maker:
         self.mem, self.engine = filled(min(size, ROOM), self.seed_byte), Engine(size)
         self.slips = self.pick((0.003, 0.003, 0.01, 0.05))  # how often a faulty write comes between
         self.records: list[tuple[int, int, int]] = []
-        self.answers: list[tuple[int, int]] = []
+        self.answers: list[Answer] = []
 
     def chance(self, share: float) -> bool:
         return self.rng.random() < share
@@ -95,8 +109,10 @@ class Maker:
         return self.rng.randint(low, max(low, high))
 
     def send(self, offset: int, word: int, kind: int = 0) -> None:
-        before, waited = dict(self.engine.registers), self.engine.waiting is not None
+        before, waited, mem = dict(self.engine.registers), self.engine.waiting is not None, bytes(self.mem)
         answer = self.engine.write(self.mem[:-1] if kind else self.mem, offset, word)
+        number, count, changed = answer
+        assert changed <= count and (changed == 0) == (self.mem == mem), "changed is 0 exactly if the memory is what it was"
         self.records.append((offset, word, kind))
         self.answers.append(answer)
         note(self.tally, before, waited, offset, word, answer, self.engine)
@@ -828,10 +844,264 @@ class TileMaker(Maker):
                 self.launch(xy(1024 // max(8, source) - self.near(0, 11), 32 - self.near(0, 4)))
 
 
-def note(tally: Counter, before: dict[str, int], waited: bool, offset: int, word: int, answer: tuple[int, int],
+class EqualMaker(TileMaker):
+    """A stream in which pixels often get what they have."""
+
+    on_tiles = True
+
+    def __init__(self, seed: int, size: int, tally: Counter) -> None:
+        super().__init__(seed, size, tally)
+        one, other = (self.rng.randrange(256) * 0x01010101 for _ in range(2))
+        self.few = (one, one, one ^ 1 << self.rng.randrange(32), other)  # two colours, and one of them with another bit
+        self.draw = self.draw_few
+
+    def draw_few(self, count: int) -> int:
+        """So many bits; of 32, which are colours, patterns and data, mostly one of a few words."""
+        return self.pick(self.few) if count == 32 and self.chance(0.9) else self.rng.getrandbits(count)
+
+    def surface(self, depth: int, part: tuple[int, int]) -> tuple[int, int, int, int]:
+        return super().surface(depth, part) if self.on_tiles else Maker.surface(self, depth, part)
+
+    def spot(self, width: int, height: int) -> tuple[int, int]:
+        return super().spot(width, height) if self.on_tiles else Maker.spot(self, width, height)
+
+    def put(self, offset: int, word: int) -> None:
+        """At times a command that was carried out is carried out once more."""
+        super().put(offset, word)
+        runs = is_launch(offset) or offset == COMMAND and bits(word, 8, 8) == 1
+        if runs and self.engine.number() != HOST and self.chance(0.3):
+            self.send(offset, word)
+
+    def wash(self) -> None:
+        """All memory but a rest at its end in a few colours."""
+        self.set(dstBaseAddr=0, dstFormat=FORMAT[8] << 16 | 256, clip0Min=0, clip0Max=0x0FFF0FFF, dstXY=0,
+                 dstSize=xy(256, self.size // 256), commandExtra=0)
+        for offset in range(0x100, 0x140, 4):
+            self.send(offset, self.pick(self.few))
+        self.send(COMMAND, 0xF0000100 | FILL)
+
+    def lay(self, which: int, tiled: bool, rows: int = 64) -> None:
+        """A target of one format, 256 bytes or two tiles wide."""
+        self.depth, self.stride = DEPTHS[which % 4], 2 if tiled else 256
+        self.base = tiled << 31 | self.near(0, 900)
+        self.columns, self.rows = 2048 // self.depth, rows
+        self.set(dstBaseAddr=self.base, dstFormat=FORMAT[self.depth] << 16 | self.stride, clip0Min=0,
+                 clip0Max=xy(self.columns, rows))
+
+    def hold(self, **registers: int) -> None:
+        """Those that do not hold the word already."""
+        self.set(**{name: word for name, word in registers.items() if self.engine.registers[name] != word})
+
+    def keys_by(self, extra: int, operation: int = 0xCC) -> None:
+        """Keys by which a match keeps the target, or with operation AA only a match does not."""
+        self.hold(commandExtra=extra, rop=0xAAAACC if operation == 0xAA else 0xAAAAAA, srcColorkeyMax=0x9FBFBF,
+                  dstColorkeyMin=0x202020, dstColorkeyMax=0xFFFFFF)
+
+    def twice(self, which: int) -> None:
+        """A scene of one format onto rows or tiles and from rows or tiles, each stroke in a place of its own; the same scene
+        again, which changes nothing; and in half of them once more after some pixels were inverted."""
+        tiled, from_tiles = which // 4 % 2 == 1, which // 8 == 1
+        self.lay(which, tiled)
+        self.keys_by(0)
+        sources = {depth: (from_tiles << 31 | self.near(18_000, 18_400), FORMAT[depth] << 16 | (2 if from_tiles else 256))
+                   for depth in DEPTHS}
+        sources[1] = self.near(36_000, 36_100), FORMAT[1] << 16 | 16
+        for offset in range(0x100, 0x100 + 8 * self.depth, 4):
+            self.put(offset, self.rng.getrandbits(32))
+        first = len(self.records)
+        self.set(commandExtra=0, rop=0, colorFore=0, colorBack=0, dstSize=0, dstXY=0, srcBaseAddr=0, srcFormat=0, srcSize=0,
+                 srcXY=0, lineStipple=0, lineStyle=0)  # a pass depends on nothing from before it
+        places = [*range(21)]
+        self.rng.shuffle(places)
+        for place, stroke in zip(places, STROKES):
+            self.stroke(place, stroke, sources)
+        scene = self.records[first:]
+        for record in scene:
+            self.send(*record)
+        assert not any(changed for _, _, changed in self.answers[-len(scene):]), "the second pass changes nothing"
+        if tiled == from_tiles:
+            self.set(commandExtra=0, dstSize=xy(1, 1))
+            self.send(COMMAND, 0x55000000 | FILL)
+            for _ in range(8):
+                self.send(0x80, xy(self.near(0, self.columns - 1), self.near(0, self.rows - 1)))
+            for record in scene:
+                self.send(*record)
+
+    def stroke(self, place: int, stroke: tuple[int, int, int, int, int], sources: dict[int, tuple[int, int]]) -> None:
+        """One command in its place, of 21."""
+        (number, operation, more, extra, of), (wide, high) = stroke, (self.columns // 7, self.rows // 3)
+        width, height = self.near(max(1, wide // 2), wide), self.near(3, 12)
+        x, y = place % 7 * wide + self.near(0, wide - width), place // 7 * high + self.near(0, high - height)
+        depth = {OWN: self.depth, MONO: 1, OTHER: {8: 8, 16: 32, 24: 16, 32: 24}[self.depth]}[of]
+        self.keys_by(extra, operation)
+        if of == MONO or number in (FILL, LINE, POLYLINE):
+            self.hold(colorFore=self.rng.getrandbits(32), colorBack=self.rng.getrandbits(32))
+        launch = xy(x, y)
+        if number in FROM_MEMORY:
+            (base, form), side = sources[depth], 2048 // max(16, depth)
+            self.hold(srcBaseAddr=base, srcFormat=form, dstXY=launch)
+            if number == STRETCH:
+                self.hold(srcSize=xy(self.near(1, side // 2), self.near(1, 30)))
+            launch = xy(self.near(0, side // 4), self.near(0, 30))
+        elif number == HOST:
+            height = min(height, 4)
+            self.hold(srcFormat=self.near(1, 3) << 22 | FORMAT[depth] << 16, srcXY=0, srcBaseAddr=0, dstXY=launch)
+            launch = self.rng.getrandbits(32)
+        elif number != FILL:
+            self.hold(srcXY=launch, lineStipple=self.rng.getrandbits(32),
+                      lineStyle=self.near(3, 31) << 8 | self.near(0, 2))
+            launch = xy(x + width - 1, y + height - 1)
+        if number not in (LINE, POLYLINE):
+            self.hold(dstSize=xy(width, height))
+        Maker.put(self, COMMAND, operation << 24 | more | number)
+        Maker.put(self, 0x80, launch)
+        while self.engine.waiting is not None:
+            self.send(0x80, self.rng.getrandbits(32))
+
+    def overlaps(self, which: int) -> None:
+        """Copies within one surface of few colours by up to two pixels to each side, of one format and from one corner, in
+        rows and where four tiles meet; plain, with a raster operation or with keys; each twice."""
+        turn, (width, height) = which // 4, (6, 4)
+        self.wash()
+        for tiled in (False, True):
+            self.lay(which, tiled)
+            self.keys_by(0)
+            self.set(srcBaseAddr=self.base, srcFormat=FORMAT[self.depth] << 16 | self.stride, dstSize=xy(width, height))
+            right, below = (width - 1) * (turn & 1), (height - 1) * (turn >> 1)
+            for number, (across, down) in enumerate(itertools.product(range(-2, 3), repeat=2)):
+                operation, extra = KINDS[(number // 2 + turn) % 4]
+                x, y = self.columns // 2 - self.near(2, 4) + right, 32 - self.near(1, 3) + below
+                if not tiled:
+                    x, y = number % 5 * (self.columns // 5) + 2 + right, number // 5 * 10 + 2 + below
+                self.hold(commandExtra=extra, dstXY=xy(x + across, y + down))
+                self.hold(command=operation << 24 | turn << 14 | COPY)
+                self.send(0x80, xy(x, y))
+                self.send(0x80, xy(x, y))
+
+    def equal(self, which: int) -> None:
+        """Fills with the colour that is there, in part or but for bits that the target has not; then every operation, by a
+        colour and a mono pattern, by copies, by mono ones and by stretched ones, each twice."""
+        self.lay(which, which // 4 == 1)
+        self.keys_by(0)
+        one, other = self.few[0], self.few[3]
+        above = 0xFFFFFFFF << self.depth & 0xFFFFFFFF
+        x, y = self.columns // 2 - 4, 28
+        for colour, place, size in ((one, (x, y), (9, 7)), (one, (x, y), (9, 7)), (one, (x + 3, y + 2), (9, 7)),
+                                    (one ^ above, (x - 1, y - 1), (14, 10)), (self.few[2], (x, y), (9, 7)),
+                                    (other, (x, y), (9, 7)), (one, (x - 2, y - 2), (16, 12))):
+            self.set(colorFore=colour, dstSize=xy(*size), dstXY=xy(*place))
+            self.send(COMMAND, 0xCC000100 | FILL)
+        for offset in range(0x100, 0x100 + 8 * self.depth, 4):
+            self.send(offset, self.pick(self.few))
+        form, near = FORMAT[self.depth] << 16 | self.stride, xy(x, 0)
+        self.set(colorFore=other, colorBack=one, dstSize=xy(9, 7), dstXY=xy(x, y), srcSize=xy(5, 4), srcXY=near)
+        mono = dict(srcBaseAddr=20_000, srcFormat=FORMAT[1] << 16 | 32)
+        own = dict(srcBaseAddr=self.base, srcFormat=form)
+        for kind, source in ((FILL, own), (FILL | MONO_PATTERN, own), (COPY, own), (COPY, mono), (STRETCH, own)):
+            self.set(**source)
+            for operation in OPERATIONS:
+                word = operation << 24 | kind | self.near(0, 1) * TRANSPARENT | 0x100
+                if kind == STRETCH:
+                    self.set(dstXY=xy(x, 40))  # no span meets
+                self.send(COMMAND, word)
+                self.send(COMMAND, word)
+
+    def one_byte(self, which: int) -> None:
+        """Pixels that differ from what is put there in one bit alone, of each of four bytes: those of the pixel, and those
+        past it, which make no difference. By every kind of command."""
+        self.lay(which, which // 4 == 1)
+        colour, (width, height) = self.rng.getrandbits(32), (5, 3)
+        x, y, form = self.columns // 2 - 2, 28, FORMAT[self.depth] << 16 | self.stride
+        low, far = xy(x, y), xy(3, 50)
+        self.set(srcSize=xy(width, height), dstSize=xy(width, height), lineStipple=0xFFFFFFFF)
+        for k in range(4):
+            changed = colour ^ 1 << 8 * k + self.near(0, 7)
+            self.keys_by(0)
+            self.set(colorFore=changed, colorBack=colour)
+            self.send(COMMAND, 0xCC000000 | FILL)
+            self.send(0x80, far)  # a source of copies
+            for offset in range(0x100, 0x100 + self.depth, 4):  # row 0, which bit 3 of commandExtra takes
+                word = bytes(changed >> 8 * at % self.depth & 0xFF for at in range(offset - 0x100, offset - 0xFC))
+                self.send(offset, int.from_bytes(word, "little"))
+            for number, operation, more, extra in (
+                    (FILL, 0xCC, 0, 0), (FILL, 0xF0, 0, 8), (FILL, 0xE2, 0, 8), (COPY, 0xCC, 0, 0), (COPY, 0xCC, 0, 1),
+                    (COPY, 0xCC, 0, 2), (STRETCH, 0xCC, 0, 0), (HOST, 0xCC, 0, 0), (LINE, 0xCC, 0, 0),
+                    (LINE, 0xCC, STIPPLED, 0)):
+                self.keys_by(0)
+                self.hold(colorFore=colour)
+                self.send(COMMAND, 0xCC000000 | FILL)
+                self.send(0x80, low)
+                self.hold(colorFore=changed, commandExtra=extra)
+                if number == HOST:
+                    self.hold(srcBaseAddr=0, srcFormat=1 << 22, srcXY=0)
+                    self.send(COMMAND, operation << 24 | number)
+                    self.send(0x80, 0x00F8A0F8)
+                    continue
+                self.hold(srcBaseAddr=self.base, srcFormat=form, srcXY=low)
+                self.send(COMMAND, operation << 24 | more | number)
+                self.send(0x80, far if number in FROM_MEMORY else low if number == FILL else xy(x + 4, y + 2))
+
+    def keyed(self, which: int) -> None:
+        """Few colours under keys: a source key, a target key and both, one colour or a range, with operations that keep the
+        target, take the source or mix them; copies, stretched copies, host words, fills and lines, each twice."""
+        self.wash()
+        self.lay(which, which // 4 == 1)
+        form = FORMAT[self.depth] << 16 | 200
+        self.set(srcBaseAddr=18_000, colorFore=self.few[0], colorBack=self.few[3])
+        for extra, number in itertools.product((1, 2, 3), (COPY, STRETCH, HOST, FILL, LINE, COPY)):
+            low, high = (self.pick(self.few) & 0xFFFFFF for _ in range(2))
+            key = self.pick(((low, low), (min(low, high), max(low, high)), (0, 0x7F7F7F)))
+            self.set(commandExtra=extra, srcColorkeyMin=key[0], srcColorkeyMax=key[1], dstColorkeyMin=key[0],
+                     dstColorkeyMax=key[1], rop=sum(self.pick((0xAA, 0xAA, 0xCC, 0x66)) << 8 * i for i in range(3)))
+            width, height = (self.near(3, 7), 2) if number == HOST else (self.near(3, 16), self.near(2, 6))
+            x, y = self.across_edge(width, height)
+            self.hold(dstSize=xy(width, height), dstXY=xy(x, y), srcSize=xy(self.near(1, 40), self.near(1, 20)),
+                      srcFormat=form, srcXY=0)
+            word = self.pick((0xCC, 0xCC, 0xAA)) << 24 | number
+            for _ in range(2):
+                if number == HOST:
+                    self.hold(srcFormat=1 << 22 | FORMAT[self.depth] << 16)
+                    self.send(COMMAND, word | 0x100)
+                    while self.engine.waiting is not None:
+                        self.send(0x80, self.pick(self.few))
+                else:
+                    if number == LINE:
+                        self.set(srcXY=xy(x, y))
+                    self.send(COMMAND, word)
+                    self.send(0x80, xy(x + width - 1, y + height - 1) if number == LINE else xy(x, y) if number == FILL else
+                              xy(self.near(0, 3), self.near(0, 3)) if number == STRETCH else xy(2, 3))
+
+    def wide(self, which: int) -> None:
+        """Rows of more than a thousand pixels, of which all change, none, or a few that were inverted."""
+        self.depth, width = DEPTHS[which], self.near(1100, 1400)
+        form = FORMAT[self.depth] << 16 | row_bytes(width, self.depth) + self.near(0, 5)
+        self.set(dstBaseAddr=self.near(0, 900), dstFormat=form, clip0Max=xy(width, 3), colorFore=self.draw(32),
+                 colorBack=self.rng.getrandbits(32), srcSize=xy(width // 2, 2))
+        own = dict(srcBaseAddr=self.near(22_000, 22_900), srcFormat=form)
+        mono = dict(srcBaseAddr=22_000, srcFormat=FORMAT[1] << 16 | 200)
+        for offset in range(0x100, 0x100 + 8 * self.depth, 4):
+            self.send(offset, self.rng.getrandbits(32))
+        for number, operation, extra, source in ((FILL, 0xCC, 0, own), (COPY, 0xCC, 0, own), (FILL, 0xF0, 0, own),
+                                                 (COPY, 0xCC, 1, own), (COPY, 0xCC, 0, mono), (STRETCH, 0xCC, 0, own),
+                                                 (FILL | MONO_PATTERN | TRANSPARENT, 0xF0, 0, own), (COPY, 0x66, 0, own)):
+            self.hold(**source)
+            for again in range(3):
+                self.keys_by(extra)
+                self.hold(dstSize=xy(width, 3), dstXY=0, srcXY=0)
+                self.send(COMMAND, operation << 24 | number | 0x100)
+                if again != 1:
+                    continue
+                self.keys_by(0)
+                self.hold(dstSize=xy(1, 1))
+                self.send(COMMAND, 0x55000000 | FILL)
+                for _ in range(4):
+                    self.send(0x80, xy(self.near(0, width - 1), self.near(0, 2)))
+
+
+def note(tally: Counter, before: dict[str, int], waited: bool, offset: int, word: int, answer: Answer,
          after: Engine) -> None:
     """Counts what a write tried, for the table of coverage."""
-    number, count = answer
+    number, count, changed = answer
     tally["answers", number] += 1
     asked = Engine(0)  # the registers as the command found them
     asked.registers = before
@@ -842,6 +1112,10 @@ def note(tally: Counter, before: dict[str, int], waited: bool, offset: int, word
     kind, command = asked.number(), before["command"]
     name, way = NAMES.get(kind, "not built"), "by bit 8" if offset == COMMAND else "by launch"
     source, target, (width, height) = asked.source(), asked.target(), halves(before["dstSize"])
+    if count:
+        share = "none" if not changed else "all" if changed == count else "some"
+        tally["changed", f"{name} at {target.depth}: {share}"] += 1
+        tally["changed on tiles", f"{name}: {share}"] += target.tiled
     if offset == COMMAND and waited and number != 1:
         tally["host blits", "abandoned" if number == 0 else "kept, command refused"] += 1
     if number == 0 and is_launch(offset) and kind == HOST:
@@ -924,9 +1198,9 @@ def crosses(surface: Surface, columns: range) -> bool:
     return columns.start * surface.size() // 128 < (columns.stop * surface.size() - 1) // 128
 
 
-def note_tiles(tally: Counter, asked: Engine, name: str, answer: tuple[int, int], length: int) -> None:
+def note_tiles(tally: Counter, asked: Engine, name: str, answer: Answer, length: int) -> None:
     """Counts what a command that was carried out, or refused, had to do with tiles."""
-    number, count = answer
+    number, count, _ = answer
     kind, source, target, (columns, rows) = asked.number(), asked.source(), asked.target(), in_clip(asked)
     nothing = "" if columns and rows else " with nothing covered"
     if number == 5:
@@ -1046,8 +1320,19 @@ def build(k: int, tally: Counter) -> Maker:
         maker = TileMaker(k, ROOM if plan == "whole" else 45_000, tally)
         getattr(maker, plan)(which)
         return maker
+    if EQUALS <= k < EQUALS + len(EQUAL_PLANNED):
+        plan, which = EQUAL_PLANNED[k - EQUALS]
+        maker = EqualMaker(k, {"twice": 37_000, "wide": 45_000}.get(plan, 26_000), tally)
+        getattr(maker, plan)(which)
+        return maker
     rng = random.Random(1000 + k)
-    if k < TILES:
+    if k >= EQUALS:
+        size = rng.randint(9_000, 20_000) if k % 2 else rng.randint(1024, 6000)
+        theme = ON_TILES if k % 2 else EVERYTHING + ("smear",)
+        maker = EqualMaker(k, size, tally)
+        maker.on_tiles = k % 2 == 1
+        maker.wash()
+    elif k < TILES:
         size = TINY[k // 19 % 4] if k % 19 == 7 else rng.randint(1024, rng.choice((2048, 4096, 16384)))
         theme = THEMES[k % len(THEMES)] if k < MIXED else STRETCHES if k < SMEARS else ("smear",)
         maker = Maker(k, BIG.get(k, size), tally)
@@ -1055,7 +1340,7 @@ def build(k: int, tally: Counter) -> Maker:
         size = ROOM if k % 2 else CUT[k // 12 % 4] if k % 12 == 0 else rng.randint(9_000, 45_000)
         theme = ("block",) if k % 2 else ON_TILES
         maker = TileMaker(k, size, tally)
-    patterned = theme == ("fill",) or MIXED <= k < TILES and k % 4 == 0 or k >= TILES and k % 8 < 2
+    patterned = theme == ("fill",) or MIXED <= k < TILES and k % 4 == 0 or TILES <= k < EQUALS and k % 8 < 2
     for offset in range(0x100, 0x200, 4) if patterned else ():
         maker.put(offset, maker.draw(32))
     maker.scene()
@@ -1083,7 +1368,7 @@ def make(folder: Path) -> None:
         binary += struct.pack("<III", maker.size, len(maker.records), maker.seed_byte)
         binary += b"".join(struct.pack("<III", *record) for record in maker.records)
         text.append(f"stream {k}: {maker.size} bytes")
-        text += [f"{number} {count}" for number, count in maker.answers]
+        text += [f"{number} {count} {changed}" for number, count, changed in maker.answers]
         text.append(f"registers {checksum(register_bytes(maker.engine))} memory {checksum(maker.mem)}")
     folder.mkdir(parents=True, exist_ok=True)
     (folder / "streams.bin").write_bytes(binary)

@@ -2,8 +2,8 @@
 document 000, host blit example 1, the line example, both stipple examples, the pattern's origin,
 the strides of packed sources and the order of mono pixels, at the lines that the comments give;
 points that the papers leave open, by the readings of docs/DECISIONS.md; and of the change
-requests the stretched copy, the smear and tiles, mostly worked out by hand, tiles also by the map
-that source document 002 prints. Names in quotes in the comments are entries of docs/DECISIONS.md,
+requests the stretched copy, what really changed, the smear and tiles, mostly worked out by hand,
+tiles also by the map that source document 002 prints. Names in quotes in the comments are entries of docs/DECISIONS.md,
 with the section they stand under where two have one heading. Run: python3 test_model.py"""
 
 import itertools
@@ -20,7 +20,8 @@ FROM8 = TO8 + "34=800 54=10020 "  # and a source of 8 bpp, stride 32, at 800
 
 class Card:
     """A fresh engine on some memory, after the writes of a text: `offset=word` is taken with
-    count 0, with `+C` at the end with count C; with `!N` it is refused with N."""
+    count 0, with `+C` at the end with count C, with `+C/D` also with D of them changed; with `!N`
+    it is refused with N."""
 
     def __init__(self, text="", length=4096, start=b""):
         self.mem, self.engine = bytearray(length), Engine(length)
@@ -30,12 +31,23 @@ class Card:
     def do(self, text):
         for token in text.split():
             write, _, refusal = token.partition("!")
-            write, _, count = write.partition("+")
+            write, _, counts = write.partition("+")
+            count, _, changed = counts.partition("/")
             offset, word = (int(part, 16) for part in write.split("="))
-            expected = (int(refusal or 0), int(count or 0))
+            before = bytes(self.mem)
             found = self.engine.write(self.mem, offset, word)
-            assert found == expected, f"{token}: {found}"
+            assert found[:2] == (int(refusal or 0), int(count or 0)), f"{token}: {found}"
+            assert not changed or found[2] == int(changed), f"{token}: {found}"
+            assert self.may_be_changed(before, found), f"{token}: {found}"
         return self
+
+    def may_be_changed(self, before, answer):
+        """Each pixel is stored at most once, so the bytes that differ belong to as many pixels as changed."""
+        number, count, changed = answer
+        if self.mem == before:
+            return changed == 0
+        differ = sum(old != new for old, new in zip(before, self.mem))
+        return number == 0 and changed <= min(count, differ) and differ <= changed * self.engine.target().size()
 
     def get(self, name):
         return self.engine.read(OFFSETS[name])[1]
@@ -157,7 +169,7 @@ class OpenPoints(unittest.TestCase):
 
     def test_waiting(self):
         card = Card(TO8 + "54=400000 68=30020 70=CC000003 80=1+32 74=0!2 100=0!3 44=0!3 64=0!3")  # "Rows 2 and 3 together"
-        self.assertEqual(card.engine.write(bytearray(4095), 0x74, 0), (1, 0))
+        self.assertEqual(card.engine.write(bytearray(4095), 0x74, 0), (1, 0, 0))
         card.do("70=CC000108!4")  # "A command write while a blit waits"
         self.assertEqual((card.get("command"), len(card.engine.waiting)), (0xCC000003, 4))
         self.assertEqual([card.engine.read(offset)[0] for offset in (0x6C, 0x80, 0x74)], [0, 2, 2])  # "A read"
@@ -174,7 +186,7 @@ class OpenPoints(unittest.TestCase):
         card = Card(DOT + "10=FFFFE0 70=CC000005 80=1F+1 80=10000!7", model.LIMIT)
         self.assertEqual((card.mem[-1], card.mem.count(2)), (2, 1))
         for length in (model.LIMIT - 1, model.LIMIT + 1):
-            self.assertEqual(card.engine.write(bytearray(length), 0x80, 0), (1, 0))
+            self.assertEqual(card.engine.write(bytearray(length), 0x80, 0), (1, 0, 0))
         Card("10=0!1 70=CC000105!1 80=0!1 100=0!1 74=0!1", model.LIMIT + 1)
 
     def test_formats(self):
@@ -606,6 +618,128 @@ class Tiles(unittest.TestCase):
         self.assertEqual(play(stream("10=80000000 14=10004 08=7F01FF 0C=800200")), "P3\n1 1\n255\n0 0 0\n")
         for text in ("14=10004 0C=810001", "14=10004 0C=10201", "14=10004 0C=0", "14=10000 0C=10001", "14=20004 0C=10001"):
             self.assertEqual(play(stream("10=80000000 " + text)), "no picture\n")
+
+
+HOST8 = TO8 + "54=410000 "  # host data of 8 bpp
+OPEN = "0C=FFF0FFF "  # a clip that leaves everything
+
+
+class Changed(unittest.TestCase):
+    def test_samples(self):
+        Card(DOT + "64=F 70=CC000105+1/0", start=b"\x0F")
+        Card(DOT + "64=F 70=CC000105+1/1", start=b"\x0E")
+        Card(DOT + "64=FFFFFF0F 70=CC000105+1/0", start=b"\x0F")
+        Card(OPEN + "14=50020 68=10001 64=1000000 70=CC000105+1/1 70=CC000105+1/0")
+        card = Card(TO8 + "54=10020 68=10003 5C=0 6C=1 70=CC000101+3/2", start=b"AABC")
+        self.assertEqual(card.mem[:4], b"AAAA")  # it spreads, and the first pixel is what it was
+        card = Card(TO8 + "54=10020 68=10003 5C=2 6C=3 70=CC004101+3/2", start=b"AABC")
+        self.assertEqual(card.mem[:4], b"AAAB")  # from the right it moves, and that pixel is again what it was
+
+    def test_before_is_just_before(self):  # ABAB from either end: the middle one of the three stays A or becomes B
+        Card(TO8 + "54=10020 68=10003 5C=0 6C=1 70=CC000101+3/2", start=b"ABAB")
+        Card(TO8 + "54=10020 68=10003 5C=2 6C=3 70=CC004101+3/3", start=b"ABAB")
+        Card(TO8 + "54=10020 68=10003 5C=0 6C=1 70=66000101+3/2", start=b"\1\1\1\1")  # 1, 0, 1, 0
+        Card(TO8 + "54=10020 68=10003 5C=0 6C=1 70=66000101+3/1", start=b"\1\1\0\0")  # 1, 0, 0, 0
+
+    def test_second_pass(self):
+        half = "34=800 54=10020 58=10008 68=10004 "
+        for scene, count in (("68=30005 70=CC000105", 15), ("68=30005 100=FF2AC55A 70=F0000105", 15),
+                             ("68=10008 100=5A 70=F0002105", 8), ("68=10008 100=5A 70=F0012105", 4),
+                             ("34=800 54=20 68=10008 70=CC000101", 8), ("34=800 54=10020 68=30005 70=CC000101", 15),
+                             (half + "70=CC000102", 4), ("5C=0 6C=30007 70=CC000106", 8),
+                             ("5C=0 6C=30007 40=700 3C=A5 70=CC001107", 7), ("5C=0 6C=30007 40=700 3C=A5 70=CC011107", 3)):
+            card = Card(TO8 + f"{scene}+{count}", start=bytes(0x800) + bytes(range(1, 256)) * 2)
+            self.assertNotEqual(card.mem[:0x800], bytes(0x800))
+            card.do(f"5C=0 {scene}+{count}/0")
+        card = Card(HOST8 + "68=10004 70=CC000003 80=4030201+4/4 80=4030201+4/0 80=4030001+4/1 80=4030201+4/1")
+        self.assertEqual(card.mem[:5], b"\1\2\3\4\0")
+        Card(TO8 + "54=400000 68=10008 70=CC000003 80=F0+8/8 80=F0+8/0 80=F1+8/1 80=70+8/2")
+
+    def test_each_byte(self):  # every byte that a pixel has, and no other
+        for form, size in ((1, 1), (3, 2), (4, 3), (5, 4)):
+            for k in range(4):
+                there = int(k < size)
+                colour = f"64=44332211 70=CC000105+1/1 64={0x44332211 ^ 1 << 8 * k + 7:X} 70=CC000105+1/"
+                Card(OPEN + f"14={form}0020 68=10001 {colour}{there} 70=CC000105+1/0")
+                Card(OPEN + f"10=80000000 14={form}0002 68=10001 6C=2A {colour}{there}", 8192)  # at 24 bpp across two tiles
+                if not there:
+                    continue
+                start = bytearray(0x820)
+                start[0x800 + k] = 1
+                source = f"14={form}0020 34=800 54={form}0020 68=10001 58=10001 "
+                Card(OPEN + source + "70=CC000101+1/1 70=CC000101+1/0", start=start)
+                Card(OPEN + source + "70=CC000102+1/1 70=CC000102+1/0", start=start)
+                Card(OPEN + f"14={form}0020 68=10001 100={1 << 8 * k:X} 70=F0000105+1/1 70=F0000105+1/0")
+                Card(OPEN + f"14={form}0020 64={1 << 8 * k:X} 40=0 3C=1 70=CC001106+1/1 70=CC001106+1/0")
+                Card(OPEN + f"14={form}0020 64={1 << 8 * k:X} 54=400000 68=10001 70=CC000003 80=80+1/1 80=80+1/0 80=0+1/1")
+        Card(OPEN + "14=50020 38=2 20=0 24=0 30=F0 68=10001 64=FF000000 70=CC000105+1/0 100=1 70=CC000105+1/1")
+
+    def test_left_out(self):  # a pixel that is left is in neither number
+        Card(TO8 + "68=10008 100=C1 70=F0012105+3/3 70=F0012105+3/0 100=83 70=F0012105+3/1")
+        Card(TO8 + "54=400000 68=10008 70=CC010003 80=C1+3/3 80=83+3/1 80=0")
+        Card(TO8 + "40=700 3C=7 6C=7 70=CC011106+3/3 5C=0 40=700 3C=E 70=CC011106+3/1")
+        Card(TO8 + "08=2 0C=FFF0004 68=10008 70=CC000105+2/2 08=1 0C=FFF0005 70=CC000105+4/2")  # clipped, likewise
+
+    def test_keys(self):  # a pixel that a key keeps is written and does not change
+        source = FROM8 + "68=10004 58=10004 30=AAAAAA 38={} 18=62 1C=63 20=78 24=78 70=CC00010{}"
+        start = b"xyxy" + bytes(0x7FC) + b"abca"
+        for command in "12":
+            for extra, changed, after in ((0, 4, b"abca"), (1, 2, b"ayxa"), (2, 2, b"xbxa"), (3, 1, b"xyxa")):
+                text = source.format(extra, command)
+                card = Card(f"{text}+4/{changed}", start=start)
+                self.assertEqual(card.mem[:4], after)
+                card.do(f"70=CC00010{command}+4/0")
+        Card(TO8 + "68=10004 38=2 20=78 24=78 30=CC 64=78 70=AA000105+4/0 64=7A 70=AA000105+4/2 70=AA000105+4/0", start=b"xyxy")
+
+    def test_operations(self):
+        fill = TO8 + "68=10004 64=0 "
+        start = b"\0\1\xFF\x0F"
+        for rop, changed in ((0xAA, 0), (0x55, 4), (0x00, 3), (0xFF, 3), (0x66, 0), (0xEE, 0), (0x88, 3), (0x99, 4)):
+            Card(fill + f"70={rop << 24 | 0x105:X}+4/{changed}", start=start)
+        Card(fill + "100=F0F0100 70=5A000105+4/3 70=5A000105+4/3", start=start)  # xor by pattern bytes 0, 1, F, F
+        Card(fill + "64=F 70=88000105+4/1 70=88000105+4/0", start=start)  # 0, 1, F, F and again
+
+    def test_host_words(self):  # a pixel counts with the word that has its last byte
+        text = "0C=FFF0FFF 14=40030 54=440000 68=10004 70=CC000003 "
+        Card(text + "80=1000000+1/0 80=0+1/1 80=1000000+2/1")
+        Card(text.replace("70", "08=2 70") + "80=1000000 80=1000000 80=0+2/1")  # the first two are clipped
+
+    def test_conversion(self):  # it is the target's bytes that count
+        to16 = OPEN + "14=30020 34=800 54=50020 68=10002 58=10002 "
+        start = bytes(0x800) + bytes.fromhex("0703077F 0000080F")  # 000000 but for low bits, and red 1
+        for command in "12":
+            Card(to16 + f"70=CC00010{command}+2/1 70=CC00010{command}+2/0", start=start)
+        to32 = OPEN + "14=50020 34=800 54=30020 68=10002 70=CC000101+2/2"  # the top bytes become 0
+        card = Card(to32, start=bytes(3) + b"\1\0\0\0\1" + bytes(0x800))
+        self.assertEqual(card.mem[:8], bytes(8))
+
+    def test_tiles(self):
+        wide = EDGE + "68=20004 6C=7E 70=CC000105+8/8 70=CC000105+8/0 6C=10080 70=CC000105+8/6"
+        self.assertEqual(painted(Card(wide, 8192)), [126, 127, 254, 255, 4096, 4097, *range(4224, 4228), *range(4352, 4356)])
+        start = bytearray(9000)
+        start[126:128], start[4096] = b"ab", 99
+        text = OPEN + "10=2000 14=40020 34=80000000 54=40002 5C=2A 68=10001 58=10001 70=CC000101+1/1 70=CC000102+1/0"
+        for at in (126, 127, 4096):
+            card = Card(text, 9000, start)
+            card.mem[at] ^= 1
+            card.do("70=CC000102+1/1 70=CC000101+1/0")
+
+    def test_refused(self):  # 0 and 0, wherever the write is refused
+        card = Card(DOT + "64=7 70=CC000005 80=0+1/1 80=20!7 70=CC000104!4 74=0!2 14=20020 80=0!5")
+        self.assertEqual(card.engine.write(bytearray(4095), 0x80, 0), (1, 0, 0))
+        for offset, word in ((0x80, 0), (0x74, 0), (0x70, 0xCC000108)):
+            self.assertEqual(card.engine.write(card.mem, offset, word)[1:], (0, 0))
+        Card(TO8 + "70=100 80=5 54=400000 68=8 70=CC000103 68=10008 70=CC000103 64=0!3")  # nop, and opening a blit
+
+    def test_every_distance(self):
+        """Of a copy within one surface those pixels changed that differ in the memory before and after, from any corner."""
+        start = bytes(i * i // 3 % 3 for i in range(1024))
+        for turn, across, down in itertools.product(range(4), range(-4, 5), range(-4, 5)):
+            corner = 2 * (turn & 1), 2 * (turn >> 1)
+            place = [8 + corner[1] + y << 16 | 8 + corner[0] + x for x, y in ((0, 0), (across, down))]
+            card = Card(TO8 + f"54=10020 68=30003 5C={place[0]:X} 6C={place[1]:X}", start=start)
+            found = card.engine.write(card.mem, 0x70, 0xCC000101 | turn << 14)
+            self.assertEqual(found, (0, 9, sum(old != new for old, new in zip(start, card.mem))))
 
 
 if __name__ == "__main__":

@@ -39,7 +39,7 @@ use Rattle.acts.specs.Deed.{Made, made, Deed, judged}
 
 -- ---- a verdict, and what follows from it
 module _ (d : Deed) (b : Bank) (k : Blit) (m : List ℕ) (u : ℕ) (e : u ≡ d .verdict) where
-  pub judged-no : (u ≡ 0 → ⊥) → record { verdict = u; makes = made b k (state m 0) } ≡ judged d b k m
+  pub judged-no : (u ≡ 0 → ⊥) → record { verdict = u; makes = made b k (state m 0 0) } ≡ judged d b k m
   unfolding judged
   judged-no n = rw (← e, ne-eqb u 0 n)
 
@@ -52,12 +52,12 @@ carried-out k p q = ap₂ (λ (b : Bank) (st : State). made b k st) p q
 
 -- ---- rectangles
 pub painted-as : {t T : Task} {c C : Cut} {l L u U : Bool} (pattern m : List ℕ) {st : State} → t ≡ T → c ≡ C → l ≡ L → u ≡ U → T .x ≡ C .x → T .y ≡ C .y
-    → st ≡ paint (t .ink .target) (inTurn t pattern (rect l u (t .x) (t .y) (c .w) (c .h))) (state m 0)
-    → st ≡ paint (T .ink .target) (inTurn T pattern (coveredFrom L U C)) (state m 0)
+    → st ≡ paint (t .ink .target) (inTurn t pattern (rect l u (t .x) (t .y) (c .w) (c .h))) (state m 0 0)
+    → st ≡ paint (T .ink .target) (inTurn T pattern (coveredFrom L U C)) (state m 0 0)
 painted-as {t} {T} {c} {C} {l} {L} {u} {U} pattern m e f left top x y p =
-    p ∙ ap₂ (λ (t : Task) (c : Cut). paint (t .ink .target) (inTurn t pattern (rect l u (t .x) (t .y) (c .w) (c .h))) (state m 0)) e f
-    ∙ ap₂ (λ (l u : Bool). paint (T .ink .target) (inTurn T pattern (rect l u (T .x) (T .y) (C .w) (C .h))) (state m 0)) left top
-    ∙ ap₂ (λ (i j : ℕ). paint (T .ink .target) (inTurn T pattern (rect L U i j (C .w) (C .h))) (state m 0)) x y
+    p ∙ ap₂ (λ (t : Task) (c : Cut). paint (t .ink .target) (inTurn t pattern (rect l u (t .x) (t .y) (c .w) (c .h))) (state m 0 0)) e f
+    ∙ ap₂ (λ (l u : Bool). paint (T .ink .target) (inTurn T pattern (rect l u (T .x) (T .y) (C .w) (C .h))) (state m 0 0)) left top
+    ∙ ap₂ (λ (i j : ℕ). paint (T .ink .target) (inTurn T pattern (rect L U i j (C .w) (C .h))) (state m 0 0)) x y
 
 abbrev CanFill : Task → Cut → ℕ → Type 0
 CanFill t c len = CanPaint t (c .w) (c .h) len × (t .copies ≡ false)
@@ -77,9 +77,9 @@ copy-ready r len {t} {c} e f g z =
 
 -- ---- stretches
 pub stretched-as : {t T : Stretch} {c C : Cut} (pattern m : List ℕ) {st : State} → t ≡ T → c ≡ C
-    → st ≡ paint (t .ink .target) (stretched t pattern m (rect false false (c .x) (c .y) (c .w) (c .h))) (state m 0)
-    → st ≡ paint (T .ink .target) (stretched T pattern m (covered C)) (state m 0)
-stretched-as pattern m e f p = p ∙ ap₂ (λ (t : Stretch) (c : Cut). paint (t .ink .target) (stretched t pattern m (covered c)) (state m 0)) e f
+    → st ≡ paint (t .ink .target) (stretched t pattern m (rect false false (c .x) (c .y) (c .w) (c .h))) (state m 0 0)
+    → st ≡ paint (T .ink .target) (stretched T pattern m (covered C)) (state m 0 0)
+stretched-as pattern m e f p = p ∙ ap₂ (λ (t : Stretch) (c : Cut). paint (t .ink .target) (stretched t pattern m (covered c)) (state m 0 0)) e f
 
 pub stretch-ready : (r : Regs) (len : ℕ) {t : Stretch} {c : Cut} {v : ℕ} → t ≡ stretchOf r → c ≡ fillCut r → v ≡ stretchVerdict r len → v ≡ 0
     → CanStretch t (c .x) (c .y) (c .w) (c .h) len
@@ -113,16 +113,16 @@ module _ (r : Regs) (len : ℕ) {c : Clip} {f : Feed} {taken : ℕ} (q : c ≡ c
 
 -- the pixels of a word, drawn by what was decoded
 module _ (r : Regs) (pattern m : List ℕ) {c : Clip} {f : Feed} (last word taken : ℕ) (st : State) (q : c ≡ clipOf r) (e : f ≡ feedOf r) where
-  pub word-drawn : {i : Ink} → i ≡ inkOf r → st ≡ drawn i pattern c f (byWord f last word taken) (state m 0)
-      → st ≡ paint (target r) (hostTouches (inkOf r) pattern (clipOf r) (feedOf r) (byWord (feedOf r) last word taken)) (state m 0)
+  pub word-drawn : {i : Ink} → i ≡ inkOf r → st ≡ drawn i pattern c f (byWord f last word taken) (state m 0 0)
+      → st ≡ paint (target r) (hostTouches (inkOf r) pattern (clipOf r) (feedOf r) (byWord (feedOf r) last word taken)) (state m 0 0)
   unfolding inkOf
   word-drawn p d =
-      d ∙ ap₂ (λ (i : Ink) (k : Clip). drawn i pattern k f (byWord f last word taken) (state m 0)) p q
-      ∙ ap (λ (f : Feed). drawn (inkOf r) pattern (clipOf r) f (byWord f last word taken) (state m 0)) e
+      d ∙ ap₂ (λ (i : Ink) (k : Clip). drawn i pattern k f (byWord f last word taken) (state m 0 0)) p q
+      ∙ ap (λ (f : Feed). drawn (inkOf r) pattern (clipOf r) f (byWord f last word taken) (state m 0 0)) e
 
-  pub plain-word-drawn : {b : Bool} {p : Plain} → b ≡ plainBlit r → b ≡ true → p ≡ plainOf r → st ≡ drawn (plainInk p) [] c f (byWord f last word taken) (state m 0)
-      → st ≡ paint (target r) (hostTouches (inkOf r) pattern (clipOf r) (feedOf r) (byWord (feedOf r) last word taken)) (state m 0)
+  pub plain-word-drawn : {b : Bool} {p : Plain} → b ≡ plainBlit r → b ≡ true → p ≡ plainOf r → st ≡ drawn (plainInk p) [] c f (byWord f last word taken) (state m 0 0)
+      → st ≡ paint (target r) (hostTouches (inkOf r) pattern (clipOf r) (feedOf r) (byWord (feedOf r) last word taken)) (state m 0 0)
   plain-word-drawn g t h d =
       word-drawn refl
-      (d ∙ ap (λ (p : Plain). drawn (plainInk p) [] c f (byWord f last word taken) (state m 0)) h
-      ∙ plain-drawn (inkOf r) (plainOf r) (plain-ink r (sym g ∙ t)) pattern c f (byWord f last word taken) (state m 0))
+      (d ∙ ap (λ (p : Plain). drawn (plainInk p) [] c f (byWord f last word taken) (state m 0 0)) h
+      ∙ plain-drawn (inkOf r) (plainOf r) (plain-ink r (sym g ∙ t)) pattern c f (byWord f last word taken) (state m 0 0))

@@ -12,6 +12,7 @@ use Rattle.surface.specs.Place.{readPx}
 use Rattle.surface.specs.Pixels.{Px, Inside, NotBefore, origin}
 use Rattle.surface.proofs.Lists.{In}
 use Rattle.surface.proofs.Rects.{in-rect, rect-in, Past}
+use Rattle.paint.specs.Tally.{tally}
 use Rattle.paint.specs.Paint.{state, paint}
 use Rattle.paint.proofs.Frame.{Bytes}
 use Rattle.sweep.specs.Copy.{sourcePlace, asBefore, inTurn}
@@ -49,7 +50,7 @@ module _ (r : Regs) (pattern m : List ℕ) (v : copyVerdict r (length m) ≡ 0) 
   first p i = needed-first (origins r) (length m) c (omega arith) (omega arith) (copy-passed r (length m) v .source)
 
   abbrev AsBefore : Type 0
-  AsBefore = paint (target r) (inTurn (copyTask r) pattern (copyOrder r)) (state m 0) ≡ paint (target r) (asBefore (copyTask r) pattern m (covered c)) (state m 0)
+  AsBefore = paint (target r) (inTurn (copyTask r) pattern (copyOrder r)) (state m 0 0) ≡ paint (target r) (asBefore (copyTask r) pattern m (covered c)) (state m 0 0)
 
   pub none-shared : (target r ≡ origins r → (p : Px) → In p (covered c) → In p (pixels (needed c)) → ⊥) → AsBefore
   unfolding copyTask inkOf
@@ -59,7 +60,7 @@ module _ (r : Regs) (pattern m : List ℕ) (v : copyVerdict r (length m) ≡ 0) 
       let f = first p ip in
       let j = subst (Inside (c .sx - origin) (c .sy - origin) (c .w) (c .h)) e (source-inside (copyTask r) (c .w) (c .h) q iq) in
       none (sym same) p (rect-in false false (c .x) (c .y) (c .w) (c .h) p ip)
-      (subst⁻¹ (In p) (needed-pixels c (f .0) (f .1)) (rect-in false false (c .sx - origin) (c .sy - origin) (c .w) (c .h) p j))) pattern m 0
+      (subst⁻¹ (In p) (needed-pixels c (f .0) (f .1)) (rect-in false false (c .sx - origin) (c .sy - origin) (c .w) (c .h) p j))) pattern m (tally 0 0)
 
   pub not-behind : NotBefore (bit (r .command) 15) (placed (r .dstXY / 2 ^ 16)) (placed (r .srcXY / 2 ^ 16))
       → (placed (r .srcXY / 2 ^ 16) ≡ placed (r .dstXY / 2 ^ 16) → NotBefore (bit (r .command) 14) (placed (r .dstXY)) (placed (r .srcXY))) → AsBefore
@@ -73,12 +74,12 @@ module _ (r : Regs) (pattern m : List ℕ) (v : copyVerdict r (length m) ≡ 0) 
       ⊎-elim
       (λ a. never-read (bit (r .command) 15) (placed (r .dstXY / 2 ^ 16)) (placed (r .srcXY / 2 ^ 16)) (c .y) (c .sy) (p .y) (q .y) rows (copy-rows r) (f .1) (iq .top) a ey)
       (λ a. let level : placed (r .srcXY / 2 ^ 16) ≡ placed (r .dstXY / 2 ^ 16) = omega (arith, copy-rows r, f .1, iq .top, a .0) in
-      never-read (bit (r .command) 14) (placed (r .dstXY)) (placed (r .srcXY)) (c .x) (c .sx) (p .x) (q .x) (columns level) (copy-columns r) (f .0) (iq .left) (a .1) ex) ahead) pattern m 0
+      never-read (bit (r .command) 14) (placed (r .dstXY)) (placed (r .srcXY)) (c .x) (c .sx) (p .x) (q .x) (columns level) (copy-columns r) (f .0) (iq .left) (a .1) ex) ahead) pattern m (tally 0 0)
 
   pub spread : r .command / 2 ^ 24 % 2 ^ 8 ≡ 0xcc → bit (r .commandExtra) 0 ≡ false → bit (r .commandExtra) 1 ≡ false → origins r ≡ target r
       → bit (r .command) 14 ≡ false → placed (r .srcXY) + 1 ≡ placed (r .dstXY) → placed (r .srcXY / 2 ^ 16) ≡ placed (r .dstXY / 2 ^ 16) → Bytes m
       → (p : Px) → In p (covered c)
-      → readPx (paint (target r) (inTurn (copyTask r) pattern (copyOrder r)) (state m 0) .mem) (target r) (p .x) (p .y) ≡ readPx m (target r) (c .x - 1) (p .y)
+      → readPx (paint (target r) (inTurn (copyTask r) pattern (copyOrder r)) (state m 0 0) .mem) (target r) (p .x) (p .y) ≡ readPx m (target r) (c .x - 1) (p .y)
   unfolding copyTask inkOf
   spread operation sourceKey targetKey same left column row bytes p i =
       let plain : PlainCopy (copyTask r) =
@@ -87,6 +88,6 @@ module _ (r : Regs) (pattern m : List ℕ) (v : copyVerdict r (length m) ≡ 0) 
       let f = first p ip in
       let beside : c .sx - origin + 1 ≡ c .x = omega (arith, copy-columns r, f .0) in
       let level : c .sy - origin ≡ c .y = omega (arith, copy-rows r, f .1) in
-      ap (λ (l : Bool). readPx (paint (target r) (inTurn (copyTask r) pattern (coveredFrom l (bit (r .command) 15) c)) (state m 0) .mem) (target r) (p .x) (p .y)) left
-      ∙ smears (copyTask r) (c .w) (c .h) pattern m 0 plain can bytes same beside level (bit (r .command) 15) p ip
+      ap (λ (l : Bool). readPx (paint (target r) (inTurn (copyTask r) pattern (coveredFrom l (bit (r .command) 15) c)) (state m 0 0) .mem) (target r) (p .x) (p .y)) left
+      ∙ smears (copyTask r) (c .w) (c .h) pattern m (tally 0 0) plain can bytes same beside level (bit (r .command) 15) p ip
       ∙ ap (λ (k : ℕ). readPx m (target r) k (p .y)) (omega arith)

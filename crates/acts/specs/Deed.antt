@@ -54,7 +54,7 @@ touchedByWord b k word =
     hostTouches (inkOf (b .regs)) (b .pattern) (clipOf (b .regs)) (feedOf (b .regs)) (byWord (feedOf (b .regs)) (k .last) word (k .taken))
 
 abbrev pub paintedBy : Bank → List Touch → List ℕ → State
-paintedBy b ts m = paint (target (b .regs)) ts (state m 0)
+paintedBy b ts m = paint (target (b .regs)) ts (state m 0 0)
 
 -- ---- a command's outcome
 
@@ -78,7 +78,7 @@ deed a m = record { verdict = a .number; makes = made (a .bank) (a .blit) (talli
 
 -- refused: registers, host blit and memory as they were given
 unfoldable pub judged : Deed → Bank → Blit → List ℕ → Deed
-judged d b k m = cond (eqb (d .verdict) 0) d (record { verdict = d .verdict; makes = made b k (state m 0) })
+judged d b k m = cond (eqb (d .verdict) 0) d (record { verdict = d .verdict; makes = made b k (state m 0 0) })
 
 -- ---- the commands
 abbrev pub filling : Bank → Blit → List ℕ → Deed
@@ -102,8 +102,8 @@ opening b m = record {
   verdict = hostVerdict (b .regs) (length m);
   makes =
       cond (ltb 0 (wordsOf (feedOf (b .regs))))
-      (made b (record { waiting = true; taken = 0; last = 0 }) (state m 0))
-      (made (rectEnded b) noBlit (state m 0));
+      (made b (record { waiting = true; taken = 0; last = 0 }) (state m 0 0))
+      (made (rectEnded b) noBlit (state m 0 0));
 }
 
 -- a word of data: the first also opens the blit, the last ends it
@@ -115,14 +115,14 @@ feeding b k m word = record {
       (cond (ltb (k .taken + 1) (wordsOf (feedOf (b .regs))))
       (made b (record { waiting = true; taken = k .taken + 1; last = word }) (paintedBy b (touchedByWord b k word) m))
       (made (rectEnded b) noBlit (paintedBy b (touchedByWord b k word) m)))
-      (made (rectEnded b) noBlit (state m 0));
+      (made (rectEnded b) noBlit (state m 0 0));
 }
 
 abbrev pub idling : Bank → Blit → List ℕ → Deed
-idling b k m = record { verdict = 0; makes = made b k (state m 0) }
+idling b k m = record { verdict = 0; makes = made b k (state m 0 0) }
 
 abbrev pub unbuilt : Bank → Blit → List ℕ → Deed
-unbuilt b k m = record { verdict = 4; makes = made b k (state m 0) }
+unbuilt b k m = record { verdict = 4; makes = made b k (state m 0 0) }
 
 -- ---- by a command's number: nop, screen copy, stretch copy, host blit, fill, line and polyline, and those that are not built
 abbrev pub byNumber : {A : Type 0} → ℕ → A → A → A → A → A → A → A → A

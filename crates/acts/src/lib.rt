@@ -57,13 +57,16 @@ fn end_line(bank: Bank, style: u32) -> Bank
 
 // A command that paints nothing: refused by the row of that number, or 0 where none refuses it.
 fn unpainted(number: u32, bank: Bank, blit: Blit) -> Act
-    ensures { λ r. ⌜ r ≡ record { number = number; bank = bank; blit = blit; tally = tally 0 } ⌝ }
+    ensures { λ r. ⌜ r ≡ record { number = number; bank = bank; blit = blit; tally = tally 0 0 } ⌝ }
 {
     Act {
         number: number,
         bank: bank,
         blit: blit,
-        tally: Tally { count: 0 },
+        tally: Tally {
+            count: 0,
+            changed: 0,
+        },
     }
 }
 

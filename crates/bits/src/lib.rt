@@ -3,7 +3,7 @@ use paint::Tally;
 use surface::Surface;
 ghost use mathlib.Core.Path.{_≡_};
 ghost use mathlib.Core.Bool.{false};
-ghost use Prim.Native.Nat.{_+_, _-_, _<_, _≤_, min};
+ghost use Prim.Native.Nat.{_+_, _-_, _<_, _≤_};
 ghost use lib.ListN.{length};
 ghost use Rattle.surface.specs.Asked.{Colour, Held};
 ghost use Rattle.surface.specs.Pixels.{across, rect};
@@ -36,10 +36,9 @@ fn put_bit(mem: &mut [u8], at: usize, n: u32, p: Plain, bit: u32, tally: Tally) 
     requires { ⌜ Held at n (length (now mem)) × Room tally 1 ⌝ }
     ensures { λ r. ⌜ tallied (now (mem .exit)) r ≡ dabAt at n (coloured p bit) (tallied (now (mem .entry)) tally) ⌝ }
 {
-    if bit == 1 {
-        return paint::put_value_at(mem, at, n, false, p.fore, tally);
-    }
-    paint::put_value_at(mem, at, n, p.clear, p.back, tally)
+    let set = bit == 1;
+    let v = if set { p.fore } else { p.back };
+    paint::put_value_at(mem, at, n, p.clear & !set, v, tally)
 }
 
 // The m pixels of row y from x on are given the bits of a byte from bit k on, the highest first; n is the target's bytes per pixel.
@@ -95,13 +94,6 @@ pub fn put_bits(
     put_run(mem, p, 4, byte, k, x, y, m, tally)
 }
 
-// The lesser of two numbers.
-pub fn least(a: u32, b: u32) -> u32
-    ensures { λ r. ⌜ r ≡ min a b ⌝ }
-{
-    if a < b { a } else { b }
-}
-
 // Row j of a mono rectangle, which is row y of its target and row sy of its source, a byte of its source at a time; n is the target's bytes per pixel.
 fn mono_run(mem: &mut [u8], t: Mono, n: u32, w: u32, j: u32, y: u32, sy: u32, tally: Tally) -> Tally
     requires { ⌜ RowMono t w j (length (now mem)) tally × ((n ≡ t .plain .target .bytes) × ((y ≡ t .y + j) × (sy ≡ t .sy + j))) ⌝ }
@@ -112,7 +104,7 @@ fn mono_run(mem: &mut [u8], t: Mono, n: u32, w: u32, j: u32, y: u32, sy: u32, ta
     while i < w {
         let column = t.sx + i;
         let k = column % 8;
-        let m = least(8 - k, w - i);
+        let m = surface::least(8 - k, w - i);
         let byte = surface::mono_in_rows(mem, t.from, column, sy);
         r = put_run(mem, t.plain, n, byte, k, t.x + i, y, m, r);
         i += m;
@@ -143,9 +135,12 @@ fn mono_row(mem: &mut [u8], t: Mono, w: u32, j: u32, tally: Tally) -> Tally
 // A mono rectangle, row by row.
 pub fn mono_rows(mem: &mut [u8], t: Mono, w: u32, h: u32) -> Tally
     requires { ⌜ CanMono t w h (length (now mem)) ⌝ }
-    ensures { λ r. ⌜ tallied (now (mem .exit)) r ≡ paint (t .plain .target) (monoly t (rect false false (t .x) (t .y) w h)) (state (now (mem .entry)) 0) ⌝ }
+    ensures { λ r. ⌜ tallied (now (mem .exit)) r ≡ paint (t .plain .target) (monoly t (rect false false (t .x) (t .y) w h)) (state (now (mem .entry)) 0 0) ⌝ }
 {
-    let mut n = Tally { count: 0 };
+    let mut n = Tally {
+        count: 0,
+        changed: 0,
+    };
     let mut j = 0;
     while j < h {
         n = mono_row(mem, t, w, j, n);

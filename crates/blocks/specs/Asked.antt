@@ -4,8 +4,8 @@ use mathlib.Core.Path.{_≡_}
 use mathlib.Core.Bool.{true}
 use Prim.Native.Nat.{ℕ, _+_, _*_, _%_, _^_, _<_, _≤_}
 use Rattle.surface.specs.declared.Surface.{Surface}
-use Rattle.surface.specs.Place.{rowBytes, byteAt}
-use Rattle.surface.specs.Asked.{Small}
+use Rattle.surface.specs.Place.{rowBytes, byteAt, onSurface}
+use Rattle.surface.specs.Asked.{Small, Colour}
 use Rattle.surface.specs.Pixels.{Px, Inside}
 use Rattle.blocks.specs.declared.Way.{Way}
 use Rattle.blocks.specs.Blocks.{origin}
@@ -40,3 +40,22 @@ pub record Columns (s : Surface) (x n : ℕ) : Type 0 where
 
 pub record Rows (s : Surface) (y h : ℕ) : Type 0 where
   pub one : s .tiled ≡ true → y % 32 + h ≤ 32
+
+-- w pixels of row y from x on are on their surface, and those of row sy from sx on, of the same format, on theirs
+pub record PartOn (to from : Surface) (x y sx sy w len : ℕ) : Type 0 where
+  pub format : from .bytes ≡ to .bytes
+  pub wide : w ≤ 2 ^ 13
+  pub right : x + w ≤ 2 ^ 13
+  pub sourceRight : sx + w ≤ 2 ^ 15
+  pub down : y < 2 ^ 13
+  pub sourceDown : sy < 2 ^ 15
+  pub target : Colour to
+  pub source : Colour from
+  pub on : (i : ℕ) → i < w → onSurface to len (x + i) y ≡ true
+  pub sourceOn : (i : ℕ) → i < w → onSurface from len (sx + i) sy ≡ true
+
+-- h rows of them, each with its own
+pub record RowsOn (to from : Surface) (x y sx sy w h len : ℕ) : Type 0 where
+  pub wide : w ≤ 2 ^ 13
+  pub high : h ≤ 2 ^ 13
+  pub each : (j : ℕ) → j < h → PartOn to from x (y + j) sx (sy + j) w len

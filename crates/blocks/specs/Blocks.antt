@@ -2,12 +2,13 @@
 -- Columns count bytes, so that a pixel here is a byte of a row.
 -- Assumes nothing.
 use mathlib.Core.Path.{_≡_}
-use mathlib.Core.Bool.{cond}
+use mathlib.Core.Bool.{cond, not}
 use mathlib.Core.List.{List}
-use Prim.Native.Nat.{ℕ, _+_, _-_, _*_, _<_}
+use Prim.Native.Nat.{ℕ, zero, suc, _+_, _-_, _*_, _<_}
+use lib.Dec.{eqb}
 use lib.ListN.{length, getD}
 use Rattle.surface.specs.declared.Surface.{Surface}
-use Rattle.surface.specs.Place.{byteAt}
+use Rattle.surface.specs.Place.{byteAt, readPx, one}
 use Rattle.surface.specs.Pixels.{Px, Inside}
 use Rattle.blocks.specs.declared.Way.{Way}
 
@@ -33,3 +34,13 @@ pub record Laid (d p s r n h : ℕ) (m m′ : List ℕ) : Type 0 where
 -- how far apart the rows of a block are
 abbrev pub pitch : Surface → ℕ
 pitch s = cond (s .tiled) 128 (s .stride)
+
+-- ---- how many of w pixels of row y from x on are not those of row sy from sx on
+unfoldable pub others : Surface → Surface → List ℕ → ℕ → ℕ → ℕ → ℕ → ℕ → ℕ
+others to from m x y sx sy zero = 0
+others to from m x y sx sy (suc w) = one (not (eqb (readPx m to x y) (readPx m from sx sy))) + others to from m (x + 1) y (sx + 1) sy w
+
+-- the same of h rows, from row number j on, each against a row of its own
+unfoldable pub othersDown : Surface → Surface → List ℕ → ℕ → ℕ → ℕ → ℕ → ℕ → ℕ → ℕ → ℕ
+othersDown to from m x y sx sy w j zero = 0
+othersDown to from m x y sx sy w j (suc h) = others to from m x (y + j) sx (sy + j) w + othersDown to from m x y sx sy w (j + 1) h

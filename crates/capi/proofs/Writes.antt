@@ -19,7 +19,7 @@ use Rattle.registers.proofs.OffsetLaws.{register-listed, pattern-word}
 use Rattle.engine.specs.declared.Engine.{Engine}
 use Rattle.engine.specs.declared.Answer.{Answer}
 use Rattle.engine.specs.declared.Answer.the-variants.{Taken, Memory, Waiting}
-use Rattle.engine.specs.Step.{Step, step, withBank, storedIn, toRegister, toPattern, written}
+use Rattle.engine.specs.Step.{Step, step, changedOf, withBank, storedIn, toRegister, toPattern, written}
 use Rattle.acts.proofs.Cases.{by-test}
 use Rattle.state.specs.Layout.{stateSize, patternAt, withWord, byteOf, slot, byteIn, encoded, decoded, isState, Bytes, withSlots, commandSlots}
 use Rattle.capi.specs.Calls.{packed, Call, call, packedAnswer, called, writtenTo, Opening, opening, plainly}
@@ -33,7 +33,7 @@ pub by-engine : (s m : List ℕ) (o d : ℕ) → isState s ≡ true → writtenT
 unfolding writtenTo
 by-engine s m o d t = rw t
 
-pub not-written : (s m : List ℕ) (o d : ℕ) → isState s ≡ false → call s m (packed 255 0) ≡ writtenTo s m o d
+pub not-written : (s m : List ℕ) (o d : ℕ) → isState s ≡ false → call s m (packed 255 0) 0 ≡ writtenTo s m o d
 unfolding writtenTo
 not-written s m o d t = rw t
 
@@ -51,23 +51,24 @@ saved-as : (s m : List ℕ) (o d : ℕ) → Opened s → Draws o → (t : Step) 
 saved-as s m o d h q t e = rw e (saved s m o d h q)
 
 pub command-written : (s m : List ℕ) (o d : ℕ) → isState s ≡ true → Bytes s → Draws o → {e after : Engine} {left : List ℕ} {a : Answer} → e ≡ decoded s
-    → step after left a ≡ written e m o d → {s′ : List ℕ} {r : ℕ} → s′ ≡ withSlots s after commandSlots → r ≡ packedAnswer a → call s′ left r ≡ writtenTo s m o d
-command-written s m o d t b q {e} {after} {left} {a} p w v u =
+    → step after left a ≡ written e m o d → {s′ : List ℕ} {r c : ℕ} → s′ ≡ withSlots s after commandSlots → r ≡ packedAnswer a → c ≡ changedOf a
+    → call s′ left r c ≡ writtenTo s m o d
+command-written s m o d t b q {e} {after} {left} {a} p w v u k =
     let w′ : step after left a ≡ written (decoded s) m o d = w ∙ ap (λ x. written x m o d) p in
-    ap₂ (λ x y. call x left y) (v ∙ saved-as s m o d (opened s t b) q (step after left a) w′) u ∙ ap called w′ ∙ sym (by-engine s m o d t)
+    (λ i. call ((v ∙ saved-as s m o d (opened s t b) q (step after left a) w′) i) left (u i) (k i)) ∙ ap called w′ ∙ sym (by-engine s m o d t)
 
 -- ---- a word that draws nothing
 
 abbrev joined : List ℕ → Opening → Call
-joined m x = call (x .state) m (x .answer)
+joined m x = call (x .state) m (x .answer) 0
 
 by-tests : (big right waits : Bool) (e after : Engine) {s s′ : List ℕ} (m : List ℕ) → encoded e ≡ s → encoded after ≡ s′
-    → called (cond big (step e m Memory) (cond right (cond waits (step e m Waiting) (step after m (Taken 0))) (step e m Memory)))
+    → called (cond big (step e m Memory) (cond right (cond waits (step e m Waiting) (step after m (Taken 0 0))) (step e m Memory)))
     ≡ joined m (cond big (opening s (packed 1 0)) (cond right (cond waits (opening s (packed 3 0)) (opening s′ 0)) (opening s (packed 1 0))))
-by-tests true right waits e after m p q = ap (λ x. call x m (packed 1 0)) p
-by-tests false true true e after m p q = ap (λ x. call x m (packed 3 0)) p
-by-tests false true false e after m p q = ap (λ x. call x m 0) q
-by-tests false false waits e after m p q = ap (λ x. call x m (packed 1 0)) p
+by-tests true right waits e after m p q = ap (λ x. call x m (packed 1 0) 0) p
+by-tests false true true e after m p q = ap (λ x. call x m (packed 3 0) 0) p
+by-tests false true false e after m p q = ap (λ x. call x m 0 0) q
+by-tests false false waits e after m p q = ap (λ x. call x m (packed 1 0) 0) p
 
 -- the tests, by the engine that a state holds
 held-tests : (s : List ℕ) (len at d : ℕ)
@@ -79,8 +80,8 @@ held-tests s len at d = refl
 plain-written : (s m : List ℕ) (o d at v : ℕ) → isState s ≡ true → Bytes s → (after : Engine)
     → written (decoded s) m o d
     ≡ cond (ltb (2 ^ 24) (length m)) (step (decoded s) m Memory)
-    (cond (eqb (length m) (decoded s .opened)) (cond (decoded s .blit .waiting) (step (decoded s) m Waiting) (step after m (Taken 0))) (step (decoded s) m Memory))
-    → encoded after ≡ withWord s at v → {s′ : List ℕ} {r : ℕ} → opening s′ r ≡ plainly s (length m) at v → call s′ m r ≡ writtenTo s m o d
+    (cond (eqb (length m) (decoded s .opened)) (cond (decoded s .blit .waiting) (step (decoded s) m Waiting) (step after m (Taken 0 0))) (step (decoded s) m Memory))
+    → encoded after ≡ withWord s at v → {s′ : List ℕ} {r : ℕ} → opening s′ r ≡ plainly s (length m) at v → call s′ m r 0 ≡ writtenTo s m o d
 plain-written s m o d at v t b after w k p =
     ap (joined m) (p ∙ held-tests s (length m) at v)
     ∙ sym (by-engine s m o d t ∙ ap called w
@@ -112,12 +113,12 @@ stored-bytes s o d h q =
 register-step : (e : Engine) (m : List ℕ) (o d : ℕ) → placeOf o ≡ Register → (o ≡ 0x70 → ⊥)
     → written e m o d
     ≡ cond (ltb (2 ^ 24) (length m)) (step e m Memory)
-    (cond (eqb (length m) (e .opened)) (cond (e .blit .waiting) (step e m Waiting) (step (storedIn e o d) m (Taken 0))) (step e m Memory))
+    (cond (eqb (length m) (e .opened)) (cond (e .blit .waiting) (step e m Waiting) (step (storedIn e o d) m (Taken 0 0))) (step e m Memory))
 unfolding written toRegister
 register-step e m o d q n = rw (q, ne-eqb o 0x70 n)
 
 pub register-written : (s m : List ℕ) (o d : ℕ) → isState s ≡ true → Bytes s → placeOf o ≡ Register → (o ≡ 0x70 → ⊥) → {s′ : List ℕ} {r : ℕ}
-    → opening s′ r ≡ plainly s (length m) o (kept o d) → call s′ m r ≡ writtenTo s m o d
+    → opening s′ r ≡ plainly s (length m) o (kept o d) → call s′ m r 0 ≡ writtenTo s m o d
 register-written s m o d t b q n p =
     plain-written s m o d o (kept o d) t b (storedIn (decoded s) o d) (register-step (decoded s) m o d q n) (stored-bytes s o d (opened s t b) q) p
 
@@ -126,7 +127,7 @@ register-written s m o d t b q n p =
 pattern-step : (e : Engine) (m : List ℕ) (o d : ℕ) {i : ℕ} → placeOf o ≡ Pattern i
     → written e m o d
     ≡ cond (ltb (2 ^ 24) (length m)) (step e m Memory)
-    (cond (eqb (length m) (e .opened)) (cond (e .blit .waiting) (step e m Waiting) (step (withBank e (patterned (e .bank) i d)) m (Taken 0))) (step e m Memory))
+    (cond (eqb (length m) (e .opened)) (cond (e .blit .waiting) (step e m Waiting) (step (withBank e (patterned (e .bank) i d)) m (Taken 0 0))) (step e m Memory))
 unfolding written toPattern
 pattern-step e m o d q = rw q
 
@@ -180,7 +181,7 @@ unfolding decoded
 held-size s l = simp (length-take, length-drop) (omega arith)
 
 pub pattern-written : (s m : List ℕ) (o d : ℕ) {i : ℕ} → isState s ≡ true → Bytes s → placeOf o ≡ Pattern i → {s′ : List ℕ} {r : ℕ}
-    → opening s′ r ≡ plainly s (length m) (patternAt + i) d → call s′ m r ≡ writtenTo s m o d
+    → opening s′ r ≡ plainly s (length m) (patternAt + i) d → call s′ m r 0 ≡ writtenTo s m o d
 pattern-written s m o d {i} t b q p =
     let h = opened s t b in
     let w = pattern-word o q in

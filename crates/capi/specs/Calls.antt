@@ -9,7 +9,7 @@ use Rattle.views.specs.View.{viewAnswer, viewStart, viewCount}
 use Rattle.bank.specs.declared.Reading.{Reading}
 use Rattle.bank.specs.Bank.{readNumber, readValue}
 use Rattle.engine.specs.declared.Answer.{Answer}
-use Rattle.engine.specs.Step.{Step, numberOf, countOf, freshEngine, written, readFrom}
+use Rattle.engine.specs.Step.{Step, numberOf, countOf, changedOf, freshEngine, written, readFrom}
 use Rattle.state.specs.Layout.{stateSize, wordAt, withWord, encoded, decoded, openedIn, isState}
 
 -- the number of a state that open did not make
@@ -20,23 +20,24 @@ notState = 255
 abbrev pub packed : ℕ → ℕ → ℕ
 packed number value = number * 2 ^ 32 + value
 
--- ---- write: the state, the memory and the answer after a call
+-- ---- write: the state, the memory, the answer, and how many pixels changed, after a call
 pub record Call : Type 0 where
   pub state : List ℕ
   pub memory : List ℕ
   pub answer : ℕ
+  pub changed : ℕ
 
-abbrev pub call : List ℕ → List ℕ → ℕ → Call
-call s m a = record { state = s; memory = m; answer = a }
+abbrev pub call : List ℕ → List ℕ → ℕ → ℕ → Call
+call s m a c = record { state = s; memory = m; answer = a; changed = c }
 
 abbrev pub packedAnswer : Answer → ℕ
 packedAnswer a = packed (numberOf a) (countOf a)
 
 abbrev pub called : Step → Call
-called t = call (encoded (t .engine)) (t .memory) (packedAnswer (t .answer))
+called t = call (encoded (t .engine)) (t .memory) (packedAnswer (t .answer)) (changedOf (t .answer))
 
 unfoldable pub writtenTo : List ℕ → List ℕ → ℕ → ℕ → Call
-writtenTo s m o d = cond (isState s) (called (written (decoded s) m o d)) (call s m (packed notState 0))
+writtenTo s m o d = cond (isState s) (called (written (decoded s) m o d)) (call s m (packed notState 0) 0)
 
 -- ---- open: the state and the answer
 pub record Opening : Type 0 where

@@ -35,15 +35,16 @@ fn put_plain(s: &mut [u8], len: usize, at: usize, word: u32) -> u64
 }
 
 // A write to command, a launch write, or one to no register.
-fn run(s: &mut [u8], mem: &mut [u8], offset: u32, word: u32) -> u64
+fn run(s: &mut [u8], mem: &mut [u8], offset: u32, word: u32, changed: &mut u32) -> u64
     requires { ⌜ (isState (now s) ≡ true) × (Bytes (now s) × Draws offset) ⌝ }
-    ensures { λ r. ⌜ call (now (s .exit)) (now (mem .exit)) r ≡ writtenTo (now (s .entry)) (now (mem .entry)) offset word ⌝ }
+    ensures { λ r. ⌜ call (now (s .exit)) (now (mem .exit)) r (now (changed .exit)) ≡ writtenTo (now (s .entry)) (now (mem .entry)) offset word ⌝ }
 {
     let e = state::decode(s);
     let out = e.write(mem, offset, word);
     let next = out.engine;
     let answer = out.answer;
     state::save(s, next);
+    *changed = answer.changed();
     pack(answer)
 }
 
@@ -70,7 +71,7 @@ pub extern "C" fn rimebarrow_open(state: &mut [u8], size: usize) -> u32
     0
 }
 
-// One register write: the answer's number in the high 32 bits and the count in the low ones. A word that draws nothing goes to its place in the state;
+// One register write: the answer's number in the high 32 bits and the count in the low ones; how many pixels changed goes to its place. A word that draws nothing goes to its place in the state;
 // for any other the engine is taken out of its bytes and put back.
 #[no_mangle]
 pub extern "C" fn rimebarrow_write(
@@ -78,9 +79,11 @@ pub extern "C" fn rimebarrow_write(
     memory: &mut [u8],
     offset: u32,
     word: u32,
+    changed: &mut u32,
 ) -> u64
-    ensures { λ r. ⌜ call (now (state .exit)) (now (memory .exit)) r ≡ writtenTo (now (state .entry)) (now (memory .entry)) offset word ⌝ }
+    ensures { λ r. ⌜ call (now (state .exit)) (now (memory .exit)) r (now (changed .exit)) ≡ writtenTo (now (state .entry)) (now (memory .entry)) offset word ⌝ }
 {
+    *changed = 0;
     if !state::is_state(state) {
         return 0xff_0000_0000;
     }
@@ -88,7 +91,7 @@ pub extern "C" fn rimebarrow_write(
     match place {
         Place::Register => {
             if offset == 0x70 {
-                return run(state, memory, offset, word);
+                return run(state, memory, offset, word, changed);
             }
             put_plain(
                 state,
@@ -98,8 +101,8 @@ pub extern "C" fn rimebarrow_write(
             )
         }
         Place::Pattern(at) => put_plain(state, memory.len(), 0x7c + at, word),
-        Place::Launch => run(state, memory, offset, word),
-        Place::Nowhere => run(state, memory, offset, word),
+        Place::Launch => run(state, memory, offset, word, changed),
+        Place::Nowhere => run(state, memory, offset, word, changed),
     }
 }
 

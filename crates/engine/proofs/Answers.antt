@@ -1,4 +1,4 @@
--- An answer has one number and one count, and a read is answered by what its offset names.
+-- An answer has one number, one count and one number of pixels changed, and a read is answered by what its offset names.
 -- Assumes nothing.
 use mathlib.Core.Path.{_≡_, refl}
 use mathlib.Core.Bool.{true, cond, false≢true}
@@ -8,8 +8,8 @@ use Rattle.registers.specs.declared.Place.the-variants.{Register, Pattern, Laun
 use Rattle.registers.specs.Offsets.{placeOf}
 use Rattle.bank.specs.Bank.{readPlace, readNumber, readValue}
 use Rattle.engine.specs.declared.Engine.{Engine}
-use Rattle.engine.specs.Step.{numberOf, countOf}
-use Rattle.engine.specs.Promises.{OneNumber, OneCount, unread, ReadAnswered}
+use Rattle.engine.specs.Step.{numberOf, countOf, changedOf}
+use Rattle.engine.specs.Promises.{OneNumber, OneCount, OneChanged, unread, ReadAnswered}
 use Rattle.engine.proofs.One.{settled}
 
 pub one-number : OneNumber
@@ -17,6 +17,9 @@ one-number a x y = settled (numberOf a) x y
 
 pub one-count : OneCount
 one-count a x y = settled (countOf a) x y
+
+pub one-changed : OneChanged
+one-changed a x y = settled (changedOf a) x y
 
 place-answered : (p : Place) (e : Engine) (o : ℕ)
     → (readNumber (readPlace p (e .bank) o) ≡ cond (unread p) 2 0) × (unread p ≡ true → readValue (readPlace p (e .bank) o) ≡ 0)

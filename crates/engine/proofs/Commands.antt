@@ -44,7 +44,7 @@ use Rattle.table.proofs.Verdicts.{fill-can, copy-can, line-can, host-can}
 use Rattle.engine.specs.declared.Engine.{Engine}
 use Rattle.engine.specs.declared.Answer.the-variants.{Taken, Memory, Waiting, NotBuilt}
 use Rattle.acts.specs.Deed.{noBlit, rectEnded, Made, made, paintedBy, idling, unbuilt, filling, copying, stretching, lining, opening, feeding, carrying, starting, byNumber}
-use Rattle.engine.specs.Step.{Step, step, done, making, judging, numberOf, countOf, refusal, regs, idle, withBank, storedIn, carried, launched, commanded, toRegister, toPattern, toPlace, written}
+use Rattle.engine.specs.Step.{Step, step, done, making, judging, numberOf, countOf, changedOf, refusal, regs, idle, withBank, storedIn, carried, launched, commanded, toRegister, toPattern, toPlace, written}
 use Rattle.engine.specs.Orders.{launching, orderAt, order, coveredBy, carriedTouches, launchedTouches, touchesAt, touchesOf}
 use Rattle.engine.specs.Promises.{row1, row2, row3, row4, row5, row6, row7, row8, ordered}
 use Rattle.engine.proofs.Short.{afterRect, afterLine, filled, copied, stretched, lined, begun, fed, fillTouches, copyTouches, stretchTouches, drawTouches, wordTouches}
@@ -129,8 +129,9 @@ module _ (r : Regs) (len : ℕ) where
 
 -- ---- one command
 pub record Painting (r : Regs) (ts : List Touch) (m : List ℕ) (s : Step) : Type 0 where
-  pub memory : s .memory ≡ paint (target r) ts (state m 0) .mem
-  pub count : countOf (s .answer) ≡ paint (target r) ts (state m 0) .tally .count
+  pub memory : s .memory ≡ paint (target r) ts (state m 0 0) .mem
+  pub count : countOf (s .answer) ≡ paint (target r) ts (state m 0 0) .tally .count
+  pub changed : changedOf (s .answer) ≡ paint (target r) ts (state m 0 0) .tally .changed
   pub touched : (p : Px) → In p (map (λ t. t .at) ts) → In p (coveredBy r) × (0 < target r .bytes)
 
 pub record Carried (r : Regs) (ts : List Touch) (m : List ℕ) (s : Step) : Type 0 where
@@ -160,13 +161,13 @@ judged {r} {ts} {m} old s a b c d row zero′ paints = record {
       picked (Painting r ts m) (eqb (first a b c d) 0) _ _ (λ _. paints v) (λ no′. absurd (true≢false (sym (eq-eqb (first a b c d) 0 v) ∙ no′)));
 }
 
-nothing : (r : Regs) (e : Engine) (m : List ℕ) → Painting r [] m (step e m (Taken 0))
+nothing : (r : Regs) (e : Engine) (m : List ℕ) → Painting r [] m (step e m (Taken 0 0))
 unfolding paint
-nothing r e m = record { memory = refl; count = refl; touched = λ p i. absurd (List·Memᴰ·not-nil i) }
+nothing r e m = record { memory = refl; count = refl; changed = refl; touched = λ p i. absurd (List·Memᴰ·not-nil i) }
 
 painting : (r : Regs) (e : Engine) (m : List ℕ) (ts : List Touch) (ps : List Px) → coveredBy r ≡ ps → 0 < target r .bytes
-    → ((p : Px) → In p (map (λ t. t .at) ts) → In p ps) → Painting r ts m (done e (paint (target r) ts (state m 0)))
-painting r e m ts ps same colour inside = record { memory = refl; count = refl; touched = λ p i. (subst⁻¹ (In p) same (inside p i), colour) }
+    → ((p : Px) → In p (map (λ t. t .at) ts) → In p ps) → Painting r ts m (done e (paint (target r) ts (state m 0 0)))
+painting r e m ts ps same colour inside = record { memory = refl; count = refl; changed = refl; touched = λ p i. (subst⁻¹ (In p) same (inside p i), colour) }
 
 module _ (r : Regs) where
   pub covered-none : number r ≡ 0 → coveredBy r ≡ []
@@ -288,7 +289,7 @@ fed-carried e m d n =
     (cond t
     (cond (ltb (e .blit .taken + 1) more) (made (e .bank) (record { waiting = true; taken = e .blit .taken + 1; last = d }) (paintedBy (e .bank) (wordTouches e d) m))
     (made (rectEnded (e .bank)) noBlit (paintedBy (e .bank) (wordTouches e d) m)))
-    (made (rectEnded (e .bank)) noBlit (state m 0)))))
+    (made (rectEnded (e .bank)) noBlit (state m 0 0)))))
     (ltb (e .blit .taken) more)
     (λ t.
     let few = ltb-true (e .blit .taken) more t in
@@ -301,7 +302,7 @@ fed-carried e m d n =
     (λ t. nothing r (afterRect (idle e)) m))
 
 -- ---- by the number
-idle-carried : (r : Regs) (e : Engine) (m : List ℕ) → number r ≡ 0 → Carried r [] m (step e m (Taken 0))
+idle-carried : (r : Regs) (e : Engine) (m : List ℕ) → number r ≡ 0 → Carried r [] m (step e m (Taken 0 0))
 idle-carried r e m n = record { number = sym (row-nop r (length m) n); paints = λ _. nothing r e m }
 
 unbuilt-carried : (r : Regs) (e : Engine) (m : List ℕ) → Unbuilt (number r) → Carried r [] m (step e m NotBuilt)
@@ -339,7 +340,7 @@ launched-carried e m d =
 
 -- ---- any write: `two` and `three` say whether rows 2 and 3 apply
 abbrev pub PaintingOf : Option Regs → List Touch → List ℕ → Step → Type 0
-PaintingOf none ts m s = (s .memory ≡ m) × (countOf (s .answer) ≡ 0)
+PaintingOf none ts m s = (s .memory ≡ m) × (countOf (s .answer) ≡ 0) × (changedOf (s .answer) ≡ 0)
 PaintingOf (some r) ts m s = Painting r ts m s
 
 abbrev pub laterRows : Bool → Bool → Option Regs → ℕ → List Bool
@@ -350,13 +351,13 @@ pub record Placed (two three : Bool) (r : Option Regs) (ts : List Touch) (m : Li
   pub paints : numberOf (s .answer) ≡ 0 → PaintingOf r ts m s
 
 -- one that has no command carried out
-no-command : (e : Engine) (m : List ℕ) (ts : List Touch) → Placed false false none ts m (step e m (Taken 0))
+no-command : (e : Engine) (m : List ℕ) (ts : List Touch) → Placed false false none ts m (step e m (Taken 0 0))
 unfolding firstOf
-no-command e m ts = record { number = refl; paints = λ _. (refl, refl) }
+no-command e m ts = record { number = refl; paints = λ _. (refl, refl, refl) }
 
 held-up : (e : Engine) (m : List ℕ) (ts : List Touch) → Placed false true none ts m (step e m Waiting)
 unfolding firstOf
-held-up e m ts = record { number = refl; paints = λ _. (refl, refl) }
+held-up e m ts = record { number = refl; paints = λ _. (refl, refl, refl) }
 
 one-command : {r : Regs} {ts : List Touch} {m : List ℕ} {s : Step} → Carried r ts m s → Placed false false (some r) ts m s
 unfolding firstOf
@@ -365,7 +366,7 @@ one-command c = record { number = c .number; paints = λ z. c .paints (sym (c .n
 -- a write to a register: command, with bit 8 or without, or another, while a blit waits or not
 register-placed : (waits command starts : Bool) {r : Regs} {ts : List Touch} {m : List ℕ} {s : Step} (e after next : Engine) → Carried r ts m s
     → Placed false (waits && not command) (cond (command && starts) (some r) none) (cond (command && starts) ts []) m
-    (cond command (cond starts s (step after m (Taken 0))) (cond waits (step e m Waiting) (step next m (Taken 0))))
+    (cond command (cond starts s (step after m (Taken 0 0))) (cond waits (step e m Waiting) (step next m (Taken 0 0))))
 register-placed true true true {m = m} e after next c = one-command c
 register-placed false true true {m = m} e after next c = one-command c
 register-placed true true false {m = m} e after next c = no-command after m []
@@ -380,9 +381,9 @@ place-placed Register e m o d =
     register-placed (e .blit .waiting) (eqb o 0x70) (bit d 8) e after (storedIn e o d) (carried-carried e after m)
 place-placed (Pattern i) e m o d =
     let next = withBank e (patterned (e .bank) i d) in
-    by-test (λ t. Placed false t none [] m (cond t (step e m Waiting) (step next m (Taken 0)))) (e .blit .waiting) (λ _. held-up e m []) (λ _. no-command next m [])
+    by-test (λ t. Placed false t none [] m (cond t (step e m Waiting) (step next m (Taken 0 0)))) (e .blit .waiting) (λ _. held-up e m []) (λ _. no-command next m [])
 place-placed Launch e m o d = one-command (launched-carried e m d)
-place-placed Nowhere e m o d = record { number = refl; paints = λ _. (refl, refl) }
+place-placed Nowhere e m o d = record { number = refl; paints = λ _. (refl, refl, refl) }
 
 -- row 1 first
 pub record Written (one : Bool) (later : List Bool) (r : Option Regs) (ts : List Touch) (m : List ℕ) (s : Step) : Type 0 where

@@ -1,4 +1,4 @@
--- The count: the number of covered pixels written.
+-- The count: the number of covered pixels written; and how many of them were altered, never more.
 -- Assumes nothing.
 use mathlib.Core.Path.{_≡_, sym, subst, _∙_}
 use mathlib.Core.Bool.{cond, _&&_}
@@ -6,11 +6,15 @@ use mathlib.Core.List.{List, [], map, List·Memᴰ}
 use mathlib.Core.Option.{Option, none, some}
 use Prim.Native.Nat.{ℕ, _<_, _≤_}
 use native.Mathlib.Nat.{zero-add}
+use native.Mathlib.Omega.{arith}
+use native.Mathlib.Decide.{ℕ-discrete}
 use lib.Dec.{eqb, ltb}
 use Rattle.surface.specs.Pixels.{Px}
+use Rattle.surface.proofs.Lists.{by-cases}
 use Rattle.paint.specs.Tally.{tally}
-use Rattle.paint.specs.Paint.{Touch}
-use Rattle.paint.proofs.Frame.{count-wrote}
+use Rattle.paint.specs.Paint.{state, Touch}
+use Rattle.paint.proofs.Frame.{count-wrote, changed-most}
+use Rattle.paint.proofs.Changes.{changed-altered}
 use Rattle.registers.specs.declared.Regs.{Regs}
 use Rattle.registers.specs.declared.Place.{Place}
 use Rattle.registers.specs.declared.Place.the-variants.{Register, Pattern, Launch, Nowhere}
@@ -21,20 +25,32 @@ use Rattle.host.specs.Host.{wordsOf}
 use Rattle.command.specs.Decode.{target, copyTask, fillTask, feedOf}
 use Rattle.cuts.specs.Cut.{bit, number, covered, copyOrder, fillCut}
 use Rattle.engine.specs.declared.Engine.{Engine}
-use Rattle.engine.specs.Step.{Step, regs, storedIn, written}
+use Rattle.engine.specs.Step.{Step, numberOf, countOf, changedOf, regs, storedIn, written}
 use Rattle.engine.specs.Orders.{launching, orderAt, order, carriedTouches, launchedTouches, touchesAt, touchesOf, coveredBy}
-use Rattle.engine.specs.Promises.{Paints, CountsWritten, TouchesCovered, WordCovered}
+use Rattle.engine.specs.Promises.{Paints, CountsWritten, ChangedMost, TouchesCovered, WordCovered}
 use Rattle.engine.proofs.Short.{copyTouches, stretchTouches, fillTouches, drawTouches, wordTouches}
 use Rattle.acts.proofs.Cases.{by-test, pick, by-tests, by-number}
 use Rattle.engine.proofs.Orders.{the-same, nothing-ordered}
+use Rattle.engine.proofs.Undone.{refused-undone}
 use Rattle.engine.proofs.Commands.{PaintingOf, covered-none, covered-copy, covered-stretch, covered-fill, covered-line, covered-other, rect-pixels, stretch-pixels, line-pixels, write-written}
 
 paints : (r : Option Regs) (ts : List Touch) (m : List ℕ) (s : Step) → PaintingOf r ts m s → Paints r ts m s
 paints none ts m s p = p
-paints (some r) ts m s p = (p .memory, p .count ∙ count-wrote (target r) ts m (tally 0) ∙ zero-add _)
+paints (some r) ts m s p =
+    (p .memory, p .count ∙ count-wrote (target r) ts m (tally 0 0) ∙ zero-add _, p .changed ∙ changed-altered (target r) ts m (tally 0 0) ∙ zero-add _)
 
 pub counts-written : CountsWritten
 counts-written e m o d z = paints (order e o d) (touchesOf e m o d) m (written e m o d) (write-written e m o d .paints z)
+
+-- no more are changed than written
+most : (r : Option Regs) (ts : List Touch) (m : List ℕ) (s : Step) → PaintingOf r ts m s → changedOf (s .answer) ≤ countOf (s .answer)
+most none ts m s p = omega (arith, p .1, p .2)
+most (some r) ts m s p = omega (arith, p .count, p .changed, changed-most (target r) ts (state m 0 0) (omega arith))
+
+pub no-more-changed : ChangedMost
+no-more-changed e m o d =
+    by-cases (ℕ-discrete (numberOf (written e m o d .answer)) 0) (λ z. most (order e o d) (touchesOf e m o d) m (written e m o d) (write-written e m o d .paints z))
+    (λ no′. let undone = refused-undone e m o d no′ in omega (arith, undone .2, undone .3))
 
 -- what is touched by a write that has the command of r carried out
 touched-of : (k : Option Regs) (r : Regs) (ts : List Touch) (m : List ℕ) (s : Step) → k ≡ some r → PaintingOf k ts m s

@@ -63,15 +63,15 @@ unchanged m k now e = record { long = ap length e; same = λ a f. ap (λ (n : Li
 
 -- a frame that asks for a colour target only where a pixel is touched
 touched-frame : (s : Surface) (ts : List Touch) (m : List ℕ) (a : ℕ) → ((p : Px) → In p (map (λ t. t .at) ts) → 0 < s .bytes)
-    → ((p : Px) → In p (map (λ t. t .at) ts) → IsByte s p a → ⊥) → getD (paint s ts (state m 0) .mem) a 0 ≡ getD m a 0
+    → ((p : Px) → In p (map (λ t. t .at) ts) → IsByte s p a → ⊥) → getD (paint s ts (state m 0 0) .mem) a 0 ≡ getD m a 0
 unfolding paint
 touched-frame s [] m a colour none′ = refl
-touched-frame s (t ∷ ts) m a colour none′ = frame s (colour (t .at) (List·Memᴰ·head refl)) (t ∷ ts) (state m 0) a none′
+touched-frame s (t ∷ ts) m a colour none′ = frame s (colour (t .at) (List·Memᴰ·head refl)) (t ∷ ts) (state m 0 0) a none′
 
 painting-left : (k : Option Regs) (ts : List Touch) (m : List ℕ) (s : Step) → PaintingOf k ts m s → Left m k (s .memory)
 painting-left none ts m s p = unchanged m none (s .memory) (p .0)
 painting-left (some r) ts m s p = record {
-  long = ap length (p .memory) ∙ paint-length (target r) ts (state m 0);
+  long = ap length (p .memory) ∙ paint-length (target r) ts (state m 0 0);
   same = λ a f. ap (λ (n : List ℕ). getD n a 0) (p .memory)
       ∙ touched-frame (target r) ts m a (λ q i. p .touched q i .1) (λ q i. f r q refl (p .touched q i .0));
 }
@@ -85,7 +85,7 @@ write-left e m o d =
 -- a memory of bytes stays one
 bytes-of : (k : Option Regs) (ts : List Touch) (m : List ℕ) (s : Step) → PaintingOf k ts m s → Bytes m → Bytes (s .memory)
 bytes-of none ts m s p b = subst⁻¹ Bytes (p .0) b
-bytes-of (some r) ts m s p b = subst⁻¹ Bytes (p .memory) (paint-bytes (target r) ts (state m 0) b)
+bytes-of (some r) ts m s p b = subst⁻¹ Bytes (p .memory) (paint-bytes (target r) ts (state m 0 0) b)
 
 pub write-bytes : (e : Engine) (m : List ℕ) (o d : ℕ) → Bytes m → Bytes (written e m o d .memory)
 write-bytes e m o d b =

@@ -16,7 +16,7 @@ use Rattle.engine.specs.declared.Engine.{Engine}
 use Rattle.engine.specs.declared.Answer.{Answer}
 use Rattle.engine.specs.declared.Answer.the-variants.{Taken, NotBuilt, Format, Host, Off, Meet}
 use Rattle.engine.specs.declared.Outcome.{Outcome}
-use Rattle.engine.specs.Step.{Step, step, numberOf, countOf, refusal, making, judging, settled}
+use Rattle.engine.specs.Step.{Step, step, numberOf, countOf, changedOf, refusal, making, judging, settled}
 
 -- ---- what a command left, settled
 abbrev pub outcome : Outcome → List ℕ → Step
@@ -30,14 +30,14 @@ settled-deed : (e : Engine) (a : Act) (m : List ℕ) → outcome (settled e a) m
 unfolding settled
 settled-deed e a m =
     by-test
-    (λ t. outcome (cond t (record { engine = record { bank = a .bank; blit = a .blit; opened = e .opened }; answer = Taken (a .tally .count) }) (record { engine = e; answer = refusal (a .number) })) m ≡ cond t (making e (deed a m .makes)) (step e m (refusal (a .number)))) (eqb (a .number) 0)
+    (λ t. outcome (cond t (record { engine = record { bank = a .bank; blit = a .blit; opened = e .opened }; answer = Taken (a .tally .count) (a .tally .changed) }) (record { engine = e; answer = refusal (a .number) })) m ≡ cond t (making e (deed a m .makes)) (step e m (refusal (a .number)))) (eqb (a .number) 0)
     (λ _. refl) (λ _. refl)
 
 judged-settling : (e : Engine) (d : Deed) (b : Bank) (k : Blit) (m : List ℕ) → settling e (judged d b k m) ≡ judging e e m d
 unfolding judged
 judged-settling e d b k m =
     by-test
-    (λ t. eqb (d .verdict) 0 ≡ t → settling e (cond t d (record { verdict = d .verdict; makes = made b k (state m 0) })) ≡ cond t (making e (d .makes)) (step e m (refusal (d .verdict))))
+    (λ t. eqb (d .verdict) 0 ≡ t → settling e (cond t d (record { verdict = d .verdict; makes = made b k (state m 0 0) })) ≡ cond t (making e (d .makes)) (step e m (refusal (d .verdict))))
     (eqb (d .verdict) 0) (λ _ h. rw h) (λ _ h. rw h) refl
 
 pub settled-as : (e : Engine) (a : Act) (left : List ℕ) (d : Deed) (b : Bank) (k : Blit) (m : List ℕ) {r : Outcome} → r ≡ settled e a → deed a left ≡ judged d b k m
@@ -45,15 +45,15 @@ pub settled-as : (e : Engine) (a : Act) (left : List ℕ) (d : Deed) (b : Bank) 
 settled-as e a left d b k m p q =
     ap (λ (r : Outcome). outcome r left) p ∙ settled-deed e a left ∙ ap (settling e) q ∙ judged-settling e d b k m
 
--- ---- a refusal counts nothing, and its number is not 0
+-- ---- a refusal counts nothing and changed nothing, and its number is not 0
 refusal-each : (P : Answer → Type 0) (n : ℕ) → P NotBuilt → P Format → P Host → P Off → P Meet → P (refusal n)
 unfolding refusal
 refusal-each P n four five six seven eight =
     picked P (eqb n 4) _ _ (λ _. four)
     (λ _. picked P (eqb n 5) _ _ (λ _. five) (λ _. picked P (eqb n 6) _ _ (λ _. six) (λ _. picked P (eqb n 7) _ _ (λ _. seven) (λ _. eight))))
 
-pub refused-count : (n : ℕ) → countOf (refusal n) ≡ 0
-refused-count n = refusal-each (λ a. countOf a ≡ 0) n refl refl refl refl refl
+pub refused-none : (n : ℕ) → (countOf (refusal n) ≡ 0) × (changedOf (refusal n) ≡ 0)
+refused-none n = refusal-each (λ a. (countOf a ≡ 0) × (changedOf a ≡ 0)) n (refl, refl) (refl, refl) (refl, refl) (refl, refl) (refl, refl)
 
 refused-number : (n : ℕ) → 0 < numberOf (refusal n)
 refused-number n = refusal-each (λ a. 0 < numberOf a) n (omega arith) (omega arith) (omega arith) (omega arith) (omega arith)

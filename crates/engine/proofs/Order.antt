@@ -1,7 +1,7 @@
 -- What a screen copy leaves, done in its order: what the older rule says where it shares no pixel with its source and where its source is not behind; and the
 -- smear of one column.
 -- Assumes nothing.
-use mathlib.Core.Path.{_≡_, sym, ap, ap₂, subst, _∙_}
+use mathlib.Core.Path.{_≡_, sym, ap, subst, _∙_}
 use mathlib.Core.Bool.{Bool, true, false, cond, _&&_}
 use mathlib.Core.List.{List, [], _∷_}
 use mathlib.Core.Option.{Option, none, some}
@@ -23,7 +23,7 @@ use Rattle.table.specs.Table.{copyVerdict}
 use Rattle.acts.proofs.Cases.{by-test}
 use Rattle.acts.proofs.Order.{none-shared, not-behind, spread}
 use Rattle.engine.specs.declared.Engine.{Engine}
-use Rattle.engine.specs.Step.{written, countOf, regs, storedIn}
+use Rattle.engine.specs.Step.{written, countOf, changedOf, regs, storedIn}
 use Rattle.engine.specs.Orders.{orderAt, launching, carriedTouches, launchedTouches, touchesAt, touchesOf}
 use Rattle.engine.specs.Promises.{row1, row2, row3, Copies, CopiesAsBefore, SourceAhead, Smears}
 use Rattle.engine.proofs.Short.{copyTouches}
@@ -67,15 +67,15 @@ none-refuses false false false rest z = z
 -- no row refuses it, and it has painted in its order
 copy-done : (e : Engine) (m : List ℕ) (o d : ℕ) (r : Regs) → Copies e m o d r
     → (copyVerdict r (length m) ≡ 0)
-    × (state (written e m o d .memory) (countOf (written e m o d .answer)) ≡ paint (target r) (inTurn (copyTask r) (e .bank .pattern) (copyOrder r)) (state m 0))
+    × (state (written e m o d .memory) (countOf (written e m o d .answer)) (changedOf (written e m o d .answer)) ≡ paint (target r) (inTurn (copyTask r) (e .bank .pattern) (copyOrder r)) (state m 0 0))
 copy-done e m o d r c =
     let w = write-written e m o d in
     let painting = subst (λ (k : Option Regs). PaintingOf k (touchesOf e m o d) m (written e m o d)) (c .carries) (w .paints (c .taken)) in
     let first : firstOf 1 (row1 e (length m) ∷ laterRows (row2 (placeOf o)) (row3 (placeOf o) e o) (some r) (length m)) ≡ 0 =
     subst (λ (k : Option Regs). firstOf 1 (row1 e (length m) ∷ laterRows (row2 (placeOf o)) (row3 (placeOf o) e o) k (length m)) ≡ 0) (c .carries) (sym (w .number) ∙ c .taken) in (
       sym (row-copy r (length m) (c .copy)) ∙ none-refuses (row1 e (length m)) (row2 (placeOf o)) (row3 (placeOf o) e o) _ first,
-      ap₂ state (painting .memory) (painting .count)
-          ∙ ap (λ (ts : List Touch). paint (target r) ts (state m 0)) (place-copies (placeOf o) e m o d r (c .carries) (c .copy)),
+      (λ i. state (painting .memory i) (painting .count i) (painting .changed i))
+          ∙ ap (λ (ts : List Touch). paint (target r) ts (state m 0 0)) (place-copies (placeOf o) e m o d r (c .carries) (c .copy)),
     )
 
 -- ---- the promises

@@ -6,8 +6,8 @@ use Prim.Native.Nat.{ℕ, _+_}
 use native.Mathlib.Omega.{arith}
 use Rattle.engine.specs.declared.Engine.{Engine}
 use Rattle.engine.specs.declared.Answer.{Answer}
-use Rattle.engine.specs.Step.{countOf}
-use Rattle.engine.specs.Writes.{Write, by, run, before, played, counted}
+use Rattle.engine.specs.Step.{countOf, changedOf}
+use Rattle.engine.specs.Writes.{Write, by, run, before, played, counted, changes}
 
 pub played-last : (e : Engine) (m : List ℕ) (ws : List Write) (w : Write)
     → played e m (ws ++ (w ∷ []))
@@ -21,3 +21,8 @@ pub counted-last : (answers : List Answer) (a : Answer) → counted (answers ++ 
 unfolding counted
 counted-last [] a = omega arith
 counted-last (b ∷ answers) a = let h = counted-last answers a in omega arith
+
+pub changes-last : (answers : List Answer) (a : Answer) → changes (answers ++ (a ∷ [])) ≡ changes answers + changedOf a
+unfolding changes
+changes-last [] a = omega arith
+changes-last (b ∷ answers) a = let h = changes-last answers a in omega arith

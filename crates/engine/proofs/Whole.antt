@@ -1,6 +1,6 @@
 -- A host blit as a whole: its words one after the other paint each pixel of the rectangle once, with the value that the data has.
 -- Assumes nothing.
-use mathlib.Core.Path.{_≡_, refl, sym, ap, subst⁻¹, _∙_}
+use mathlib.Core.Path.{_≡_, refl, sym, ap, ap₂, subst⁻¹, _∙_}
 use mathlib.Core.Logic.{⊎-elim}
 use mathlib.Core.Bool.{true, false}
 use mathlib.Core.List.{List, [], _∷_, _++_, List·Memᴰ, List·Memᴰ·not-nil, List·Memᴰ·append-cases, List·Memᴰ·eq-of-singleton}
@@ -33,16 +33,16 @@ use Rattle.acts.specs.Deed.{Made, feeding, starting, touchedByWord}
 use Rattle.acts.proofs.Cases.{picked}
 use Rattle.engine.specs.declared.Engine.{Engine}
 use Rattle.engine.specs.declared.Answer.{Answer}
-use Rattle.engine.specs.Step.{Step, numberOf, countOf, making, regs, withBlit, launched, toPlace, written}
-use Rattle.engine.specs.Writes.{Run, run, played, counted, sent}
+use Rattle.engine.specs.Step.{Step, numberOf, countOf, changedOf, making, regs, withBlit, launched, toPlace, written}
+use Rattle.engine.specs.Writes.{Run, run, played, counted, changes, sent}
 use Rattle.engine.specs.Promises.{Sends, AllWords, WaitingWhole, OpenedWhole}
 use Rattle.engine.proofs.Short.{wordTouches}
-use Rattle.engine.proofs.Played.{played-last, counted-last}
+use Rattle.engine.proofs.Played.{played-last, counted-last, changes-last}
 
 -- ---- one word
 record Fed (e : Engine) (m : List ℕ) (d : ℕ) (s : Step) : Type 0 where
   taken : numberOf (s .answer) ≡ 0
-  painted : state (s .memory) (countOf (s .answer)) ≡ paint (target (regs e)) (wordTouches e d) (state m 0)
+  painted : state (s .memory) (countOf (s .answer)) (changedOf (s .answer)) ≡ paint (target (regs e)) (wordTouches e d) (state m 0 0)
   goes : e .blit .taken + 1 < wordsOf (feedOf (regs e)) → s .engine ≡ withBlit e (record { waiting = true; taken = e .blit .taken + 1; last = d })
   ended : e .blit .taken + 1 ≡ wordsOf (feedOf (regs e)) → s .engine .blit .waiting ≡ false
 
@@ -88,10 +88,10 @@ module _ (e : Engine) (m : List ℕ) (os ws : ℕ → ℕ) (sends : Sends e m os
     taken : (a : Answer) → List·Memᴰ a (r .answers) → numberOf a ≡ 0
     goes : n < wordsOf feed → Goes n (r .engine)
     ended : n ≡ wordsOf feed → r .engine .blit .waiting ≡ false
-    painted : state (r .memory) (counted (r .answers)) ≡ draws (byWords ws feed n) (state m 0)
+    painted : state (r .memory) (counted (r .answers)) (changes (r .answers)) ≡ draws (byWords ws feed n) (state m 0 0)
 
   far-none : Far 0 (run e m [])
-  unfolding counted byWords hostTouches paint
+  unfolding counted changes byWords hostTouches paint
   far-none = record {
     taken = λ a i. absurd (List·Memᴰ·not-nil i);
     goes = λ _. record { bank = refl; opened = refl; had = fresh; prior = record { word = λ l. absurd (omega arith); small = small } };
@@ -109,7 +109,7 @@ module _ (e : Engine) (m : List ℕ) (os ws : ℕ → ℕ) (sends : Sends e m os
     long : length (r .memory) ≡ length m
     long =
         ap (λ (st : State). length (st .mem)) (far .painted)
-        ∙ paint-length (inkOf (regs e) .target) (hostTouches (inkOf (regs e)) (e .bank .pattern) (clipOf (regs e)) feed (byWords ws feed n)) (state m 0)
+        ∙ paint-length (inkOf (regs e) .target) (hostTouches (inkOf (regs e)) (e .bank .pattern) (clipOf (regs e)) feed (byWords ws feed n)) (state m 0 0)
 
     fed-next : Fed (r .engine) (r .memory) (ws n) next
     fed-next =
@@ -129,17 +129,18 @@ module _ (e : Engine) (m : List ℕ) (os ws : ℕ → ℕ) (sends : Sends e m os
         ∙ ap (λ (k : ℕ). draws (byWord feed (r .engine .blit .last) (ws n) k)) (now .had)
         ∙ ap draws (word-any ws feed data′ n (r .engine .blit .last) (now .prior))
 
-    word-painted : state (next .memory) (counted (r .answers ++ (next .answer ∷ []))) ≡ draws (byWords ws feed (suc n)) (state m 0)
+    word-painted : state (next .memory) (counted (r .answers ++ (next .answer ∷ []))) (changes (r .answers ++ (next .answer ∷ []))) ≡ draws (byWords ws feed (suc n)) (state m 0 0)
     unfolding byWords
     word-painted =
         let count = counted (r .answers) in
+        let changed = changes (r .answers) in
         let s = target (regs (r .engine)) in
         let ts = wordTouches (r .engine) (ws n) in
-        ap (state (next .memory)) (counted-last (r .answers) (next .answer))
-        ∙ painted-after s ts (r .memory) (tally count) (fed-next .painted)
-        ∙ ap (λ (f : State → State). f (state (r .memory) count)) word-paints
+        ap₂ (state (next .memory)) (counted-last (r .answers) (next .answer)) (changes-last (r .answers) (next .answer))
+        ∙ painted-after s ts (r .memory) (tally count changed) (fed-next .painted)
+        ∙ ap (λ (f : State → State). f (state (r .memory) count changed)) word-paints
         ∙ ap (draws (byWord feed (before ws n) (ws n) n)) (far .painted)
-        ∙ sym (drawn-append (inkOf (regs e)) (e .bank .pattern) (clipOf (regs e)) feed (byWords ws feed n) (byWord feed (before ws n) (ws n) n) (state m 0))
+        ∙ sym (drawn-append (inkOf (regs e)) (e .bank .pattern) (clipOf (regs e)) feed (byWords ws feed n) (byWord feed (before ws n) (ws n) n) (state m 0 0))
 
     far-next : Far (suc n) (run (next .engine) (next .memory) (r .answers ++ (next .answer ∷ [])))
     far-next = record {
@@ -173,7 +174,7 @@ module _ (e : Engine) (m : List ℕ) (os ws : ℕ → ℕ) (sends : Sends e m os
       record {
         taken = far .taken;
         ended = far .ended refl;
-        painted = far .painted ∙ ap (λ (ps : List Pixel). draws ps (state m 0)) (all-words ws feed data′ some-row);
+        painted = far .painted ∙ ap (λ (ps : List Pixel). draws ps (state m 0 0)) (all-words ws feed data′ some-row);
       }
 
 pub waiting-whole : WaitingWhole

@@ -14,7 +14,7 @@ use Rattle.surface.specs.Pixels.{Px, NotBefore, origin}
 use Rattle.spans.specs.Span.{allOn, addresses, spanOf, meet}
 use Rattle.views.specs.View.{viewAnswer, viewStart, viewed, further}
 use Rattle.paint.specs.Clip.{inClip}
-use Rattle.paint.specs.Paint.{state, Touch, paint, wrote}
+use Rattle.paint.specs.Paint.{state, Touch, paint, wrote, altered, changing, summed}
 use Rattle.sweep.specs.Copy.{asBefore}
 use Rattle.registers.specs.declared.Regs.{Regs}
 use Rattle.bank.specs.declared.Reading.{Reading}
@@ -33,14 +33,15 @@ use Rattle.table.specs.Table.{targetFine, bothFine, hostFine, allOnAt, pixels, 
 use Rattle.acts.specs.Deed.{noBlit, byNumber}
 use Rattle.engine.specs.declared.Engine.{Engine}
 use Rattle.engine.specs.declared.Answer.{Answer}
-use Rattle.engine.specs.Step.{Step, written, numberOf, countOf, regs, freshEngine, readFrom}
+use Rattle.engine.specs.Step.{Step, written, numberOf, countOf, changedOf, regs, freshEngine, readFrom}
 use Rattle.engine.specs.Orders.{order, coveredBy, touchesOf}
-use Rattle.engine.specs.Writes.{Run, played, counted, sent, Lent, lentTo}
+use Rattle.engine.specs.Writes.{Run, played, counted, changes, sent, Lent, lentTo}
 
--- ---- Undone. Demand 1: a refused write, one whose number is not 0, leaves engine and memory as they were, and counts nothing
+-- ---- Undone. Demand 1: a refused write, one whose number is not 0, leaves engine and memory as they were, counts nothing and
+-- changed nothing
 abbrev pub RefusedUndone : Type 0
 RefusedUndone = (e : Engine) (m : List ℕ) (o d : ℕ) → (numberOf (written e m o d .answer) ≡ 0 → ⊥)
-    → (written e m o d .engine ≡ e) × (written e m o d .memory ≡ m) × (countOf (written e m o d .answer) ≡ 0)
+    → (written e m o d .engine ≡ e) × (written e m o d .memory ≡ m) × (countOf (written e m o d .answer) ≡ 0) × (changedOf (written e m o d .answer) ≡ 0)
 
 -- ---- One. Demand 2: the contract allows one outcome
 abbrev pub OneOutcome : Type 0
@@ -62,12 +63,15 @@ OneView = (m : List ℕ) (place : ℕ × ℕ) (base format px py width : ℕ) (x
 abbrev pub OneViewAnswer : Type 0
 OneViewAnswer = (len base format px py width x y : ℕ) → x ≡ viewAnswer len base format px py width → y ≡ viewAnswer len base format px py width → x ≡ y
 
--- ---- Answers. An answer has one number and one count; a read is answered 0 or 2
+-- ---- Answers. An answer has one number, one count and one number of pixels changed; a read is answered 0 or 2
 abbrev pub OneNumber : Type 0
 OneNumber = (a : Answer) (x y : ℕ) → x ≡ numberOf a → y ≡ numberOf a → x ≡ y
 
 abbrev pub OneCount : Type 0
 OneCount = (a : Answer) (x y : ℕ) → x ≡ countOf a → y ≡ countOf a → x ≡ y
+
+abbrev pub OneChanged : Type 0
+OneChanged = (a : Answer) (x y : ℕ) → x ≡ changedOf a → y ≡ changedOf a → x ≡ y
 
 -- a launch offset, and one that names nothing, cannot be read
 abbrev pub unread : Place → Bool
@@ -224,11 +228,11 @@ pub record Sends (e : Engine) (m : List ℕ) (os ws : ℕ → ℕ) : Type 0 wher
   pub places : (k : ℕ) → placeOf (os k) ≡ Launch
   pub words : (k : ℕ) → ws k < 2 ^ 32
 
--- every answer is 0, no blit waits then, and memory and counts are those of painting these pixels one after the other
+-- every answer is 0, no blit waits then, and memory, counts and what changed are those of painting these pixels one after the other
 pub record Whole (e : Engine) (m : List ℕ) (ws : ℕ → ℕ) (after : Run) : Type 0 where
   pub taken : (a : Answer) → List·Memᴰ a (after .answers) → numberOf a ≡ 0
   pub ended : after .engine .blit .waiting ≡ false
-  pub painted : state (after .memory) (counted (after .answers)) ≡ paint (target (regs e)) (dataTouches (regs e) (e .bank .pattern) ws) (state m 0)
+  pub painted : state (after .memory) (counted (after .answers)) (changes (after .answers)) ≡ paint (target (regs e)) (dataTouches (regs e) (e .bank .pattern) ws) (state m 0 0)
 
 abbrev pub AllWords : Engine → List ℕ → (ℕ → ℕ) → (ℕ → ℕ) → Type 0
 AllWords e m os ws = Whole e m ws (played e m (sent os ws (wordsOf (feedOf (regs e)))))
@@ -242,12 +246,15 @@ abbrev pub OpenedWhole : Type 0
 OpenedWhole = (e : Engine) (m : List ℕ) (os ws : ℕ → ℕ) → Sends e m os ws → e .blit .waiting ≡ false → number (regs e) ≡ 3 → hostVerdict (regs e) (length m) ≡ 0
     → 0 < wordsOf (feedOf (regs e)) → AllWords e m os ws
 
--- ---- Count. The count is the number of covered pixels written
+-- ---- Count. The count is the number of covered pixels written, and changed that of those whose bytes are not what they were just before their own store
 
--- a taken write that has no command carried out leaves the memory and counts nothing; one that has paints what it touches, and counts what it wrote
+-- a taken write that has no command carried out leaves the memory, counts nothing and changed nothing; one that has paints what it touches, counts what it
+-- wrote, and says how many of them it altered
 abbrev pub Paints : Option Regs → List Touch → List ℕ → Step → Type 0
-Paints none ts m s = (s .memory ≡ m) × (countOf (s .answer) ≡ 0)
-Paints (some r) ts m s = (s .memory ≡ paint (target r) ts (state m 0) .mem) × (countOf (s .answer) ≡ length (wrote (target r) ts m))
+Paints none ts m s = (s .memory ≡ m) × (countOf (s .answer) ≡ 0) × (changedOf (s .answer) ≡ 0)
+Paints (some r) ts m s =
+    (s .memory ≡ paint (target r) ts (state m 0 0) .mem) × (countOf (s .answer) ≡ length (wrote (target r) ts m))
+    × (changedOf (s .answer) ≡ length (altered (target r) ts m))
 
 abbrev pub CountsWritten : Type 0
 CountsWritten = (e : Engine) (m : List ℕ) (o d : ℕ) → numberOf (written e m o d .answer) ≡ 0 → Paints (order e o d) (touchesOf e m o d) m (written e m o d)
@@ -260,6 +267,21 @@ abbrev pub WordCovered : Type 0
 WordCovered = (e : Engine) (m : List ℕ) (o d : ℕ) (r : Regs) → order e o d ≡ some r → numberOf (written e m o d .answer) ≡ 0
     → (p : Px) → List·Memᴰ p (map (λ t. t .at) (touchesOf e m o d)) → List·Memᴰ p (coveredBy r)
 
+-- no more change than are written
+abbrev pub ChangedMost : Type 0
+ChangedMost = (e : Engine) (m : List ℕ) (o d : ℕ) → changedOf (written e m o d .answer) ≤ countOf (written e m o d .answer)
+
+-- ---- Changed. What changed can be seen in the memory before the write and after it, whatever the order of the stores: it is the number of touched pixels whose
+-- bytes are not the same in the two
+abbrev pub ChangedSeen : Type 0
+ChangedSeen = (e : Engine) (m : List ℕ) (o d : ℕ) (r : Regs) → order e o d ≡ some r → numberOf (written e m o d .answer) ≡ 0
+    → changedOf (written e m o d .answer) ≡ summed (changing (target r) m (written e m o d .memory)) (map (λ t. t .at) (touchesOf e m o d))
+
+-- a second pass: of a taken write on a memory of bytes, none changed exactly if the memory is what it was
+abbrev pub SecondPass : Type 0
+SecondPass = (e : Engine) (m : List ℕ) (o d : ℕ) → ((a : ℕ) → getD m a 0 < 256) → numberOf (written e m o d .answer) ≡ 0
+    → (changedOf (written e m o d .answer) ≡ 0 → written e m o d .memory ≡ m) × (written e m o d .memory ≡ m → changedOf (written e m o d .answer) ≡ 0)
+
 -- ---- Order. A screen copy does its pixels one by one, row by row from the corner that bits 14 and 15 name, each read seeing the writes before it
 -- (`touchedByCopy`). Where no read comes late it leaves what the older rule says, each pixel from its source as it was before the command (`asBefore`)
 
@@ -269,10 +291,11 @@ pub record Copies (e : Engine) (m : List ℕ) (o d : ℕ) (r : Regs) : Type 0 wh
   pub copy : number r ≡ 1
   pub taken : numberOf (written e m o d .answer) ≡ 0
 
--- memory and count are those of the older rule
+-- memory, count and what changed are those of the older rule
 abbrev pub LeftAsBefore : Engine → List ℕ → ℕ → ℕ → Regs → Type 0
 LeftAsBefore e m o d r =
-    state (written e m o d .memory) (countOf (written e m o d .answer)) ≡ paint (target r) (asBefore (copyTask r) (e .bank .pattern) m (covered (copyCut r))) (state m 0)
+    state (written e m o d .memory) (countOf (written e m o d .answer)) (changedOf (written e m o d .answer))
+    ≡ paint (target r) (asBefore (copyTask r) (e .bank .pattern) m (covered (copyCut r))) (state m 0 0)
 
 -- between two surfaces, or where no covered pixel is one that the copy needs
 abbrev pub SharesNone : Regs → Type 0

@@ -22,9 +22,9 @@ use Rattle.engine.specs.declared.Engine.{Engine}
 use Rattle.engine.specs.declared.Answer.{Answer}
 use Rattle.engine.specs.declared.Answer.the-variants.{Taken, Memory, Offset, Waiting, NotBuilt, Format, Host, Off, Meet}
 
--- ---- answers: document 01's number and count of each
+-- ---- answers: document 01's number and count of each, and how many of the pixels counted have other bytes than just before they were written
 abbrev pub numberOf : Answer → ℕ
-numberOf (Taken n) = 0
+numberOf (Taken n c) = 0
 numberOf Memory = 1
 numberOf Offset = 2
 numberOf Waiting = 3
@@ -35,7 +35,7 @@ numberOf Off = 7
 numberOf Meet = 8
 
 abbrev pub countOf : Answer → ℕ
-countOf (Taken n) = n
+countOf (Taken n c) = n
 countOf Memory = 0
 countOf Offset = 0
 countOf Waiting = 0
@@ -44,6 +44,17 @@ countOf Format = 0
 countOf Host = 0
 countOf Off = 0
 countOf Meet = 0
+
+abbrev pub changedOf : Answer → ℕ
+changedOf (Taken n c) = c
+changedOf Memory = 0
+changedOf Offset = 0
+changedOf Waiting = 0
+changedOf NotBuilt = 0
+changedOf Format = 0
+changedOf Host = 0
+changedOf Off = 0
+changedOf Meet = 0
 
 -- the answer of a row from 4 to 8
 unfoldable pub refusal : ℕ → Answer
@@ -80,9 +91,9 @@ pub record Step : Type 0 where
 abbrev pub step : Engine → List ℕ → Answer → Step
 step e m a = record { engine = e; memory = m; answer = a }
 
--- carried out: the engine, with the memory and the count that painting left
+-- carried out: the engine, with the memory and the tally that painting left
 abbrev pub done : Engine → State → Step
-done e st = step e (st .mem) (Taken (st .tally .count))
+done e st = step e (st .mem) (Taken (st .tally .count) (st .tally .changed))
 
 -- ---- the commands: a refusal gives back the engine as it was before the write
 abbrev pub making : Engine → Made → Step
@@ -104,15 +115,15 @@ launched e m d = judging e e m (starting (e .bank) (e .blit) m d)
 -- a write to command abandons what waits, and runs with bit 8
 unfoldable pub commanded : Engine → List ℕ → ℕ → Step
 commanded e m d =
-    cond (bit d 8) (carried e (idle (storedIn e 0x70 d)) m) (step (idle (storedIn e 0x70 d)) m (Taken 0))
+    cond (bit d 8) (carried e (idle (storedIn e 0x70 d)) m) (step (idle (storedIn e 0x70 d)) m (Taken 0 0))
 
 unfoldable pub toRegister : Engine → List ℕ → ℕ → ℕ → Step
 toRegister e m o d =
     cond (eqb o 0x70) (commanded e m d)
-    (cond (e .blit .waiting) (step e m Waiting) (step (storedIn e o d) m (Taken 0)))
+    (cond (e .blit .waiting) (step e m Waiting) (step (storedIn e o d) m (Taken 0 0)))
 
 unfoldable pub toPattern : Engine → List ℕ → ℕ → ℕ → Step
-toPattern e m i d = cond (e .blit .waiting) (step e m Waiting) (step (withBank e (patterned (e .bank) i d)) m (Taken 0))
+toPattern e m i d = cond (e .blit .waiting) (step e m Waiting) (step (withBank e (patterned (e .bank) i d)) m (Taken 0 0))
 
 abbrev pub toPlace : Place → Engine → List ℕ → ℕ → ℕ → Step
 toPlace Register e m o d = toRegister e m o d
@@ -134,5 +145,5 @@ readFrom e o = readAt (e .bank) o
 unfoldable pub settled : Engine → Act → Outcome
 settled e a =
     cond (eqb (a .number) 0)
-    (record { engine = record { bank = a .bank; blit = a .blit; opened = e .opened }; answer = Taken (a .tally .count) })
+    (record { engine = record { bank = a .bank; blit = a .blit; opened = e .opened }; answer = Taken (a .tally .count) (a .tally .changed) })
     (record { engine = e; answer = refusal (a .number) })

@@ -10,7 +10,7 @@ use Rattle.registers.specs.declared.Place.the-variants.{Register, Pattern, Laun
 use Rattle.registers.specs.Offsets.{placeOf}
 use Rattle.engine.specs.declared.Engine.{Engine}
 use Rattle.engine.specs.declared.Answer.{Answer}
-use Rattle.engine.specs.Step.{Step, countOf, written}
+use Rattle.engine.specs.Step.{Step, countOf, changedOf, written}
 use Rattle.engine.specs.Orders.{orderAt}
 
 pub record Write : Type 0 where
@@ -35,10 +35,14 @@ unfoldable pub played : Engine → List ℕ → List Write → Run
 played e m [] = run e m []
 played e m (w ∷ ws) = before (by e m w) (played (by e m w .engine) (by e m w .memory) ws)
 
--- all counts of a run together
+-- all counts of a run together, and all that changed
 unfoldable pub counted : List Answer → ℕ
 counted [] = 0
 counted (a ∷ more) = countOf a + counted more
+
+unfoldable pub changes : List Answer → ℕ
+changes [] = 0
+changes (a ∷ more) = changedOf a + changes more
 
 -- n words of data: word k is ws k, written to the offset os k
 unfoldable pub sent : (ℕ → ℕ) → (ℕ → ℕ) → ℕ → List Write

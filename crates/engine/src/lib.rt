@@ -5,7 +5,7 @@ use bank::Bank;
 use bank::Reading;
 use registers::Place;
 ghost use mathlib.Core.Path.{_≡_};
-ghost use Rattle.engine.specs.Step.{numberOf, countOf, refusal, freshEngine, settled, step, launched, commanded, toRegister, toPattern, written, readFrom};
+ghost use Rattle.engine.specs.Step.{numberOf, countOf, changedOf, refusal, freshEngine, settled, step, launched, commanded, toRegister, toPattern, written, readFrom};
 
 // The register state, the host blit, and the length of the memory that the engine was opened for.
 pub struct Engine {
@@ -14,9 +14,9 @@ pub struct Engine {
     pub opened: usize,
 }
 
-// The answers of document 01's table, 0 to 8 in this order; 0 has the count of pixels written.
+// The answers of document 01's table, 0 to 8 in this order; 0 has the count of pixels written, and how many of them changed.
 pub enum Answer {
-    Taken(u32),
+    Taken(u32, u32),
     Memory,
     Offset,
     Waiting,
@@ -33,7 +33,7 @@ impl Answer {
         ensures { λ r. ⌜ r ≡ numberOf self ⌝ }
     {
         match self {
-            Answer::Taken(_) => 0,
+            Answer::Taken(_, _) => 0,
             Answer::Memory => 1,
             Answer::Offset => 2,
             Answer::Waiting => 3,
@@ -50,7 +50,24 @@ impl Answer {
         ensures { λ r. ⌜ r ≡ countOf self ⌝ }
     {
         match self {
-            Answer::Taken(n) => n,
+            Answer::Taken(n, _) => n,
+            Answer::Memory => 0,
+            Answer::Offset => 0,
+            Answer::Waiting => 0,
+            Answer::NotBuilt => 0,
+            Answer::Format => 0,
+            Answer::Host => 0,
+            Answer::Off => 0,
+            Answer::Meet => 0,
+        }
+    }
+
+    // How many of them have other bytes than just before they were written, 0 for a refusal.
+    pub fn changed(self) -> u32
+        ensures { λ r. ⌜ r ≡ changedOf self ⌝ }
+    {
+        match self {
+            Answer::Taken(_, n) => n,
             Answer::Memory => 0,
             Answer::Offset => 0,
             Answer::Waiting => 0,
@@ -118,7 +135,7 @@ impl Engine {
                 blit: blit,
                 opened: self.opened,
             },
-            answer: Answer::Taken(act.tally.count),
+            answer: Answer::Taken(act.tally.count, act.tally.changed),
         }
     }
 
@@ -148,7 +165,7 @@ impl Engine {
         }
         Outcome {
             engine: next,
-            answer: Answer::Taken(0),
+            answer: Answer::Taken(0, 0),
         }
     }
 
@@ -170,7 +187,7 @@ impl Engine {
         next.bank = bank;
         Outcome {
             engine: next,
-            answer: Answer::Taken(0),
+            answer: Answer::Taken(0, 0),
         }
     }
 
@@ -189,7 +206,7 @@ impl Engine {
         next.bank = bank;
         Outcome {
             engine: next,
-            answer: Answer::Taken(0),
+            answer: Answer::Taken(0, 0),
         }
     }
 

@@ -1,6 +1,6 @@
 // Worked examples of the databook, run on the engine from register writes: two host blits, the commands that are not built, the order of mono pixels, and
-// the steps of packed sources. A write that matters is printed as offset, word, answer and count; of a pixel the low byte is shown: ff as #, 01 as o, 00 as
-// a dot.
+// the steps of packed sources. A write that matters is printed as offset, word, answer, and the pixels written and changed; of a pixel the low byte is
+// shown: ff as #, 01 as o, 00 as a dot.
 use engine::Answer;
 use engine::Engine;
 use libc::STDOUT_FILENO;
@@ -19,6 +19,7 @@ fn say_answer(a: Answer) {
     say_number(b"", number as u64);
     if number == 0 {
         say_number(b", pixels ", a.count() as u64);
+        say_number(b", changed ", a.changed() as u64);
     }
 }
 

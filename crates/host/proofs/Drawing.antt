@@ -136,10 +136,10 @@ module _ (feed : Feed) (last word : ℕ) where
 
 -- ---- the loop over the bytes of word number k: t of them are taken
 pub record WordLeft (ink : Ink) (pattern : List ℕ) (c : Clip) (feed : Feed) (last word k : ℕ) (m₀ : List ℕ) (t : ℕ) (m : List ℕ) (r : Tally) : Type 0 where
-  pub left : Left (ink .target) (hostTouches ink pattern c feed (byWord feed last word k)) m₀ (tally 0) (2 ^ 13 * t) (hostTouches ink pattern c feed (byBytes feed last word (4 * k + t) (4 - t))) m r
+  pub left : Left (ink .target) (hostTouches ink pattern c feed (byWord feed last word k)) m₀ (tally 0 0) (2 ^ 13 * t) (hostTouches ink pattern c feed (byBytes feed last word (4 * k + t) (4 - t))) m r
 
 module _ {ink : Ink} {pattern : List ℕ} {c : Clip} {feed : Feed} {last word k : ℕ} {m₀ : List ℕ} where
-  pub word-begins : WordLeft ink pattern c feed last word k m₀ 0 m₀ (tally 0)
+  pub word-begins : WordLeft ink pattern c feed last word k m₀ 0 m₀ (tally 0 0)
   unfolding byWord
   word-begins = record { left = left-begins (ap (λ (o : ℕ). hostTouches ink pattern c feed (byBytes feed last word o 4)) (add-zero (4 * k))) }
 
@@ -157,6 +157,6 @@ module _ {ink : Ink} {pattern : List ℕ} {c : Clip} {feed : Feed} {last word k 
               (omega (arith, bytes-length feed last word (omega (arith, sizes .width)) (4 * k + t) n)) put;
         }
 
-    pub word-ended : 4 ≤ t → tallied m r ≡ drawn ink pattern c feed (byWord feed last word k) (state m₀ 0)
+    pub word-ended : 4 ≤ t → tallied m r ≡ drawn ink pattern c feed (byWord feed last word k) (state m₀ 0 0)
     unfolding byBytes
     word-ended all = let e : 4 - t ≡ 0 = omega arith in draw-ended ink pattern c feed {rest = byBytes feed last word (4 * k + t) (4 - t)} (rw e) (now .left)

@@ -181,9 +181,12 @@ pub fn host_word(
     word: u32,
 ) -> Tally
     requires { ⌜ Waits ink c feed (length (now mem)) taken ⌝ }
-    ensures { λ r. ⌜ tallied (now (mem .exit)) r ≡ paint (ink .target) (hostTouches ink pattern c feed (byWord feed last word taken)) (state (now (mem .entry)) 0) ⌝ }
+    ensures { λ r. ⌜ tallied (now (mem .exit)) r ≡ paint (ink .target) (hostTouches ink pattern c feed (byWord feed last word taken)) (state (now (mem .entry)) 0 0) ⌝ }
 {
-    let mut n = Tally { count: 0 };
+    let mut n = Tally {
+        count: 0,
+        changed: 0,
+    };
     let mut t = 0;
     while t < 4 {
         n = host_byte(mem, ink, pattern, c, feed, last, word, 4 * taken + t, n);

@@ -1,5 +1,6 @@
 // A sheet of 20 by 16 pixels is saved under a note, the note is drawn, and the sheet is put back, by register writes; at 16 and at 24 bits a pixel.
-// It says how many bytes the note changed, and how many outside the place aside are different at the end.
+// Of each drawing it says how many pixels were written and how many of these changed; then how many bytes the note changed, and how many outside the
+// place aside are different at the end.
 use engine::Answer;
 use engine::Engine;
 use libc::STDOUT_FILENO;
@@ -25,7 +26,10 @@ fn put_aloud(text: &[u8], e: Engine, mem: &mut [u8; 2048], offset: u32, word: u3
     let out = e.write(mem, offset, word);
     let answer = out.answer;
     match answer {
-        Answer::Taken(n) => say_number(b"taken, pixels ", n as u64),
+        Answer::Taken(n, c) => {
+            say_number(b"taken, pixels ", n as u64);
+            say_number(b", changed ", c as u64);
+        }
         _ => say(b"refused"),
     }
     say(b"\n");

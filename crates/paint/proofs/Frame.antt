@@ -1,17 +1,18 @@
--- Whatever is painted: only bytes of the pixels touched change, memory keeps its length and stays a memory of bytes, no more pixels are told than touched, and the
--- count is that of the pixels written.
+-- Whatever is painted: only bytes of the pixels touched change, memory keeps its length and stays a memory of bytes, no more pixels are told than touched, the count
+-- is that of the pixels written, and no more of them are changed.
 -- Assumes nothing.
-use mathlib.Core.Path.{_≡_, refl, sym, ap, subst, _∙_}
+use mathlib.Core.Path.{_≡_, refl, sym, ap, ap₂, subst, _∙_}
 use mathlib.Core.List.{List, [], _∷_, map, List·Memᴰ·head, List·Memᴰ·tail}
 use mathlib.Core.Option.{Option, none, some}
-use Prim.Native.Nat.{ℕ, zero, suc, _+_, _/_, _%_, _<_}
+use Prim.Native.Nat.{ℕ, zero, suc, _+_, _/_, _%_, _<_, _≤_}
 use native.Mathlib.Omega.{arith}
 use native.Mathlib.Decide.{ℕ-discrete, decLt}
 use lib.ListN.{length, getD, set}
 use lib.Seq.{getD-set-same, getD-set-other, set-out}
 use Rattle.surface.specs.declared.Surface.{Surface}
-use Rattle.surface.specs.Place.{byteOf, writeBytes, writePx}
+use Rattle.surface.specs.Place.{byteOf, writeBytes, writePx, one, differs}
 use Rattle.surface.specs.Pixels.{Px}
+use Rattle.surface.proofs.OnLaws.{one-most}
 use Rattle.surface.proofs.Lists.{In, by-cases}
 use Rattle.spans.proofs.Spans.{IsByte}
 use Rattle.paint.specs.declared.Tally.{Tally}
@@ -46,7 +47,7 @@ pixels-of f (p ∷ ps) = ap (λ (qs : List Px). p ∷ qs) (pixels-of f ps)
 dab-upto : (s : Surface) (p : Px) (o : Option ℕ) (st : State) → Upto (st .tally) 1 (dab s p o st .tally)
 unfolding dab
 dab-upto s p none st = upto-more (upto-none (st .tally)) (omega arith)
-dab-upto s p (some v) st = upto-noted 1 (st .tally)
+dab-upto s p (some v) st = upto-noted 1 (st .tally) (one-most (differs s (p .x) (p .y) (st .mem) (writePx (st .mem) s (p .x) (p .y) v)))
 
 pub paint-upto : (s : Surface) (ts : List Touch) (st : State) → Upto (st .tally) (length ts) (paint s ts st .tally)
 unfolding paint
@@ -57,12 +58,16 @@ paint-upto s (t ∷ ts) st =
 
 -- what is painted, and what it adds to the tally, is the same after any tally
 abbrev after : Tally → State → State
-after n st = tallied (st .mem) (noted (st .tally .count) n)
+after n st = tallied (st .mem) (noted (st .tally .count) (st .tally .changed) n)
 
 dab-after : (s : Surface) (p : Px) (o : Option ℕ) (n : Tally) (st : State) → dab s p o (after n st) ≡ after n (dab s p o st)
 unfolding dab
 dab-after s p none n st = refl
-dab-after s p (some v) n st = let e : n .count + st .tally .count + 1 ≡ n .count + (st .tally .count + 1) = omega arith in rw e
+dab-after s p (some v) n st =
+    let d = one (differs s (p .x) (p .y) (st .mem) (writePx (st .mem) s (p .x) (p .y) v)) in
+    let e : n .count + st .tally .count + 1 ≡ n .count + (st .tally .count + 1) = omega arith in
+    let f : n .changed + st .tally .changed + d ≡ n .changed + (st .tally .changed + d) = omega arith in
+    rw (e, f)
 
 paint-after : (s : Surface) (ts : List Touch) (n : Tally) (st : State) → paint s ts (after n st) ≡ after n (paint s ts st)
 unfolding paint
@@ -70,11 +75,12 @@ paint-after s [] n st = refl
 paint-after s (t ∷ ts) n st =
     ap (paint s ts) (dab-after s (t .at) (t .gives (st .mem)) n st) ∙ paint-after s ts n (dab s (t .at) (t .gives (st .mem)) st)
 
-pub painted-after : (s : Surface) (ts : List Touch) (m : List ℕ) (n : Tally) {m′ : List ℕ} {k : ℕ} → state m′ k ≡ paint s ts (state m 0)
-    → tallied m′ (noted k n) ≡ paint s ts (tallied m n)
+pub painted-after : (s : Surface) (ts : List Touch) (m : List ℕ) (n : Tally) {m′ : List ℕ} {k c : ℕ} → state m′ k c ≡ paint s ts (state m 0 0)
+    → tallied m′ (noted k c n) ≡ paint s ts (tallied m n)
 painted-after s ts m n e =
     let start : n .count + 0 ≡ n .count = omega arith in
-    ap (after n) e ∙ sym (paint-after s ts n (state m 0)) ∙ ap (λ (k : ℕ). paint s ts (state m k)) start
+    let start′ : n .changed + 0 ≡ n .changed = omega arith in
+    ap (after n) e ∙ sym (paint-after s ts n (state m 0 0)) ∙ ap₂ (λ (k c : ℕ). paint s ts (state m k c)) start start′
 
 -- the count is the number of pixels written
 pub count-wrote : (s : Surface) (ts : List Touch) (m : List ℕ) (n : Tally) → paint s ts (tallied m n) .tally .count ≡ n .count + length (wrote s ts m)
@@ -83,9 +89,20 @@ count-wrote s [] m n = omega arith
 count-wrote s (t ∷ ts) m n = by (λ left k. count-wrote s ts left k) (t .gives m)
   where
     by : ((left : List ℕ) (k : Tally) → paint s ts (tallied left k) .tally .count ≡ k .count + length (wrote s ts left)) → (o : Option ℕ)
-        → paint s ts (dab s (t .at) o (tallied m n)) .tally .count ≡ n .count + length (given o (t .at) (wrote s ts (dab s (t .at) o (state m 0) .mem)))
+        → paint s ts (dab s (t .at) o (tallied m n)) .tally .count ≡ n .count + length (given o (t .at) (wrote s ts (dab s (t .at) o (state m 0 0) .mem)))
     by rest none = rest m n
-    by rest (some v) = let h = rest (writePx m s (t .at .x) (t .at .y) v) (noted 1 n) in omega (arith, h)
+    by rest (some v) = let h = rest (writePx m s (t .at .x) (t .at .y) v) (dab s (t .at) (some v) (tallied m n) .tally) in omega (arith, h)
+
+-- no more are changed than written
+dab-most : (s : Surface) (p : Px) (o : Option ℕ) (st : State) → st .tally .changed ≤ st .tally .count → dab s p o st .tally .changed ≤ dab s p o st .tally .count
+unfolding dab
+dab-most s p none st h = h
+dab-most s p (some v) st h = omega (arith, one-most (differs s (p .x) (p .y) (st .mem) (writePx (st .mem) s (p .x) (p .y) v)))
+
+pub changed-most : (s : Surface) (ts : List Touch) (st : State) → st .tally .changed ≤ st .tally .count → paint s ts st .tally .changed ≤ paint s ts st .tally .count
+unfolding paint
+changed-most s [] st h = h
+changed-most s (t ∷ ts) st h = changed-most s ts (dab s (t .at) (t .gives (st .mem)) st) (dab-most s (t .at) (t .gives (st .mem)) st h)
 
 -- ---- a memory of bytes
 abbrev pub Bytes : List ℕ → Type 0

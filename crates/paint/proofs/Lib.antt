@@ -4,5 +4,7 @@ pub mod Turns
 pub mod Owners
 pub mod Frame
 pub mod Loops
+pub mod Changes
 pub mod Settle
+pub mod Again
 pub mod ClipLaws

@@ -96,11 +96,11 @@ row-takes {g = g} {x} {w} {y} {i = i} now k fits put = record {
 
 -- ---- the rows of a rectangle, after j turns, nothing written before
 pub record RowsLeft (s : Surface) (g : Px → List ℕ → Option ℕ) (l t : Bool) (x y w h : ℕ) (m₀ : List ℕ) (j : ℕ) (m : List ℕ) (r : Tally) : Type 0 where
-  pub left : Left s (touches g (rect l t x y w h)) m₀ (tally 0) (j * w) (touches g (rows-left l t x y w h j)) m r
+  pub left : Left s (touches g (rect l t x y w h)) m₀ (tally 0 0) (j * w) (touches g (rows-left l t x y w h j)) m r
   pub within : j ≤ h
 
 module _ {s : Surface} {g : Px → List ℕ → Option ℕ} {l t : Bool} {x y w h : ℕ} {m₀ : List ℕ} where
-  pub rows-begin : RowsLeft s g l t x y w h m₀ 0 m₀ (tally 0)
+  pub rows-begin : RowsLeft s g l t x y w h m₀ 0 m₀ (tally 0 0)
   rows-begin = record { left = left-begins (ap (touches g) (rows-whole l t x y w h)); within = omega arith }
 
   module _ {j : ℕ} {m : List ℕ} {r : Tally} (now : RowsLeft s g l t x y w h m₀ j m r) where
@@ -122,20 +122,26 @@ module _ {s : Surface} {g : Px → List ℕ → Option ℕ} {l t : Bool} {x y w 
           within = omega arith;
         }
 
-    pub rows-ended : h ≤ j → tallied m r ≡ paint s (touches g (rect l t x y w h)) (state m₀ 0)
+    pub rows-ended : h ≤ j → tallied m r ≡ paint s (touches g (rect l t x y w h)) (state m₀ 0 0)
     rows-ended all = left-ended (now .left) (ap (touches g) (rows-done l t x y w h j all))
 
--- ---- loops that write every pixel, nothing written before
-pub row-full : {s : Surface} {g : Px → List ℕ → Option ℕ} {back : Bool} {x w y i : ℕ} {m₀ m : List ℕ} → RowLeft s g back x w y m₀ (tally 0) i m (tally i) → w ≤ i
-    → state m w ≡ paint s (touches g (across back x w y)) (state m₀ 0)
-row-full {w = w} {i = i} {m = m} now all = let e : w ≡ i = omega (arith, now .within) in ap (state m) e ∙ row-ended now all
+-- ---- loops that write every pixel, nothing written before; c of them changed
+pub row-full : {s : Surface} {g : Px → List ℕ → Option ℕ} {back : Bool} {x w y i c : ℕ} {m₀ m : List ℕ} → RowLeft s g back x w y m₀ (tally 0 0) i m (tally i c) → w ≤ i
+    → state m w c ≡ paint s (touches g (across back x w y)) (state m₀ 0 0)
+row-full {w = w} {i = i} {c = c} {m = m} now all = let e : w ≡ i = omega (arith, now .within) in ap (λ (n : ℕ). state m n c) e ∙ row-ended now all
 
-module _ {s : Surface} {g : Px → List ℕ → Option ℕ} {l t : Bool} {x y w h j : ℕ} {m₀ m : List ℕ} (now : RowsLeft s g l t x y w h m₀ j m (tally (w * j))) where
-  pub rows-fill : {m′ : List ℕ} (y′ : ℕ) → j < h → y′ ≡ nth t y h j → state m′ w ≡ paint s (touches g (across l x w y′)) (state m 0)
-      → RowsLeft s g l t x y w h m₀ (j + 1) m′ (tally (w * (j + 1)))
+module _ {s : Surface} {g : Px → List ℕ → Option ℕ} {l t : Bool} {x y w h j c : ℕ} {m₀ m : List ℕ} (now : RowsLeft s g l t x y w h m₀ j m (tally (w * j) c)) where
+  pub rows-fill : {m′ : List ℕ} {d : ℕ} (y′ : ℕ) → j < h → y′ ≡ nth t y h j → state m′ w d ≡ paint s (touches g (across l x w y′)) (state m 0 0)
+      → RowsLeft s g l t x y w h m₀ (j + 1) m′ (tally (w * (j + 1)) (c + d))
   rows-fill y′ more here put =
       let e : w * (j + 1) ≡ w * j + w = omega (arith, mul-add w j 1) in
-      rw e (rows-go-on now y′ more here (painted-after s (touches g (across l x w y′)) m (tally (w * j)) put))
+      rw e (rows-go-on now y′ more here (painted-after s (touches g (across l x w y′)) m (tally (w * j) c) put))
 
-  pub rows-full : h ≤ j → state m (w * h) ≡ paint s (touches g (rect l t x y w h)) (state m₀ 0)
-  rows-full all = let e : h ≡ j = omega (arith, now .within) in ap (λ (n : ℕ). state m (w * n)) e ∙ rows-ended now all
+  pub rows-full : h ≤ j → state m (w * h) c ≡ paint s (touches g (rect l t x y w h)) (state m₀ 0 0)
+  rows-full all = let e : h ≡ j = omega (arith, now .within) in ap (λ (n : ℕ). state m (w * n) c) e ∙ rows-ended now all
+
+  -- what changed of one row more fits
+  pub rows-sum : w ≤ 2 ^ 13 → h ≤ 2 ^ 13 → j < h → {m′ : List ℕ} {d : ℕ} (y′ : ℕ) → state m′ w d ≡ paint s (touches g (across l x w y′)) (state m 0 0) → c + d < 2 ^ 32
+  rows-sum wide high more y′ put =
+      let most = subst (λ (st : State). Upto (tally 0 0) (length (touches g (across l x w y′))) (st .tally)) (sym put) (paint-upto s (touches g (across l x w y′)) (state m 0 0)) in
+      omega (arith, most .changed, row-length g l x w y′, rows-room now wide high more .changed)

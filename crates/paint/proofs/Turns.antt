@@ -1,15 +1,16 @@
 -- What remains of a row, and of the rows of a rectangle, after some turns of a loop; and what painting asks for.
 -- Assumes nothing.
-use mathlib.Core.Path.{_≡_, refl, ap, _∙_}
+use mathlib.Core.Path.{_≡_, refl, sym, ap, _∙_}
 use mathlib.Core.Bool.{Bool, true, false}
-use mathlib.Core.List.{List, [], _∷_, _++_, map, List·Memᴰ, List·Memᴰ·head, List·Memᴰ·tail}
+use mathlib.Core.List.{List, [], _∷_, _++_, map, append-nil, append-assoc, List·Memᴰ, List·Memᴰ·head, List·Memᴰ·tail}
 use mathlib.Core.Option.{Option, none, some}
 use Prim.Native.Nat.{ℕ, zero, suc, _+_, _-_, _<_, _≤_}
 use native.Mathlib.Omega.{arith}
 use Rattle.surface.specs.declared.Surface.{Surface}
-use Rattle.surface.specs.Place.{byteOf}
+use Rattle.surface.specs.Place.{byteOf, writeBytes, writePx, differ, differs, one}
 use Rattle.surface.specs.Pixels.{Px, px, across, rect}
-use Rattle.surface.proofs.Run.{InPiece, write-run}
+use Rattle.surface.proofs.Run.{InPiece, read-run, write-run}
+use Rattle.paint.specs.declared.Tally.{Tally}
 use Rattle.paint.specs.Tally.{noted}
 use Rattle.paint.specs.Paint.{State, tallied, Touch, touch, dab, dabAt, paint, nth}
 
@@ -84,14 +85,26 @@ paint-while s f g Holds (p ∷ ps) h k st holds =
     ∙ paint-while s f g Holds ps (λ q i. h q (List·Memᴰ·tail i)) (λ q i. k q (List·Memᴰ·tail i)) (dab s p (g p (st .mem)) st)
     (k p (List·Memᴰ·head refl) (g p (st .mem)) st holds)
 
--- ---- a store by address
+-- ---- a store whose answer goes into the tally: of a pixel, or by address
+module _ (m : List ℕ) (n : Tally) {m′ : List ℕ} {r : Tally} {d : Bool} {c : ℕ} where
+  pub dab-stored : (s : Surface) (p : Px) (v : ℕ) → (m′ ≡ writePx m s (p .x) (p .y) v) × (d ≡ differs s (p .x) (p .y) m m′) → c ≡ one d → r ≡ noted 1 c n
+      → tallied m′ r ≡ dab s p (some v) (tallied m n)
+  unfolding dab
+  dab-stored s p v stored e k = rw (k, e, stored .1, stored .0)
+
+  pub dabAt-stored : (at b v : ℕ) → (m′ ≡ writeBytes (λ k. at + k) 0 b v m) × (d ≡ differ (λ k. at + k) b m m′) → c ≡ one d → r ≡ noted 1 c n
+      → tallied m′ r ≡ dabAt at b (some v) (tallied m n)
+  unfolding dabAt
+  dabAt-stored at b v stored e k = rw (k, e, stored .1, stored .0)
+
 pub dab-at : (s : Surface) → InPiece s → (p : Px) (a : ℕ) (o : Option ℕ) (st : State) → a ≡ byteOf s (p .x) (p .y) 0 → dabAt a (s .bytes) o st ≡ dab s p o st
 unfolding dabAt dab
 dab-at s piece p a none st e = refl
-dab-at s piece p a (some v) st e = ap (λ (m : List ℕ). tallied m (noted 1 (st .tally))) (write-run s piece (p .x) (p .y) a e v (st .mem))
+dab-at s piece p a (some v) st e =
+    rw (write-run s piece (p .x) (p .y) a e v (st .mem), read-run s piece (p .x) (p .y) a e (st .mem), read-run s piece (p .x) (p .y) a e (writePx (st .mem) s (p .x) (p .y) v))
 
 -- ---- several pixels of a row at once
-across-append : (x m n y : ℕ) → across false x (m + n) y ≡ across false x m y ++ across false (x + m) n y
+pub across-append : (x m n y : ℕ) → across false x (m + n) y ≡ across false x m y ++ across false (x + m) n y
 unfolding across
 across-append x zero n y = let p : x + 0 ≡ x = omega arith in let q : 0 + n ≡ n = omega arith in rw (p, q)
 across-append x (suc m) n y =
@@ -105,3 +118,12 @@ part-turn x w i m y h =
     let p : w - i ≡ m + (w - (i + m)) = omega arith in
     let q : x + (i + m) ≡ x + i + m = omega arith in
     rw (p, q) (across-append (x + i) m (w - (i + m)) y)
+
+-- ---- a row more, below
+pub rect-append : (x y w h : ℕ) → rect false false x y w (h + 1) ≡ rect false false x y w h ++ across false x w (y + h)
+unfolding rect
+rect-append x y w zero = let p : y + 0 ≡ y = omega arith in rw p (append-nil (across false x w y))
+rect-append x y w (suc h) =
+    let p : y + suc h ≡ y + 1 + h = omega arith in
+    let q : suc h + 1 ≡ suc (h + 1) = omega arith in
+    rw (p, q) (ap (λ (ps : List Px). across false x w y ++ ps) (rect-append x (y + 1) w h) ∙ sym (append-assoc (across false x w y) (rect false false x (y + 1) w h) (across false x w (y + 1 + h))))

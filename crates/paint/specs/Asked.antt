@@ -16,6 +16,7 @@ pub record Bits12 (c : Clip) : Type 0 where
 -- a tally n that can tell of k pixels more
 pub record Room (n : Tally) (k : ℕ) : Type 0 where
   pub count : n .count + k < 2 ^ 32
+  pub changed : n .changed + k < 2 ^ 32
 
 -- a pixel that is on the target, where n tells of those before it
 pub record Ready (ink : Ink) (len x y : ℕ) (n : Tally) : Type 0 where

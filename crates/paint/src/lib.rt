@@ -5,20 +5,21 @@ use surface::Surface;
 ghost use mathlib.Core.Path.{_≡_};
 ghost use mathlib.Core.Bool.{false, cond};
 ghost use mathlib.Core.Option.{none, some};
-ghost use Prim.Native.Nat.{_+_, _-_, _/_, _^_, _<_, _≤_};
+ghost use Prim.Native.Nat.{_+_, _-_, _^_, _<_, _≤_};
 ghost use lib.ListN.{length};
 ghost use Rattle.surface.specs.Place.{readPx};
 ghost use Rattle.surface.specs.Pixels.{px};
 ghost use Rattle.surface.specs.Asked.{Held, OnColour};
 ghost use Rattle.paint.specs.Tally.{noted};
 ghost use Rattle.paint.specs.Paint.{tallied, dab, dabAt, nth};
-ghost use Rattle.paint.specs.Mix.{source, colourSource, bitSource, chosen, targetMatch, mixed, direct, patternless};
+ghost use Rattle.paint.specs.Mix.{colourSource, bitSource, chosen, targetMatch, mixed, direct, patternless};
 ghost use Rattle.paint.specs.Asked.{Room, Ready, Bits12};
 ghost use Rattle.paint.specs.Clip.{inClip};
 
-// What is told of the pixels written so far: how many they are.
+// What is told of the pixels written so far: how many they are, and how many of them have other bytes than just before they were written.
 pub struct Tally {
     pub count: u32,
+    pub changed: u32,
 }
 
 // A pixel's source: its value in the target's format, whether it matches the source key, and whether the pixel is left unwritten.
@@ -132,12 +133,15 @@ pub fn is_patternless(ink: Ink) -> bool
         & (raster::is_pattern_free(ink.rop2) & raster::is_pattern_free(ink.rop3))
 }
 
-// The tally after k pixels more were written.
-pub fn note(n: Tally, k: u32) -> Tally
-    requires { ⌜ Room n k ⌝ }
-    ensures { λ r. ⌜ r ≡ noted k n ⌝ }
+// The tally after k pixels more were written, and c of them changed.
+pub fn note(n: Tally, k: u32, c: u32) -> Tally
+    requires { ⌜ Room n k × (c ≤ k) ⌝ }
+    ensures { λ r. ⌜ r ≡ noted k c n ⌝ }
 {
-    Tally { count: n.count + k }
+    Tally {
+        count: n.count + k,
+        changed: n.changed + c,
+    }
 }
 
 // The one store: the pixel at (x, y) becomes v and is told, or it is left.
@@ -148,8 +152,8 @@ pub fn put_value(mem: &mut [u8], s: Surface, x: u32, y: u32, left: bool, v: u32,
     if left {
         return n;
     }
-    surface::put_pixel(mem, s, x, y, v);
-    note(n, 1)
+    let changed = surface::put_pixel(mem, s, x, y, v);
+    note(n, 1, surface::one(changed))
 }
 
 // The same of a pixel of so many bytes from an address on.
@@ -160,8 +164,8 @@ pub fn put_value_at(mem: &mut [u8], at: usize, bytes: u32, left: bool, v: u32, n
     if left {
         return n;
     }
-    surface::put_bytes(mem, at, bytes, v);
-    note(n, 1)
+    let changed = surface::store_bytes(mem, at, bytes, v);
+    note(n, 1, surface::one(changed))
 }
 
 // A pixel by itself: it is given what pattern, source and target make, or it is left.

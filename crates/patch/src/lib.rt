@@ -67,10 +67,13 @@ pub fn paint_rows(
     toTop: bool,
 ) -> Tally
     requires { ⌜ CanPaint t w h (length (now mem)) ⌝ }
-    ensures { λ r. ⌜ tallied (now (mem .exit)) r ≡ paint (t .ink .target) (inTurn t pattern (rect toLeft toTop (t .x) (t .y) w h)) (state (now (mem .entry)) 0) ⌝ }
+    ensures { λ r. ⌜ tallied (now (mem .exit)) r ≡ paint (t .ink .target) (inTurn t pattern (rect toLeft toTop (t .x) (t .y) w h)) (state (now (mem .entry)) 0 0) ⌝ }
 {
     let ink = t.ink;
-    let mut n = Tally { count: 0 };
+    let mut n = Tally {
+        count: 0,
+        changed: 0,
+    };
     let mut j = 0;
     while j < h {
         let y = paint::place(toTop, t.y, h, j);

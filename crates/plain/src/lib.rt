@@ -164,7 +164,7 @@ fn mono_row(
     let mut r = n;
     let mut i = start;
     while i < end {
-        let m = bits::least(8 - i % 8, end - i);
+        let m = surface::least(8 - i % 8, end - i);
         r = mono_part(mem, p, c, feed, last, word, t, j, column, i, m, r);
         i += m;
     }
@@ -236,18 +236,21 @@ pub fn plain_word(
     word: u32,
 ) -> Tally
     requires { ⌜ Waits (plainInk p) c feed (length (now mem)) taken ⌝ }
-    ensures { λ r. ⌜ tallied (now (mem .exit)) r ≡ drawn (plainInk p) [] c feed (byWord feed last word taken) (state (now (mem .entry)) 0) ⌝ }
+    ensures { λ r. ⌜ tallied (now (mem .exit)) r ≡ drawn (plainInk p) [] c feed (byWord feed last word taken) (state (now (mem .entry)) 0 0) ⌝ }
 {
     let step = feed.step;
     let mut j = 4 * taken / step;
     let mut column = 4 * taken % step;
-    let mut n = Tally { count: 0 };
+    let mut n = Tally {
+        count: 0,
+        changed: 0,
+    };
     let mut t = 0;
     while t < 4 {
         if feed.height <= j {
             return n;
         }
-        let m = bits::least(step - column, 4 - t);
+        let m = surface::least(step - column, 4 - t);
         n = plain_row(mem, p, c, feed, last, word, t, j, column, m, n);
         column = 0;
         j += 1;

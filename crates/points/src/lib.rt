@@ -88,12 +88,15 @@ pub fn paint_each(
     style: u32,
 ) -> LineDone
     requires { ⌜ Drawable (ink .target) (length (now mem)) c l ⌝ }
-    ensures { λ r. ⌜ (tallied (now (mem .exit)) (r .tally) ≡ paint (ink .target) (lineTouches ink pattern c pen style (points l)) (state (now (mem .entry)) 0)) × (r .style ≡ styleAfter pen (pointCount l) style) ⌝ }
+    ensures { λ r. ⌜ (tallied (now (mem .exit)) (r .tally) ≡ paint (ink .target) (lineTouches ink pattern c pen style (points l)) (state (now (mem .entry)) 0 0)) × (r .style ≡ styleAfter pen (pointCount l) style) ⌝ }
 {
     let total = line::point_count(l);
     let mut done = LineDone {
         style: style,
-        tally: Tally { count: 0 },
+        tally: Tally {
+            count: 0,
+            changed: 0,
+        },
     };
     let mut i = 0;
     while i < total {

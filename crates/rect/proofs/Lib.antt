@@ -4,8 +4,10 @@ pub mod Sources
 pub mod Mono
 pub mod Straight
 pub mod Plain
+pub mod Changing
 pub mod Moves
 pub mod Moved
 pub mod Smear
 pub mod Bytes
+pub mod Others
 pub mod Tests

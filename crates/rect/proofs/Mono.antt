@@ -17,7 +17,8 @@ use Rattle.surface.proofs.OnLaws.{and-left, and-right, mono-first, some-byte}
 use Rattle.spans.specs.Span.{spanOf, meet}
 use Rattle.spans.proofs.Spans.{IsByte}
 use Rattle.paint.specs.declared.Source.{Source}
-use Rattle.paint.specs.Paint.{state, paint}
+use Rattle.paint.specs.declared.Tally.{Tally}
+use Rattle.paint.specs.Paint.{tallied, paint}
 use Rattle.paint.specs.Mix.{source, bitSource, mixed, direct}
 use Rattle.ink.specs.Pattern.{patternColumn, patternRow, patternBit, patternValue}
 use Rattle.paint.proofs.MixLaws.{direct-mixed}
@@ -73,12 +74,12 @@ mono-apart : (t : Task) (w h : ℕ) → t .from .bytes ≡ 0 → 0 < t .ink .tar
 mono-apart t w h e c = ⊎-elim (λ same. absurd (mono-other t e c same)) (λ apart. apart)
 
 -- and the copy comes out alike from every corner
-pub mono-corner : (t : Task) (w h len : ℕ) → t .from .bytes ≡ 0 → CanPaint t w h len → Orderly t w h → (l u : Bool) (pattern m : List ℕ) (n : ℕ)
-    → paint (t .ink .target) (inTurn t pattern (rect false false (t .x) (t .y) w h)) (state m n) ≡ paint (t .ink .target) (inTurn t pattern (rect l u (t .x) (t .y) w h)) (state m n)
+pub mono-corner : (t : Task) (w h len : ℕ) → t .from .bytes ≡ 0 → CanPaint t w h len → Orderly t w h → (l u : Bool) (pattern m : List ℕ) (n : Tally)
+    → paint (t .ink .target) (inTurn t pattern (rect false false (t .x) (t .y) w h)) (tallied m n) ≡ paint (t .ink .target) (inTurn t pattern (rect l u (t .x) (t .y) w h)) (tallied m n)
 mono-corner t w h len e can orderly l u pattern m n = either false false ∙ sym (either l u)
   where
     either : (l u : Bool)
-        → paint (t .ink .target) (inTurn t pattern (rect l u (t .x) (t .y) w h)) (state m n) ≡ paint (t .ink .target) (asBefore t pattern m (rect false false (t .x) (t .y) w h)) (state m n)
+        → paint (t .ink .target) (inTurn t pattern (rect l u (t .x) (t .y) w h)) (tallied m n) ≡ paint (t .ink .target) (asBefore t pattern m (rect false false (t .x) (t .y) w h)) (tallied m n)
     either l u = as-before t w h len can (λ _. orderly) l u (λ _ same. absurd (mono-other t e (can .colour .some) same)) pattern m n
 
 pub can-mono : (t : Task) (w h len : ℕ) → bitwise t ≡ true → Flat t → CanPaint t w h len → Orderly t w h → CanMono (monoOf t) w h len

@@ -21,8 +21,8 @@ use Rattle.surface.proofs.Rects.{in-rect, rect-in, rect-pairs, rect-distinct, P
 use Rattle.spans.proofs.Spans.{IsByte, spans-meet}
 use Rattle.sweep.specs.declared.Task.{Task}
 use Rattle.paint.specs.declared.Source.{Source}
-use Rattle.paint.specs.Tally.{tally}
-use Rattle.paint.specs.Paint.{state, paint}
+use Rattle.paint.specs.declared.Tally.{Tally}
+use Rattle.paint.specs.Paint.{tallied, paint}
 use Rattle.paint.specs.Mix.{mixed, bitSource, colourSource, fillSource}
 use Rattle.ink.specs.Pattern.{patternColumn, patternRow, patternBit, patternValue}
 use Rattle.sweep.specs.Copy.{sourcePlace, sourceBy, giving, asBefore, inTurn}
@@ -157,15 +157,15 @@ module _ (t : Task) (w h len : ℕ) (can : CanPaint t w h len) (orderly : t .cop
       (subst (IsByte (t .from) q) (sym e) (byte-of (t .from) (omega arith) q k hk)) (byte-of (t .ink .target) (can .colour .some) p j hj)) (orderly copies)
 
   -- ---- then the copy comes out as if each source were read before it
-  pub as-before : (l u : Bool) → Onward l u → (pattern m : List ℕ) (n : ℕ)
-      → paint (t .ink .target) (inTurn t pattern (all l u)) (state m n) ≡ paint (t .ink .target) (asBefore t pattern m (all false false)) (state m n)
+  pub as-before : (l u : Bool) → Onward l u → (pattern m : List ℕ) (n : Tally)
+      → paint (t .ink .target) (inTurn t pattern (all l u)) (tallied m n) ≡ paint (t .ink .target) (asBefore t pattern m (all false false)) (tallied m n)
   as-before l u onward pattern m n =
       let loc = giving-local t pattern (can .colour .some) in
-      in-place (t .ink .target) (can .colour .some) (giving t pattern) (Reads t) loc (all l u) m (tally n)
+      in-place (t .ink .target) (can .colour .some) (giving t pattern) (Reads t) loc (all l u) m n
       (pairs-map (all l u)
       (λ p q i j ahead a r b. not-read l u onward (r .0) p q (in-rect l u (t .x) (t .y) w h p i) (in-rect l u (t .x) (t .y) w h q j) ahead a (r .1) b)
       (rect-pairs l u (t .x) (t .y) w h))
-      ∙ any-order (t .ink .target) (can .colour .some) (giving t pattern) (Reads t) loc m (all l u) (all false false) (tally n)
+      ∙ any-order (t .ink .target) (can .colour .some) (giving t pattern) (Reads t) loc m (all l u) (all false false) n
       (rect-distinct l u (t .x) (t .y) w h) (rect-distinct false false (t .x) (t .y) w h)
       (λ p i. rect-in false false (t .x) (t .y) w h p (in-rect l u (t .x) (t .y) w h p i))
       (λ p i. rect-in l u (t .x) (t .y) w h p (in-rect false false (t .x) (t .y) w h p i))

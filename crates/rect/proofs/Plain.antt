@@ -1,4 +1,4 @@
--- The plain copy: raster operation CC, the same format, no keys. It moves the bytes of a rectangle exactly, and counts every pixel.
+-- The plain copy: raster operation CC, the same format, no keys. It moves the bytes of a rectangle exactly, counts every pixel, and those changed that are then not what they were.
 -- Assumes nothing.
 use mathlib.Core.Path.{_≡_, refl, sym, ap, ap₂, subst, _∙_}
 use mathlib.Core.Bool.{Bool, true, false, not, _&&_}
@@ -27,7 +27,7 @@ use Rattle.surface.proofs.Lists.{by-cases}
 use Rattle.surface.proofs.Rects.{in-rect, rect-in, rect-distinct, rect-length}
 use Rattle.sweep.specs.declared.Task.{Task}
 use Rattle.paint.specs.Tally.{tally}
-use Rattle.paint.specs.Paint.{State, state, dab, paint}
+use Rattle.paint.specs.Paint.{State, state, dab, paint, changing, summed}
 use Rattle.paint.specs.declared.Source.{Source}
 use Rattle.paint.specs.Mix.{source, mixed, colourSource, direct}
 use Rattle.ink.specs.Pattern.{patternColumn, patternRow, patternBit, patternValue}
@@ -36,7 +36,7 @@ use Rattle.sweep.specs.Asked.{CanPaint}
 use Rattle.rect.specs.Fast.{sourceByte, plainly}
 use Rattle.runs.specs.Runs.{Given}
 use Rattle.paint.proofs.Owners.{byte-of, of-byte}
-use Rattle.paint.proofs.Settle.{Settled, settled, summed, counted}
+use Rattle.paint.proofs.Settle.{Settled, settled, counted}
 use Rattle.paint.proofs.Frame.{Bytes}
 use Rattle.sweep.proofs.TaskLaws.{can-pixel}
 use Rattle.paint.proofs.MixLaws.{not-true, direct-mixed}
@@ -135,14 +135,14 @@ summed-all f (p ∷ ps) h = ap₂ _+_ (h p) (summed-all f ps h) ∙ omega arith
 
 module _ (t : Task) (pattern m : List ℕ) (w h : ℕ) (plain : PlainCopy t) (can : CanPaint t w h (length m)) (bytes : Bytes m) where
   abbrev whole : State
-  whole = paint (t .ink .target) (asBefore t pattern m (rect false false (t .x) (t .y) w h)) (state m 0)
+  whole = paint (t .ink .target) (asBefore t pattern m (rect false false (t .x) (t .y) w h)) (state m 0 0)
 
   gives : (p : Px) → giving t pattern m m p ≡ some (readPx m (t .from) (sourcePlace t p .x) (sourcePlace t p .y))
   gives p = plain-gives t pattern m m p plain (can .colour .some) (can .colour .small .bytes) bytes
 
-  here : Settled (t .ink .target) (giving t pattern) m (rect false false (t .x) (t .y) w h) (state m 0) whole
+  here : Settled (t .ink .target) (giving t pattern) m (rect false false (t .x) (t .y) w h) (state m 0 0) whole
   here =
-      settled (t .ink .target) (can .colour .some) (giving t pattern) (Reads t) (giving-local t pattern (can .colour .some)) m (rect false false (t .x) (t .y) w h) (tally 0)
+      settled (t .ink .target) (can .colour .some) (giving t pattern) (Reads t) (giving-local t pattern (can .colour .some)) m (rect false false (t .x) (t .y) w h) (tally 0 0)
       (rect-distinct false false (t .x) (t .y) w h)
       (λ p i. on-column (t .ink .target) (length m) (p .x) (p .y) (can-pixel can (p .x) (p .y) (in-rect false false (t .x) (t .y) w h p i) .0 .on))
 
@@ -151,7 +151,7 @@ module _ (t : Task) (pattern m : List ℕ) (w h : ℕ) (plain : PlainCopy t) (ca
   plain-moves = record {
     inside = λ p i k l.
         here .given p (rect-in false false (t .x) (t .y) w h p i) (byteOf (t .ink .target) (p .x) (p .y) k) (byte-of (t .ink .target) (can .colour .some) p k l)
-        ∙ ap (λ (o : Option ℕ). getD (dab (t .ink .target) p o (state m 0) .mem) (byteOf (t .ink .target) (p .x) (p .y) k) 0) (gives p)
+        ∙ ap (λ (o : Option ℕ). getD (dab (t .ink .target) p o (state m 0 0) .mem) (byteOf (t .ink .target) (p .x) (p .y) k) 0) (gives p)
         ∙ copied-pixel (t .from) (t .ink .target) m p (sourcePlace t p) k (plain .format) (can-pixel can (p .x) (p .y) i .0) bytes l;
     others = λ a f. here .others a (λ p i b. let k = of-byte (t .ink .target) (can .colour .some) p a b in
         f p (in-rect false false (t .x) (t .y) w h p i) (b .k) (k .0) (k .1));
@@ -163,3 +163,6 @@ module _ (t : Task) (pattern m : List ℕ) (w h : ℕ) (plain : PlainCopy t) (ca
       here .counts ∙ zero-add _
       ∙ summed-all (giving t pattern m m) (rect false false (t .x) (t .y) w h) (λ p. ap counted (gives p))
       ∙ rect-length false false (t .x) (t .y) w h
+
+  pub plain-changes : whole .tally .changed ≡ summed (changing (t .ink .target) m (whole .mem)) (rect false false (t .x) (t .y) w h)
+  plain-changes = here .changes ∙ zero-add _

@@ -18,7 +18,8 @@ use Rattle.surface.proofs.OnLaws.{on-column}
 use Rattle.surface.proofs.Pixels.{write-read, read-small}
 use Rattle.surface.proofs.Lists.{In, by-cases}
 use Rattle.surface.proofs.Rects.{in-across, in-rect, rect-in}
-use Rattle.paint.specs.Paint.{State, state, touch, dab, paint}
+use Rattle.paint.specs.declared.Tally.{Tally}
+use Rattle.paint.specs.Paint.{State, tallied, touch, dab, paint}
 use Rattle.paint.proofs.Owners.{one-owner, read-px, dab-length}
 use Rattle.paint.proofs.Frame.{Bytes, frame, pixels-of, paint-length, paint-bytes}
 use Rattle.sweep.specs.declared.Task.{Task}
@@ -124,14 +125,14 @@ module _ (t : Task) (pattern : List ℕ) (w h len : ℕ) (plain : PlainCopy t) (
       (paint-length to (inTurn t pattern (across false (t .sx + 1) w (y + n))) st ∙ long))
 
 -- each pixel of the rectangle becomes the first source pixel of its row
-pub smears : (t : Task) (w h : ℕ) (pattern m : List ℕ) (n : ℕ) → PlainCopy t → CanPaint t w h (length m) → Bytes m → t .from ≡ t .ink .target → t .sx + 1 ≡ t .x → t .sy ≡ t .y
+pub smears : (t : Task) (w h : ℕ) (pattern m : List ℕ) (n : Tally) → PlainCopy t → CanPaint t w h (length m) → Bytes m → t .from ≡ t .ink .target → t .sx + 1 ≡ t .x → t .sy ≡ t .y
     → (toTop : Bool) (p : Px) → Inside (t .x) (t .y) w h p
-    → readPx (paint (t .ink .target) (inTurn t pattern (rect false toTop (t .x) (t .y) w h)) (state m n) .mem) (t .ink .target) (p .x) (p .y)
+    → readPx (paint (t .ink .target) (inTurn t pattern (rect false toTop (t .x) (t .y) w h)) (tallied m n) .mem) (t .ink .target) (p .x) (p .y)
     ≡ readPx m (t .ink .target) (t .sx) (p .y)
 unfolding sourcePlace
 smears t w h pattern m n plain can bytes same left level toTop p i =
-    subst (λ (x : ℕ). readPx (paint (t .ink .target) (inTurn t pattern (rect false toTop x (t .y) w h)) (state m n) .mem) (t .ink .target) (p .x) (p .y) ≡ readPx m (t .ink .target) (t .sx) (p .y))
-    left (spread t pattern w h (length m) plain same left level on toTop (t .y) h (state m n) (omega arith) (omega arith) bytes refl p
+    subst (λ (x : ℕ). readPx (paint (t .ink .target) (inTurn t pattern (rect false toTop x (t .y) w h)) (tallied m n) .mem) (t .ink .target) (p .x) (p .y) ≡ readPx m (t .ink .target) (t .sx) (p .y))
+    left (spread t pattern w h (length m) plain same left level on toTop (t .y) h (tallied m n) (omega arith) (omega arith) bytes refl p
     (subst (λ (x : ℕ). In p (rect false toTop x (t .y) w h)) (sym left) (rect-in false toTop (t .x) (t .y) w h p i)))
   where
     first : (y : ℕ) → t .y ≤ y → y < t .y + h → onSurface (t .ink .target) (length m) (t .sx) y ≡ true

@@ -64,14 +64,14 @@ module _ (t : Task) (pattern m : List ℕ) (w h : ℕ) where
   abbrev pixels : List Px
   pixels = rect false false (t .x) (t .y) w h
 
-  pub solid-made : {v : ℕ} {st : State} → solid t ≡ true → v ≡ ropBits 32 0xcc 0 (t .ink .fore) 0 → st ≡ paint (t .ink .target) (evenly v pixels) (state m 0)
-      → st ≡ paint (t .ink .target) (inTurn t pattern pixels) (state m 0)
+  pub solid-made : {v : ℕ} {st : State} → solid t ≡ true → v ≡ ropBits 32 0xcc 0 (t .ink .fore) 0 → st ≡ paint (t .ink .target) (evenly v pixels) (state m 0 0)
+      → st ≡ paint (t .ink .target) (inTurn t pattern pixels) (state m 0 0)
   solid-made e value made =
-      made ∙ ap (λ (v : ℕ). paint (t .ink .target) (evenly v pixels) (state m 0)) value
-      ∙ sym (paint-same (t .ink .target) (λ p now. giving t pattern now now p) (λ p now. some _) pixels (λ p i now. solid-gives t pattern now now p e) (state m 0))
+      made ∙ ap (λ (v : ℕ). paint (t .ink .target) (evenly v pixels) (state m 0 0)) value
+      ∙ sym (paint-same (t .ink .target) (λ p now. giving t pattern now now p) (λ p now. some _) pixels (λ p i now. solid-gives t pattern now now p e) (state m 0 0))
 
-  pub fill-made : {st : State} → t .copies ≡ false → st ≡ paint (t .ink .target) (fillings (t .ink) pattern pixels) (state m 0)
-      → st ≡ paint (t .ink .target) (inTurn t pattern pixels) (state m 0)
+  pub fill-made : {st : State} → t .copies ≡ false → st ≡ paint (t .ink .target) (fillings (t .ink) pattern pixels) (state m 0 0)
+      → st ≡ paint (t .ink .target) (inTurn t pattern pixels) (state m 0 0)
   fill-made e made =
       made
-      ∙ sym (paint-same (t .ink .target) (λ p now. giving t pattern now now p) (λ p now. filling (t .ink) pattern now p) pixels (λ p i now. fill-alone t pattern now now p e) (state m 0))
+      ∙ sym (paint-same (t .ink .target) (λ p now. giving t pattern now now p) (λ p now. filling (t .ink) pattern now p) pixels (λ p i now. fill-alone t pattern now now p e) (state m 0 0))

@@ -2,10 +2,10 @@
 -- Assumes nothing.
 use mathlib.Core.Path.{_≡_}
 use mathlib.Core.Bool.{Bool, true, false}
-use Prim.Native.Nat.{ℕ, _+_, _-_, _^_, _<_, _≤_}
+use Prim.Native.Nat.{ℕ, _+_, _-_, _*_, _^_, _<_, _≤_}
 use Rattle.surface.specs.Asked.{Colour}
 use Rattle.sweep.specs.declared.Task.{Task}
-use Rattle.runs.specs.Asked.{Run, Up, Down}
+use Rattle.runs.specs.Asked.{PixelsOn, Up, Down}
 use Rattle.sweep.specs.Asked.{CanPaint, Orderly}
 use Rattle.rect.specs.Fast.{plainly, touching, late, toRow, fromRow}
 
@@ -14,15 +14,16 @@ pub record Flat (t : Task) : Type 0 where
   pub target : t .ink .target .tiled ≡ false
   pub from : t .from .tiled ≡ false
 
--- row y of a rectangle can be moved as a run of n bytes
-pub record RowMoves (t : Task) (n y len : ℕ) (toLeft : Bool) : Type 0 where
+-- row y of a rectangle can be moved as a run of its w pixels
+pub record RowMoves (t : Task) (w y len : ℕ) (toLeft : Bool) : Type 0 where
   pub target : Colour (t .ink .target)
   pub source : Colour (t .from)
   pub first : t .y ≤ y
   pub small : t .sy + (y - t .y) < 2 ^ 32
-  pub run : Run (toRow t y) (fromRow t y) n len
-  pub up : toLeft ≡ false → Up (toRow t y) (fromRow t y) n
-  pub down : toLeft ≡ true → Down (toRow t y) (fromRow t y) n
+  pub to : PixelsOn (toRow t y) (t .from .bytes) w len
+  pub from : PixelsOn (fromRow t y) (t .from .bytes) w len
+  pub up : toLeft ≡ false → Up (toRow t y) (fromRow t y) (w * t .from .bytes)
+  pub down : toLeft ≡ true → Down (toRow t y) (fromRow t y) (w * t .from .bytes)
 
 -- a rectangle can be moved, from the corner that the two flags name
 pub record Moves (t : Task) (w h len : ℕ) (toLeft toTop : Bool) : Type 0 where

@@ -7,43 +7,39 @@ use straight::Straight;
 use sweep::Task;
 ghost use mathlib.Core.Path.{_≡_};
 ghost use mathlib.Core.Bool.{true, false};
-ghost use Prim.Native.Nat.{_+_, _-_, _*_, _/_, _^_, _<_};
+ghost use Prim.Native.Nat.{_+_, _-_, _*_, _^_, _<_};
 ghost use lib.ListN.{length};
 ghost use Rattle.surface.specs.Pixels.{rect};
-ghost use Rattle.paint.specs.Paint.{state, tallied, paint};
-ghost use Rattle.paint.specs.Mix.{source};
+ghost use Rattle.paint.specs.Paint.{state, tallied, paint, changing, summed};
 ghost use Rattle.sweep.specs.Copy.{inTurn};
 ghost use Rattle.sweep.specs.Asked.{CanPaint, Orderly};
 ghost use Rattle.rect.specs.Fast.{solid, plainly, straight, straightOf, bitwise, monoOf, sourceByte, behind, overlap, touching, late, toRow, fromRow};
 ghost use Rattle.rect.specs.Asked.{RowMoves, Moves, Apart, Cornered};
-ghost use Rattle.runs.specs.Runs.{Shifted, Given};
+ghost use Rattle.runs.specs.Runs.{unlikes, Shifted, Given};
 
-// Row y of a plain copy, as a run of n bytes.
-fn move_row(mem: &mut [u8], t: Task, n: usize, y: u32, toLeft: bool)
-    requires { ⌜ RowMoves t n y (length (now mem)) toLeft ⌝ }
-    ensures { λ _. ⌜ Shifted (toRow t y) (fromRow t y) 0 n (now (mem .entry)) (now (mem .exit)) ⌝ }
+// Row y of a plain copy, as a run of its w pixels; how many change.
+fn move_row(mem: &mut [u8], t: Task, w: u32, y: u32, toLeft: bool) -> u32
+    requires { ⌜ RowMoves t w y (length (now mem)) toLeft ⌝ }
+    ensures { λ r. ⌜ Shifted (toRow t y) (fromRow t y) 0 (w * t .from .bytes) (now (mem .entry)) (now (mem .exit)) × (r ≡ unlikes (now (mem .entry)) (now (mem .entry)) (t .from .bytes) (toRow t y) (fromRow t y) w) ⌝ }
 {
     let d = surface::byte_of(t.ink.target, t.x, y, 0);
     let s = surface::byte_of(t.from, t.sx, t.sy + (y - t.y), 0);
-    if toLeft {
-        runs::run_down(mem, d, s, n);
-        return;
-    }
-    runs::run_up(mem, d, s, n);
+    runs::move_pixels(mem, d, s, t.from.bytes, w, toLeft)
 }
 
-// A plain copy, row by row from the corner that the two flags name.
-fn move_rows(mem: &mut [u8], t: Task, w: u32, h: u32, toLeft: bool, toTop: bool)
+// A plain copy, row by row from the corner that the two flags name; how many pixels change.
+fn move_rows(mem: &mut [u8], t: Task, w: u32, h: u32, toLeft: bool, toTop: bool) -> u32
     requires { ⌜ Moves t w h (length (now mem)) toLeft toTop ⌝ }
-    ensures { λ _. ⌜ Given (t .ink .target) (sourceByte t (now (mem .entry))) (t .x) (t .y) w h (now (mem .entry)) (now (mem .exit)) ⌝ }
+    ensures { λ r. ⌜ Given (t .ink .target) (sourceByte t (now (mem .entry))) (t .x) (t .y) w h (now (mem .entry)) (now (mem .exit)) × (r ≡ summed (changing (t .ink .target) (now (mem .entry)) (now (mem .exit))) (rect false false (t .x) (t .y) w h)) ⌝ }
 {
-    let n = (w * t.from.bytes) as usize;
+    let mut r = 0;
     let mut j = 0;
     while j < h {
         let y = paint::place(toTop, t.y, h, j);
-        move_row(mem, t, n, y, toLeft);
+        r += move_row(mem, t, w, y, toLeft);
         j += 1;
     }
+    r
 }
 
 // Whether a copy moves the bytes of its source.
@@ -155,10 +151,10 @@ pub fn straight_of(t: Task) -> Straight
     }
 }
 
-// A plain copy that shares no pixel with its source.
-fn move_apart(mem: &mut [u8], t: Task, w: u32, h: u32)
+// A plain copy that shares no pixel with its source; how many change.
+fn move_apart(mem: &mut [u8], t: Task, w: u32, h: u32) -> u32
     requires { ⌜ Apart t w h (length (now mem)) ⌝ }
-    ensures { λ _. ⌜ Given (t .ink .target) (sourceByte t (now (mem .entry))) (t .x) (t .y) w h (now (mem .entry)) (now (mem .exit)) ⌝ }
+    ensures { λ r. ⌜ Given (t .ink .target) (sourceByte t (now (mem .entry))) (t .x) (t .y) w h (now (mem .entry)) (now (mem .exit)) × (r ≡ summed (changing (t .ink .target) (now (mem .entry)) (now (mem .exit))) (rect false false (t .x) (t .y) w h)) ⌝ }
 {
     let to = t.ink.target;
     let from = t.from;
@@ -171,7 +167,9 @@ fn move_apart(mem: &mut [u8], t: Task, w: u32, h: u32)
         sx: surface::wide(t.sx) * n,
         sy: surface::wide(t.sy),
     };
+    let changed = blocks::unlike_rows(mem, to, from, t.x, t.y, t.sx, t.sy, w, h);
     blocks::move_blocks(mem, b, surface::wide(w) * n, surface::wide(h));
+    changed
 }
 
 // A rectangle filled, from the upper left corner, or copied, where a surface is tiled; the tally of the pixels written.
@@ -185,13 +183,16 @@ fn on_tiles(
     toTop: bool,
 ) -> Tally
     requires { ⌜ CanPaint t w h (length (now mem)) × Cornered t w h toLeft toTop ⌝ }
-    ensures { λ r. ⌜ tallied (now (mem .exit)) r ≡ paint (t .ink .target) (inTurn t pattern (rect toLeft toTop (t .x) (t .y) w h)) (state (now (mem .entry)) 0) ⌝ }
+    ensures { λ r. ⌜ tallied (now (mem .exit)) r ≡ paint (t .ink .target) (inTurn t pattern (rect toLeft toTop (t .x) (t .y) w h)) (state (now (mem .entry)) 0 0) ⌝ }
 {
     if (0 < w) & (0 < h) {
         if is_plain(t) & !is_touching(t, w, h) {
-            move_apart(mem, t, w, h);
+            let changed = move_apart(mem, t, w, h);
             let count = w * h;
-            return Tally { count: count };
+            return Tally {
+                count: count,
+                changed: changed,
+            };
         }
         if is_solid(t) {
             let v = raster::raster(0xcc, 0, t.ink.fore, 0);
@@ -207,7 +208,7 @@ fn on_tiles(
 // A rectangle filled; the tally of the pixels written.
 pub fn fill_rect(mem: &mut [u8], t: Task, pattern: [u8; 256], w: u32, h: u32) -> Tally
     requires { ⌜ CanPaint t w h (length (now mem)) × (t .copies ≡ false) ⌝ }
-    ensures { λ r. ⌜ tallied (now (mem .exit)) r ≡ paint (t .ink .target) (inTurn t pattern (rect false false (t .x) (t .y) w h)) (state (now (mem .entry)) 0) ⌝ }
+    ensures { λ r. ⌜ tallied (now (mem .exit)) r ≡ paint (t .ink .target) (inTurn t pattern (rect false false (t .x) (t .y) w h)) (state (now (mem .entry)) 0 0) ⌝ }
 {
     if t.ink.target.tiled {
         return on_tiles(mem, t, pattern, w, h, false, false);
@@ -233,7 +234,7 @@ pub fn copy_rect(
     toTop: bool,
 ) -> Tally
     requires { ⌜ CanPaint t w h (length (now mem)) × ((t .copies ≡ true) × Orderly t w h) ⌝ }
-    ensures { λ r. ⌜ tallied (now (mem .exit)) r ≡ paint (t .ink .target) (inTurn t pattern (rect toLeft toTop (t .x) (t .y) w h)) (state (now (mem .entry)) 0) ⌝ }
+    ensures { λ r. ⌜ tallied (now (mem .exit)) r ≡ paint (t .ink .target) (inTurn t pattern (rect toLeft toTop (t .x) (t .y) w h)) (state (now (mem .entry)) 0 0) ⌝ }
 {
     if t.ink.target.tiled | t.from.tiled {
         return on_tiles(mem, t, pattern, w, h, toLeft, toTop);
@@ -242,9 +243,12 @@ pub fn copy_rect(
         return bits::mono_rows(mem, mono_of(t), w, h);
     }
     if is_plain(t) & !is_late(t, w, h, toLeft, toTop) {
-        move_rows(mem, t, w, h, toLeft, toTop);
+        let changed = move_rows(mem, t, w, h, toLeft, toTop);
         let count = w * h;
-        return Tally { count: count };
+        return Tally {
+            count: count,
+            changed: changed,
+        };
     }
     if is_straight(t) {
         return straight::straight_rows(mem, straight_of(t), w, h, toLeft, toTop);

@@ -1,6 +1,7 @@
 // Recorded streams of register writes, replayed on the engine. Standard input holds little-endian words: for each stream the length that the
 // engine is opened for, the number of writes and a seed for the memory's bytes, then offset, word and kind of each write (kind 1: the memory is
-// lent without its last byte). For each stream it prints a head, a line `number count` for each answer, and checksums of registers and memory.
+// lent without its last byte). For each stream it prints a head, a line `number count changed` for each answer, and checksums of registers and
+// memory.
 use bank::Reading;
 use engine::Engine;
 use libc::STDIN_FILENO;
@@ -147,7 +148,8 @@ fn play_write(e: Engine, mem: &mut [u8]) -> Turn {
     let next = out.engine;
     let answer = out.answer;
     say_number(answer.number() as u64, b" ");
-    say_number(answer.count() as u64, b"\n");
+    say_number(answer.count() as u64, b" ");
+    say_number(answer.changed() as u64, b"\n");
     Turn {
         engine: next,
         more: true,

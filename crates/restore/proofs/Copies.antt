@@ -185,7 +185,7 @@ module _ (m : List ℕ) (r : Regs) (plain : Plain (length m) r) where
     pub count : st .tally .count ≡ height r * width r
 
   pub plain-copied : (pattern : List ℕ) → Bytes m → Apart (targetRect r) (sourceRect r)
-      → Copied (paint (target r) (asBefore (copyTask r) pattern m (covered (copyCut r))) (state m 0))
+      → Copied (paint (target r) (asBefore (copyTask r) pattern m (covered (copyCut r))) (state m 0 0))
   unfolding copyTask inkOf
   plain-copied pattern bytes apart =
       let can = copy-can r (length m) (taken (length m) r plain apart) in

@@ -72,8 +72,8 @@ module _ (e : Engine) (m : List ℕ) (w : Write) (r : Regs) (copy : number r ≡
         next = after;
         holds = h;
         carries =
-            ap (λ t. cond t (commanded e m (w .word)) (cond (e .blit .waiting) (step e m Waiting) (step (storedIn e (w .offset) (w .word)) m (Taken 0)))) (eq-eqb (w .offset) 0x70 o)
-            ∙ ap (λ t. cond t (carried e after m) (step after m (Taken 0))) b
+            ap (λ t. cond t (commanded e m (w .word)) (cond (e .blit .waiting) (step e m Waiting) (step (storedIn e (w .offset) (w .word)) m (Taken 0 0)))) (eq-eqb (w .offset) 0x70 o)
+            ∙ ap (λ t. cond t (carried e after m) (step after m (Taken 0 0))) b
             ∙ carried-copy e after m (ap (λ (k : Regs). number k) h ∙ copy);
         opened = refl;
         rests = refl;
@@ -176,7 +176,7 @@ write-made e m w r limit opened bytes h plain apart =
       number = kept .taken;
       count = ap (λ (st : State). st .tally .count) left ∙ c .count;
       came = subst⁻¹ (λ (st : State). Came (sourceRect r) (targetRect r) m (st .mem)) left (c .came);
-      bytes = subst⁻¹ (λ (st : State). Bytes (st .mem)) left (paint-bytes (target r) (asBefore (copyTask r) (e .bank .pattern) m (covered (copyCut r))) (state m 0) bytes);
+      bytes = subst⁻¹ (λ (st : State). Bytes (st .mem)) left (paint-bytes (target r) (asBefore (copyTask r) (e .bank .pattern) m (covered (copyCut r))) (state m 0 0) bytes);
       opened = kept .opened;
       rests = kept .rests;
     }

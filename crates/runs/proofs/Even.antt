@@ -1,4 +1,4 @@
--- Laws of pixels that are all given one value: a turn of the loop over a row of them, and when a fill's are.
+-- A rectangle of one value, by its bytes.
 -- Assumes nothing.
 use mathlib.Core.Path.{_≡_, refl, ap, subst, _∙_}
 use mathlib.Core.Bool.{false}
@@ -13,39 +13,19 @@ use native.Mathlib.Omega.{arith}
 use Rattle.surface.specs.declared.Surface.{Surface}
 use Rattle.surface.specs.Place.{byteOf, writeBytes, writePx}
 use Rattle.surface.specs.Asked.{OnColour}
-use Rattle.surface.specs.Pixels.{Px, across, rect, Inside}
+use Rattle.surface.specs.Pixels.{Px, rect, Inside}
 use Rattle.surface.proofs.Bytes.{written-other}
 use Rattle.surface.proofs.OnLaws.{colour-byte, on-column}
 use Rattle.surface.proofs.Pixels.{same-byte}
 use Rattle.surface.proofs.Lists.{by-cases}
 use Rattle.surface.proofs.Rects.{in-rect, rect-in, rect-distinct, rect-length}
 use Rattle.paint.specs.Tally.{tally}
-use Rattle.paint.specs.Paint.{State, state, dab, paint}
+use Rattle.paint.specs.Paint.{State, state, dab, paint, changing, summed}
 use Rattle.runs.specs.Runs.{Given, evenly}
 use Rattle.runs.specs.Asked.{RectOn}
 use Rattle.paint.proofs.Owners.{byte-of, of-byte}
-use Rattle.paint.proofs.Settle.{Settled, settled, summed, counted}
-use Rattle.paint.proofs.Loops.{RowLeft, row-begins, row-goes-on, row-full}
+use Rattle.paint.proofs.Settle.{Settled, settled, counted}
 
--- ---- the loop over a row, by its column: as many pixels are written as columns were passed
-abbrev pub EvenTo : Surface → ℕ → ℕ → ℕ → ℕ → List ℕ → ℕ → List ℕ → Type 0
-EvenTo s v x0 w y m₀ x m = (x0 ≤ x) × RowLeft s (λ p now. some v) false x0 w y m₀ (tally 0) (x - x0) m (tally (x - x0))
-
-module _ {s : Surface} {v x0 w y : ℕ} {m₀ : List ℕ} where
-  pub even-start : EvenTo s v x0 w y m₀ x0 m₀
-  even-start = let z : x0 - x0 ≡ 0 = omega arith in (omega arith, rw z row-begins)
-
-  module _ {x : ℕ} {m : List ℕ} (to : EvenTo s v x0 w y m₀ x m) where
-    pub even-again : {m′ : List ℕ} → x < x0 + w → m′ ≡ writePx m s x y v → EvenTo s v x0 w y m₀ (x + 1) m′
-    unfolding dab
-    even-again more e =
-        let next : x + 1 - x0 ≡ x - x0 + 1 = omega arith in
-        (omega arith, rw next (row-goes-on (to .1) x (omega arith) (omega arith) (ap (λ (left : List ℕ). state left (x - x0 + 1)) e) refl))
-
-    pub even-ends : x0 + w ≤ x → state m w ≡ paint s (evenly v (across false x0 w y)) (state m₀ 0)
-    even-ends all = row-full (to .1) (omega arith)
-
--- ---- a rectangle of one value, by its bytes
 abbrev pub byteNumber : ℕ → Px → ℕ → ℕ
 byteNumber v p k = v / 256 ^ k % 256
 
@@ -75,14 +55,14 @@ module _ (s : Surface) (v x y w h : ℕ) (m : List ℕ) (on : RectOn s (length m
   colour = on .colour .some
 
   abbrev whole : State
-  whole = paint s (evenly v (rect false false x y w h)) (state m 0)
+  whole = paint s (evenly v (rect false false x y w h)) (state m 0 0)
 
   pixel-on : (p : Px) → Inside x y w h p → OnColour s (length m) (p .x) (p .y)
   pixel-on p i = on .on (p .x) (p .y) (i .left) (i .right) (i .top) (i .bottom)
 
-  here : Settled s (λ was now p. some v) m (rect false false x y w h) (state m 0) whole
+  here : Settled s (λ was now p. some v) m (rect false false x y w h) (state m 0 0) whole
   here =
-      settled s colour (λ was now p. some v) (λ p a. ⊥) (record { same = λ p a b c d f g. refl }) m (rect false false x y w h) (tally 0) (rect-distinct false false x y w h)
+      settled s colour (λ was now p. some v) (λ p a. ⊥) (record { same = λ p a b c d f g. refl }) m (rect false false x y w h) (tally 0 0) (rect-distinct false false x y w h)
       (λ p i. on-column s (length m) (p .x) (p .y) (pixel-on p (in-rect false false x y w h p i) .on))
 
   pub even-given : Given s (byteNumber v) x y w h m (whole .mem)
@@ -101,3 +81,6 @@ module _ (s : Surface) (v x y w h : ℕ) (m : List ℕ) (on : RectOn s (length m
 
   pub even-counts : whole .tally .count ≡ w * h
   even-counts = omega (arith, here .counts, all-one v (rect false false x y w h), rect-length false false x y w h, mul-comm w h)
+
+  pub even-changes : whole .tally .changed ≡ summed (changing s m (whole .mem)) (rect false false x y w h)
+  even-changes = here .changes ∙ omega arith

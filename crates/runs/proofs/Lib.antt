@@ -1,3 +1,5 @@
 pub mod Even
 pub mod Runs
-pub mod EvenRows
+pub mod Alike
+pub mod Along
+pub mod Keeping

@@ -30,7 +30,7 @@ use Rattle.command.specs.Decode.{inkOf, fillTask, copyTask}
 use Rattle.table.specs.Table.{allOnAt, fillVerdict, copyVerdict}
 use Rattle.acts.specs.Deed.{rectEnded, carrying}
 use Rattle.engine.specs.Step.{freshEngine, refusal, storedIn, carried, commanded, toRegister, written}
-use Rattle.samples.specs.Sheet.{Line, marked, playedLines, thumbnails, rowSmears, columnSmears, keyed, keyedSmears, smears, tiles, sheet}
+use Rattle.samples.specs.Sheet.{Line, marked, playedLines, thumbnails, rowSmears, columnSmears, keyed, keyedSmears, smears, tiles, fillChanges, copyChanges, changes, sheet}
 
 -- the lines of a list hold
 abbrev Hold : List Line → Type 0
@@ -77,8 +77,17 @@ tiles-hold : Hold tiles
 unfolding rowBytes byteAt rowPixels firstByte byteCount inMemory onSurface across allOn targetOf steppedXY ropBit ropBits byteOf readBytes writeBytes readPx writePx rect patternBit patternPixel patternIn dab paint chosen mixed sourcePlace sourceBy giving kept putReg placeOf freshBank stored clipOf cutAt fillCut inkOf fillTask fillVerdict rectEnded carrying freshEngine refusal storedIn carried commanded toRegister written
 tiles-hold = refl
 
+fills-changed : Hold fillChanges
+unfolding rowBytes byteAt rowPixels firstByte byteCount inMemory onSurface across allOn targetOf steppedXY ropBit ropBits byteOf readBytes writeBytes readPx writePx rect patternBit patternPixel patternIn dab paint fillSource chosen mixed sourcePlace sourceBy giving kept putReg placeOf freshBank stored clipOf cutAt fillCut inkOf fillTask fillVerdict rectEnded carrying freshEngine refusal storedIn carried commanded toRegister written
+fills-changed = refl
+
+copies-changed : Hold copyChanges
+unfolding rowBytes byteAt rowPixels firstByte byteCount inMemory onSurface across allOn targetOf stepOf steppedXY ropBit ropBits allowed converted within keyMatch byteOf readBytes writeBytes readPx writePx rect sourceOf patternBit patternPixel patternIn dab paint colourSource chosen mixed sourcePlace sourceBy giving kept putReg placeOf freshBank stored clipOf cutAt copyCut inkOf copyTask allOnAt copyVerdict rectEnded carrying freshEngine storedIn carried commanded toRegister written
+copies-changed = refl
+
 pub samples : map (λ line. line .given) sheet ≡ map (λ line. line .said) sheet
 samples =
-    joined marked (playedLines ++ (thumbnails ++ (smears ++ tiles))) marked-hold
-    (joined playedLines (thumbnails ++ (smears ++ tiles)) played-hold
-    (joined thumbnails (smears ++ tiles) thumbnails-hold (joined smears tiles smears-hold tiles-hold)))
+    joined marked (playedLines ++ (thumbnails ++ (smears ++ (tiles ++ changes)))) marked-hold
+    (joined playedLines (thumbnails ++ (smears ++ (tiles ++ changes))) played-hold
+    (joined thumbnails (smears ++ (tiles ++ changes)) thumbnails-hold
+    (joined smears (tiles ++ changes) smears-hold (joined tiles changes tiles-hold (joined fillChanges copyChanges fills-changed copies-changed)))))

@@ -21,7 +21,7 @@ use Rattle.positions.specs.Position.{placed, signedOf, steppedXY}
 use Rattle.scale.specs.declared.Scale.{Scale}
 use Rattle.scale.specs.Scale.{scaled}
 use Rattle.engine.specs.declared.Answer.the-variants.{Taken}
-use Rattle.engine.specs.Step.{Step, step, freshEngine, written, numberOf, countOf}
+use Rattle.engine.specs.Step.{Step, step, freshEngine, written, numberOf, countOf, changedOf}
 
 -- a line of the sheet: the numbers that the definitions give, and those that the sheet says
 pub record Line : Type 0 where
@@ -61,7 +61,7 @@ columnsTo sourceSize size = record { to = 0; size = size; from = 0; sourceSize =
 
 -- a fresh engine, opened for a memory, and that memory
 abbrev pub fresh : List ℕ → Step
-fresh m = step (freshEngine (length m)) m (Taken 0)
+fresh m = step (freshEngine (length m)) m (Taken 0 0)
 
 -- engine, memory and the last answer after writes, each an offset and a word
 abbrev pub played : Step → List ℕ → Step
@@ -70,9 +70,12 @@ played s (o ∷ []) = s
 played s [] = s
 
 -- four bytes as a row of one surface of 8 bpp, or as a column, after more writes and a screen copy of three of them, by its srcXY, dstXY and command
+abbrev pub rowCopy : List ℕ → List ℕ → ℕ → ℕ → ℕ → Step
+rowCopy more m from to command =
+    played (fresh m) (0x14 ∷ 0x10004 ∷ 0x54 ∷ 0x10004 ∷ 0x0c ∷ 0x10004 ∷ 0x68 ∷ 0x10003 ∷ 0x5c ∷ from ∷ 0x6c ∷ to ∷ more ++ (0x70 ∷ command ∷ []))
+
 abbrev pub rowCopied : List ℕ → List ℕ → ℕ → ℕ → ℕ → List ℕ
-rowCopied more m from to command =
-    played (fresh m) (0x14 ∷ 0x10004 ∷ 0x54 ∷ 0x10004 ∷ 0x0c ∷ 0x10004 ∷ 0x68 ∷ 0x10003 ∷ 0x5c ∷ from ∷ 0x6c ∷ to ∷ more ++ (0x70 ∷ command ∷ [])) .memory
+rowCopied more m from to command = rowCopy more m from to command .memory
 
 abbrev pub columnCopied : List ℕ → ℕ → ℕ → ℕ → List ℕ
 columnCopied m from to command =
@@ -100,6 +103,14 @@ filledAt base format x =
 -- memory, number and count that writes leave
 abbrev pub told : Step → List ℕ
 told s = s .memory ++ (numberOf (s .answer) ∷ countOf (s .answer) ∷ [])
+
+-- how many pixels the last write wrote, and how many of them changed
+abbrev pub numbers : Step → List ℕ
+numbers s = countOf (s .answer) ∷ changedOf (s .answer) ∷ []
+
+-- those of a fill of one pixel, by its dstFormat and its colour
+abbrev pub coloured : ℕ → ℕ → List ℕ → List ℕ
+coloured format colour m = numbers (played (fresh m) (0x14 ∷ format ∷ 0x0c ∷ 0x10001 ∷ 0x64 ∷ colour ∷ 0x68 ∷ 0x10001 ∷ 0x70 ∷ 0xcc000105 ∷ []))
 
 -- those of a fill of two rows of two pixels at 8 bpp, by its clip0Min and clip0Max
 abbrev pub clipped : List ℕ → ℕ → ℕ → List ℕ
@@ -188,5 +199,24 @@ tiles =
     ∷ is (rowPixels (tiled 1 3) ∷ map (filledAt 0x80000000 0x40001) (41 ∷ 42 ∷ [])) (42 ∷ 0 ∷ 7 ∷ [])
     ∷ []
 
+abbrev pub fillChanges : List Line
+fillChanges =
+    -- 8 bpp, 0F put on 0F: 1 written, 0 changed; on 0E: 1 and 1; colour FFFFFF0F on 0F: 1 and 0; 32 bpp, 01000000 over 00000000: 1 and 1
+    is (coloured 0x10001 0x0f (0x0f ∷ [])) (1 ∷ 0 ∷ [])
+    ∷ is (coloured 0x10001 0x0f (0x0e ∷ [])) (1 ∷ 1 ∷ [])
+    ∷ is (coloured 0x10001 0xffffff0f (0x0f ∷ [])) (1 ∷ 0 ∷ [])
+    ∷ is (coloured 0x50004 0x01000000 (zeros 4)) (1 ∷ 1 ∷ [])
+    ∷ []
+
+abbrev pub copyChanges : List Line
+copyChanges =
+    -- of a row A A B C the first three copied onto the last three: 3 written, 2 changed, from the left and from the right
+    is (numbers (rowCopy [] (65 ∷ 65 ∷ 66 ∷ 67 ∷ []) 0 1 0xcc000101)) (3 ∷ 2 ∷ [])
+    ∷ is (numbers (rowCopy [] (65 ∷ 65 ∷ 66 ∷ 67 ∷ []) 2 3 0xcc004101)) (3 ∷ 2 ∷ [])
+    ∷ []
+
+abbrev pub changes : List Line
+changes = fillChanges ++ copyChanges
+
 abbrev pub sheet : List Line
-sheet = marked ++ (playedLines ++ (thumbnails ++ (smears ++ tiles)))
+sheet = marked ++ (playedLines ++ (thumbnails ++ (smears ++ (tiles ++ changes))))

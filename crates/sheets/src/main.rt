@@ -1,5 +1,5 @@
-// The sheets that came out wrong, and an empty clip, drawn again by register writes: for each the count of pixels, the sheet, and the sheet of an engine
-// that is wrong in that way. A sheet has 16 by 8 pixels of 8 bits: 0 is shown as a dot, 1 as o, 2 as x.
+// The sheets that came out wrong, and an empty clip, drawn again by register writes: for each the pixels written, how many of them changed, the sheet, and
+// the sheet of an engine that is wrong in that way. A sheet has 16 by 8 pixels of 8 bits: 0 is shown as a dot, 1 as o, 2 as x.
 use bank::Reading;
 use engine::Answer;
 use engine::Engine;
@@ -14,14 +14,16 @@ fn put(e: Engine, mem: &mut [u8; 128], offset: u32, word: u32) -> Engine {
     out.engine
 }
 
-// The same, with the count printed.
+// The same, with both counts printed.
 fn put_aloud(e: Engine, mem: &mut [u8; 128], offset: u32, word: u32) -> Engine {
     let out = e.write(mem, offset, word);
     let answer = out.answer;
     match answer {
-        Answer::Taken(n) => {
+        Answer::Taken(n, c) => {
             say(b"pixels ");
             io::print_decimal(STDOUT_FILENO, n as u64);
+            say(b", changed ");
+            io::print_decimal(STDOUT_FILENO, c as u64);
         }
         _ => say(b"refused"),
     }

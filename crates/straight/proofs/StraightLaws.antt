@@ -3,20 +3,23 @@
 use mathlib.Core.Path.{_≡_, refl, sym, ap, ap₂, subst, _∙_}
 use mathlib.Core.Bool.{Bool, true, false, cond}
 use mathlib.Core.List.{List}
+use mathlib.Core.Option.{some}
 use Prim.Native.Nat.{ℕ, zero, suc, _+_, _-_, _*_, _/_, _%_, _^_, _<_}
 use native.Mathlib.Nat.{lt-of-lt-of-le, pow-le-pow-right}
 use native.Mathlib.Omega.{arith}
 use lib.ListN.{getD}
 use lib.Seq.{set-getD}
 use Rattle.colour.specs.Convert.{converted}
-use Rattle.surface.specs.Place.{byteOf, readBytes, writeBytes, readPx, writePx}
+use Rattle.surface.specs.Place.{byteOf, readBytes, writeBytes, readPx, one, differ}
 use Rattle.surface.specs.Asked.{Held}
 use Rattle.surface.specs.Pixels.{px}
 use Rattle.surface.proofs.Bytes.{read-fits}
-use Rattle.surface.proofs.Run.{in-rows, pixel-held, run-pixel, read-run, write-run}
-use Rattle.paint.specs.Tally.{tally}
-use Rattle.paint.specs.Paint.{state, dab, nth}
+use Rattle.surface.proofs.Run.{in-rows, pixel-held, pixel-stored, run-pixel, read-run}
+use Rattle.paint.specs.declared.Tally.{Tally}
+use Rattle.paint.specs.Tally.{tally, noted}
+use Rattle.paint.specs.Paint.{tallied, dab, nth}
 use Rattle.paint.proofs.Frame.{Bytes}
+use Rattle.paint.proofs.Turns.{dab-stored}
 use Rattle.paint.proofs.Loops.{RowLeft, row-goes-on}
 use Rattle.straight.specs.declared.Straight.{Straight}
 use Rattle.straight.specs.Straight.{keyed, straightValue, straightGiving, copied}
@@ -65,22 +68,25 @@ module _ (t : Straight) (from to d s v : ℕ) (m : List ℕ) (formats : Formats 
       p ∙ ap₂ (λ (n i : ℕ). writeBytes (λ k. d + k) 0 n i m) (formats .target)
       (low ∙ ap (λ (i : ℕ). i % 2 ^ 32) (c ∙ ap₂ (λ (f g : ℕ). converted f g v) (formats .source) (formats .target)) ∙ by-key false e)
 
--- ---- the same, of pixels whose bytes begin there
-pub copied-px : (t : Straight) → t .target .tiled ≡ false → t .from .tiled ≡ false → (d s x y x′ y′ : ℕ) (m : List ℕ) → d ≡ byteOf (t .target) x y 0 → s ≡ byteOf (t .from) x′ y′ 0
-    → copied t d s m ≡ writePx m (t .target) x y (straightValue t (readPx m (t .target) x y) (readPx m (t .from) x′ y′))
+-- ---- the same, of the pixel whose bytes begin there: it is given its value, and told
+pub copied-px : (t : Straight) → t .target .tiled ≡ false → t .from .tiled ≡ false → (x y x′ y′ : ℕ) {to d s : ℕ} → to ≡ t .target .bytes → d ≡ byteOf (t .target) x y 0 → s ≡ byteOf (t .from) x′ y′ 0
+    → (m : List ℕ) (n : Tally) {m′ : List ℕ} {b : Bool} {c : ℕ} → (m′ ≡ copied t d s m) × (b ≡ differ (λ k. d + k) to m m′) → c ≡ one b
+    → tallied m′ (noted 1 c n) ≡ dab (t .target) (px x y) (some (straightValue t (readPx m (t .target) x y) (readPx m (t .from) x′ y′))) (tallied m n)
 unfolding copied
-copied-px t to from d s x y x′ y′ m e f =
-    write-run (t .target) (in-rows to) x y d e (straightValue t (readBytes m (λ k. d + k) 0 (t .target .bytes)) (readBytes m (λ k. s + k) 0 (t .from .bytes))) m
-    ∙ ap₂ (λ (old v : ℕ). writePx m (t .target) x y (straightValue t old v)) (read-run (t .target) (in-rows to) x y d e m) (read-run (t .from) (in-rows from) x′ y′ s f m)
+copied-px t flat fromFlat x y x′ y′ {d = d} {s} format e f m n {m′} copy told =
+    let value = straightValue t (readBytes m (λ k. d + k) 0 (t .target .bytes)) (readBytes m (λ k. s + k) 0 (t .from .bytes)) in
+    let width = ap (λ (w : ℕ). differ (λ k. d + k) w m m′) format in
+    rw (sym (read-run (t .target) (in-rows flat) x y d e m), sym (read-run (t .from) (in-rows fromFlat) x′ y′ s f m))
+    (dab-stored m n (t .target) (px x y) value (pixel-stored (t .target) (in-rows flat) x y d e value m (copy .0, copy .1 ∙ width)) told refl)
 
 -- a turn's number, counted from another place
 pub nth-from : (b : Bool) (at n i : ℕ) → at + nth b 0 n i ≡ nth b at n i
 nth-from false at n i = omega arith
 nth-from true at n i = omega arith
 
--- ---- the loop over row j: i of its pixels were given theirs
-abbrev pub Copying : Straight → ℕ → ℕ → Bool → List ℕ → ℕ → List ℕ → Type 0
-Copying t w j back m₀ i m = RowLeft (t .target) (λ p now. straightGiving t now p) back (t .x) w (t .y + j) m₀ (tally 0) i m (tally i)
+-- ---- the loop over row j: i of its pixels were given theirs, and c of them changed
+abbrev pub Copying : Straight → ℕ → ℕ → Bool → List ℕ → ℕ → ℕ → List ℕ → Type 0
+Copying t w j back m₀ i c m = RowLeft (t .target) (λ p now. straightGiving t now p) back (t .x) w (t .y + j) m₀ (tally 0 0) i m (tally i c)
 
 -- ---- pixel number k of row j
 module _ {t : Straight} {w j len from to d s : ℕ} (row : RowCopies t w j len) (run : RunAt t from to d s j) (k : ℕ) where
@@ -98,22 +104,16 @@ module _ {t : Straight} {w j len from to d s : ℕ} (row : RowCopies t w j len) 
     read = subst (λ (b : ℕ). Held (s + k * from) b len) (sym (run .formats .source)) (pixel-held (in-rows (row .fromFlat)) (row .onSource k h) (s + k * from) source-at);
   }
 
-  -- the pixel whose bytes were copied is given its value
-  pixel-given : (count : ℕ) (m m′ : List ℕ) → m′ ≡ copied t (d + k * to) (s + k * from) m
-      → state m′ (count + 1) ≡ dab (t .target) (px (t .x + k) (t .y + j)) (straightGiving t m (px (t .x + k) (t .y + j))) (state m count)
-  unfolding dab straightGiving
-  pixel-given count m m′ e =
+  -- its turn, in the loop over the row
+  pub row-copies : {back b : Bool} {i c r : ℕ} {m₀ m m′ : List ℕ} → Copying t w j back m₀ i c m → i < w → k ≡ nth back 0 w i
+      → (m′ ≡ copied t (d + k * to) (s + k * from) m) × (b ≡ differ (λ n. d + k * to + n) to m m′) → r ≡ one b → Copying t w j back m₀ (i + 1) (c + r) m′
+  unfolding straightGiving
+  row-copies {back} {i = i} {c} {m = m} left more e copy told =
       let column : k ≡ t .x + k - t .x = omega arith in
       let line : j ≡ t .y + j - t .y = omega arith in
-      ap (λ (left : List ℕ). state left (count + 1))
-      (e ∙ copied-px t (row .flat) (row .fromFlat) (d + k * to) (s + k * from) (t .x + k) (t .y + j) (t .sx + (t .x + k - t .x)) (t .sy + (t .y + j - t .y)) m target-at
-      (source-at ∙ ap₂ (λ (a b : ℕ). byteOf (t .from) (t .sx + a) (t .sy + b) 0) column line))
-
-  -- its turn, in the loop over the row
-  pub row-copies : {back : Bool} {i : ℕ} {m₀ m m′ : List ℕ} → Copying t w j back m₀ i m → i < w → k ≡ nth back 0 w i → m′ ≡ copied t (d + k * to) (s + k * from) m
-      → Copying t w j back m₀ (i + 1) m′
-  row-copies {back} {i} {m = m} {m′} left more e copy =
-      row-goes-on left (t .x + k) more (ap (λ (r : ℕ). t .x + r) e ∙ nth-from back (t .x) w i) (pixel-given i m m′ copy) refl
+      row-goes-on left (t .x + k) more (ap (λ (r : ℕ). t .x + r) e ∙ nth-from back (t .x) w i)
+      (copied-px t (row .flat) (row .fromFlat) (t .x + k) (t .y + j) (t .sx + (t .x + k - t .x)) (t .sy + (t .y + j - t .y)) (run .formats .target) target-at
+      (source-at ∙ ap₂ (λ (a b : ℕ). byteOf (t .from) (t .sx + a) (t .sy + b) 0) column line) m (tally i c) copy told) refl
 
 -- ---- the rows of a rectangle
 pub can-row : {t : Straight} {w h len : ℕ} → CanCopy t w h len → (j : ℕ) → j < h → RowCopies t w j len

@@ -5,6 +5,7 @@ ghost use mathlib.Core.Path.{_≡_};
 ghost use mathlib.Core.Bool.{true, false};
 ghost use Prim.Native.Nat.{_+_, _*_, _^_, _<_};
 ghost use lib.ListN.{length};
+ghost use Rattle.surface.specs.Place.{differ};
 ghost use Rattle.surface.specs.Pixels.{across, rect};
 ghost use Rattle.paint.specs.Paint.{state, tallied, paint};
 ghost use Rattle.straight.specs.Straight.{keyed, straightly, copied};
@@ -42,37 +43,49 @@ pub fn pixel_at(first: usize, bytes: u32, k: u32) -> usize
     first + (k as usize) * (bytes as usize)
 }
 
-// The pixel whose `to` bytes begin at d, from the source whose `from` bytes begin at s.
-pub fn straight_pixel(mem: &mut [u8], t: Straight, from: u32, to: u32, d: usize, s: usize)
+// The pixel whose `to` bytes begin at d, from the source whose `from` bytes begin at s; whether it changes.
+pub fn straight_pixel(mem: &mut [u8], t: Straight, from: u32, to: u32, d: usize, s: usize) -> bool
     requires { ⌜ PixelCopies t from to d s (length (now mem)) ⌝ }
-    ensures { λ _. ⌜ now (mem .exit) ≡ copied t d s (now (mem .entry)) ⌝ }
+    ensures { λ r. ⌜ (now (mem .exit) ≡ copied t d s (now (mem .entry))) × (r ≡ differ (λ k. d + k) to (now (mem .entry)) (now (mem .exit))) ⌝ }
 {
     let v = surface::get_bytes(mem, s, from);
     if is_keyed(t, from, v) {
-        return;
+        return false;
     }
-    surface::put_bytes(mem, d, to, colour::convert_by_rule(from, to, v));
+    surface::store_bytes(mem, d, to, colour::convert_by_rule(from, to, v))
 }
 
 // The same of a copy without a key.
-pub fn plain_pixel(mem: &mut [u8], t: Straight, from: u32, to: u32, d: usize, s: usize)
+pub fn plain_pixel(mem: &mut [u8], t: Straight, from: u32, to: u32, d: usize, s: usize) -> bool
     requires { ⌜ PixelCopies t from to d s (length (now mem)) × (t .key ≡ false) ⌝ }
-    ensures { λ _. ⌜ now (mem .exit) ≡ copied t d s (now (mem .entry)) ⌝ }
+    ensures { λ r. ⌜ (now (mem .exit) ≡ copied t d s (now (mem .entry))) × (r ≡ differ (λ k. d + k) to (now (mem .entry)) (now (mem .exit))) ⌝ }
 {
     let value = surface::get_bytes(mem, s, from);
-    surface::put_bytes(mem, d, to, colour::convert_by_rule(from, to, value));
+    surface::store_bytes(mem, d, to, colour::convert_by_rule(from, to, value))
 }
 
-// The w pixels of row j, of `to` bytes each from d on, and their sources, of `from` bytes each from s on: from the left.
-fn straight_up(mem: &mut [u8], t: Straight, from: u32, to: u32, d: usize, s: usize, w: u32, j: u32)
+// The w pixels of row j, of `to` bytes each from d on, and their sources, of `from` bytes each from s on: from the left; how many change.
+fn straight_up(
+    mem: &mut [u8],
+    t: Straight,
+    from: u32,
+    to: u32,
+    d: usize,
+    s: usize,
+    w: u32,
+    j: u32,
+) -> u32
     requires { ⌜ RowCopies t w j (length (now mem)) × RunAt t from to d s j ⌝ }
-    ensures { λ _. ⌜ state (now (mem .exit)) w ≡ paint (t .target) (straightly t (across false (t .x) w (t .y + j))) (state (now (mem .entry)) 0) ⌝ }
+    ensures { λ r. ⌜ state (now (mem .exit)) w r ≡ paint (t .target) (straightly t (across false (t .x) w (t .y + j))) (state (now (mem .entry)) 0 0) ⌝ }
 {
+    let mut r = 0;
     let mut i = 0;
     while i < w {
-        straight_pixel(mem, t, from, to, pixel_at(d, to, i), pixel_at(s, from, i));
+        let changed = straight_pixel(mem, t, from, to, pixel_at(d, to, i), pixel_at(s, from, i));
+        r += surface::one(changed);
         i += 1;
     }
+    r
 }
 
 // The same, from the right.
@@ -85,15 +98,18 @@ fn straight_down(
     s: usize,
     w: u32,
     j: u32,
-)
+) -> u32
     requires { ⌜ RowCopies t w j (length (now mem)) × RunAt t from to d s j ⌝ }
-    ensures { λ _. ⌜ state (now (mem .exit)) w ≡ paint (t .target) (straightly t (across true (t .x) w (t .y + j))) (state (now (mem .entry)) 0) ⌝ }
+    ensures { λ r. ⌜ state (now (mem .exit)) w r ≡ paint (t .target) (straightly t (across true (t .x) w (t .y + j))) (state (now (mem .entry)) 0 0) ⌝ }
 {
+    let mut r = 0;
     let mut i = w;
     while 0 < i {
         i -= 1;
-        straight_pixel(mem, t, from, to, pixel_at(d, to, i), pixel_at(s, from, i));
+        let changed = straight_pixel(mem, t, from, to, pixel_at(d, to, i), pixel_at(s, from, i));
+        r += surface::one(changed);
     }
+    r
 }
 
 // The same, one way or the other.
@@ -107,21 +123,20 @@ fn straight_run(
     w: u32,
     j: u32,
     back: bool,
-)
+) -> u32
     requires { ⌜ RowCopies t w j (length (now mem)) × RunAt t from to d s j ⌝ }
-    ensures { λ _. ⌜ state (now (mem .exit)) w ≡ paint (t .target) (straightly t (across back (t .x) w (t .y + j))) (state (now (mem .entry)) 0) ⌝ }
+    ensures { λ r. ⌜ state (now (mem .exit)) w r ≡ paint (t .target) (straightly t (across back (t .x) w (t .y + j))) (state (now (mem .entry)) 0 0) ⌝ }
 {
     if back {
-        straight_down(mem, t, from, to, d, s, w, j);
-        return;
+        return straight_down(mem, t, from, to, d, s, w, j);
     }
-    straight_up(mem, t, from, to, d, s, w, j);
+    straight_up(mem, t, from, to, d, s, w, j)
 }
 
 // Row j, with loops of their own for each pair of formats that is allowed.
-fn straight_row(mem: &mut [u8], t: Straight, w: u32, j: u32, back: bool)
+fn straight_row(mem: &mut [u8], t: Straight, w: u32, j: u32, back: bool) -> u32
     requires { ⌜ RowCopies t w j (length (now mem)) ⌝ }
-    ensures { λ _. ⌜ state (now (mem .exit)) w ≡ paint (t .target) (straightly t (across back (t .x) w (t .y + j))) (state (now (mem .entry)) 0) ⌝ }
+    ensures { λ r. ⌜ state (now (mem .exit)) w r ≡ paint (t .target) (straightly t (across back (t .x) w (t .y + j))) (state (now (mem .entry)) 0 0) ⌝ }
 {
     let from = t.from.bytes;
     let to = t.target.bytes;
@@ -153,14 +168,18 @@ pub fn straight_rows(
     toTop: bool,
 ) -> Tally
     requires { ⌜ CanCopy t w h (length (now mem)) ⌝ }
-    ensures { λ r. ⌜ tallied (now (mem .exit)) r ≡ paint (t .target) (straightly t (rect toLeft toTop (t .x) (t .y) w h)) (state (now (mem .entry)) 0) ⌝ }
+    ensures { λ r. ⌜ tallied (now (mem .exit)) r ≡ paint (t .target) (straightly t (rect toLeft toTop (t .x) (t .y) w h)) (state (now (mem .entry)) 0 0) ⌝ }
 {
+    let mut changed = 0;
     let mut i = 0;
     while i < h {
         let j = paint::place(toTop, 0, h, i);
-        straight_row(mem, t, w, j, toLeft);
+        changed += straight_row(mem, t, w, j, toLeft);
         i += 1;
     }
     let count = w * h;
-    Tally { count: count }
+    Tally {
+        count: count,
+        changed: changed,
+    }
 }

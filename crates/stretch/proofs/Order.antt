@@ -46,23 +46,23 @@ module _ {t : Stretch} {x y w h len : ℕ} (can : CanStretch t x y w h len) wher
   not-read p q i j a r b =
       false≢true (sym (can .apart) ∙ spans-meet (t .ink .target) (t .from) all (map (taken t) all) p (taken t q) a i (Memᴰ·map (taken t) j) b r)
 
-  pub in-turn : (pattern m : List ℕ) → paint (t .ink .target) (stretchedInTurn t pattern all) (state m 0) ≡ paint (t .ink .target) (stretched t pattern m all) (state m 0)
+  pub in-turn : (pattern m : List ℕ) → paint (t .ink .target) (stretchedInTurn t pattern all) (state m 0 0) ≡ paint (t .ink .target) (stretched t pattern m all) (state m 0 0)
   in-turn pattern m =
-      in-place (t .ink .target) (can .colour .some) (stretchGiving t pattern) (Reads t) (stretch-local t pattern (can .colour .some)) all m (tally 0) (pairs-all all not-read)
+      in-place (t .ink .target) (can .colour .some) (stretchGiving t pattern) (Reads t) (stretch-local t pattern (can .colour .some)) all m (tally 0 0) (pairs-all all not-read)
 
 -- a stretch whose pixels get their sources, or stay as they are where the source matches the key
 pub straight-turn : (t : Stretch) → straight (openTask t) ≡ true → (pattern m : List ℕ) (ps : List Px)
-    → paint (t .ink .target) (straightly t ps) (state m 0) ≡ paint (t .ink .target) (stretchedInTurn t pattern ps) (state m 0)
+    → paint (t .ink .target) (straightly t ps) (state m 0 0) ≡ paint (t .ink .target) (stretchedInTurn t pattern ps) (state m 0 0)
 unfolding pixelTask
 straight-turn t e pattern m ps =
     sym (paint-same (t .ink .target) (λ p now. giving (pixelTask t p) pattern now now p) (λ p now. straightGiving (straightOf (pixelTask t p)) now p) ps
-    (λ p i now. straight-gives (pixelTask t p) e pattern now p) (state m 0))
+    (λ p i now. straight-gives (pixelTask t p) e pattern now p) (state m 0 0))
 
 -- a rectangle of no width or no height has nothing to paint
-pub nothing-left : (t : Stretch) (pattern m : List ℕ) (x y w h : ℕ) → (0 < w → 0 < h → ⊥) → state m 0 ≡ paint (t .ink .target) (stretched t pattern m (rect false false x y w h)) (state m 0)
+pub nothing-left : (t : Stretch) (pattern m : List ℕ) (x y w h : ℕ) → (0 < w → 0 < h → ⊥) → state m 0 0 ≡ paint (t .ink .target) (stretched t pattern m (rect false false x y w h)) (state m 0 0)
 unfolding paint
 nothing-left t pattern m x y w h none = no-pixel (rect false false x y w h) (λ p i. let r = in-rect false false x y w h p i in none (omega arith) (omega arith))
   where
-    no-pixel : (ps : List Px) → ((p : Px) → In p ps → ⊥) → state m 0 ≡ paint (t .ink .target) (stretched t pattern m ps) (state m 0)
+    no-pixel : (ps : List Px) → ((p : Px) → In p ps → ⊥) → state m 0 0 ≡ paint (t .ink .target) (stretched t pattern m ps) (state m 0 0)
     no-pixel [] f = refl
     no-pixel (p ∷ ps) f = absurd (f p (List·Memᴰ·head refl))

@@ -7,13 +7,12 @@ use mathlib.Core.Option.{Option}
 use Prim.Native.Nat.{ℕ, _+_, _-_, _*_, _<_}
 use native.Mathlib.Omega.{arith}
 use borrow.Author.Tests.{not-true}
-use Rattle.surface.specs.Place.{byteOf}
+use Rattle.surface.specs.Place.{byteOf, one, differ}
 use Rattle.surface.specs.Asked.{Held, OnColour}
-use Rattle.surface.specs.Pixels.{Px, px, across, origin}
+use Rattle.surface.specs.Pixels.{Px, origin}
 use Rattle.surface.proofs.OnLaws.{and-left, and-right}
 use Rattle.surface.proofs.Run.{in-rows, pixel-held, run-pixel}
 use Rattle.paint.specs.Tally.{tally}
-use Rattle.paint.specs.Paint.{state, dab}
 use Rattle.paint.proofs.Loops.{RowLeft, row-goes-on}
 use Rattle.straight.specs.Straight.{straightGiving, copied}
 use Rattle.straight.specs.Asked.{PixelCopies}
@@ -48,12 +47,12 @@ run-here {t} source target some first sourceFirst row = record {
   sourceFirst = sourceFirst ∙ ap (λ (k : ℕ). byteOf (t .from) 0 k 0) row;
 }
 
--- the loop over a row, which writes a pixel a turn
+-- the loop over a row, which writes a pixel a turn; c is how many changed
 abbrev pub straightlyAt : Stretch → Px → List ℕ → Option ℕ
 straightlyAt t p now = straightGiving (straightOf (pixelTask t p)) now p
 
-abbrev pub Copying : Stretch → ℕ → ℕ → ℕ → List ℕ → ℕ → List ℕ → Type 0
-Copying t x w y m₀ i m = RowLeft (t .ink .target) (straightlyAt t) false x w y m₀ (tally 0) i m (tally i)
+abbrev pub Copying : Stretch → ℕ → ℕ → ℕ → List ℕ → ℕ → ℕ → List ℕ → Type 0
+Copying t x w y m₀ i c m = RowLeft (t .ink .target) (straightlyAt t) false x w y m₀ (tally 0 0) i m (tally i c)
 
 -- ---- pixel number i of row y: its bytes, and its source's
 module _ {t : Stretch} {x y w len from to d s : ℕ} (row : RowTakes t x y w len) (run : RunAt t from to d s x y) (i : ℕ) where
@@ -79,19 +78,16 @@ module _ {t : Stretch} {x y w len from to d s : ℕ} (row : RowTakes t x y w len
         read = subst (λ (b : ℕ). Held (s + column * from) b len) (sym (run .source)) (pixel-held (in-rows (run .flat .from)) on (s + column * from) source-at);
       }
 
-  pixel-given : (count : ℕ) (m m′ : List ℕ) → m′ ≡ copied (straightOf (openTask t)) (d + i * to) (s + column * from) m
-      → state m′ (count + 1) ≡ dab (t .ink .target) (px (x + i) y) (straightGiving (straightOf (pixelTask t (px (x + i) y))) m (px (x + i) y)) (state m count)
-  unfolding dab straightGiving straightOf pixelTask takenAt
-  pixel-given count m m′ e =
+  -- its turn, in the loop over the row
+  pub row-copies : {c r : ℕ} {b : Bool} {m₀ m m′ : List ℕ} {walk : Walk} → Copying t x w y m₀ i c m → walk ≡ walkAt (t .columns) (origin + (x + i)) → i < w
+      → (m′ ≡ copied (straightOf (openTask t)) (d + i * to) (s + (walk .at - origin) * from) m) × (b ≡ differ (λ k. d + i * to + k) to m m′) → r ≡ one b
+      → Copying t x w y m₀ (i + 1) (c + r) m′
+  unfolding straightGiving straightOf pixelTask takenAt
+  row-copies {c} {m = m} left here more copy told =
+      let place = walk-place (t .columns) (origin + (x + i)) here in
       let across : column ≡ column + (x + i - (x + i)) = omega arith in
       let down : rowOf t y ≡ rowOf t y + (y - y) = omega arith in
-      ap (λ (left : List ℕ). state left (count + 1))
-      (e ∙ copied-px (straightOf (openTask t)) (run .flat .target) (run .flat .from) (d + i * to) (s + column * from) (x + i) y (column + (x + i - (x + i))) (rowOf t y + (y - y)) m target-at
-      (source-at ∙ ap₂ (λ (a b : ℕ). byteOf (t .from) a b 0) across down))
-
-  -- its turn, in the loop over the row
-  pub row-copies : {m₀ m m′ : List ℕ} {walk : Walk} → Copying t x w y m₀ i m → walk ≡ walkAt (t .columns) (origin + (x + i)) → i < w
-      → m′ ≡ copied (straightOf (openTask t)) (d + i * to) (s + (walk .at - origin) * from) m → Copying t x w y m₀ (i + 1) m′
-  row-copies {m = m} {m′} left here more copy =
-      let place = walk-place (t .columns) (origin + (x + i)) here in
-      row-goes-on left (x + i) more refl (pixel-given i m m′ (copy ∙ ap (λ (k : ℕ). copied (straightOf (openTask t)) (d + i * to) (s + (k - origin) * from) m) place)) refl
+      row-goes-on left (x + i) more refl
+      (copied-px (straightOf (openTask t)) (run .flat .target) (run .flat .from) (x + i) y (column + (x + i - (x + i))) (rowOf t y + (y - y)) (run .target) target-at
+      (source-at ∙ ap₂ (λ (a b : ℕ). byteOf (t .from) a b 0) across down) m (tally i c)
+      (copy .0 ∙ ap (λ (k : ℕ). copied (straightOf (openTask t)) (d + i * to) (s + (k - origin) * from) m) place, copy .1) told) refl

@@ -9,6 +9,7 @@ ghost use mathlib.Core.Path.{_≡_};
 ghost use mathlib.Core.Bool.{false};
 ghost use Prim.Native.Nat.{_+_, _<_};
 ghost use lib.ListN.{length};
+ghost use Rattle.surface.specs.Place.{differ};
 ghost use Rattle.surface.specs.Pixels.{px, across, rect};
 ghost use Rattle.paint.specs.Asked.{Room};
 ghost use Rattle.paint.specs.Paint.{state, tallied, paint};
@@ -40,21 +41,28 @@ fn task_of(t: Stretch) -> Task
     }
 }
 
-// The pixel whose `to` bytes begin at d, from the source whose `from` bytes begin at s; `keyed` where there is a source key.
-fn straight_pixel(mem: &mut [u8], t: Stretch, keyed: bool, from: u32, to: u32, d: usize, s: usize)
+// The pixel whose `to` bytes begin at d, from the source whose `from` bytes begin at s; `keyed` where there is a source key. Whether it changes.
+fn straight_pixel(
+    mem: &mut [u8],
+    t: Stretch,
+    keyed: bool,
+    from: u32,
+    to: u32,
+    d: usize,
+    s: usize,
+) -> bool
     requires { ⌜ PixelCopies (straightOf (openTask t)) from to d s (length (now mem)) × (keyed ≡ t .ink .srcKey) ⌝ }
-    ensures { λ _. ⌜ now (mem .exit) ≡ copied (straightOf (openTask t)) d s (now (mem .entry)) ⌝ }
+    ensures { λ r. ⌜ (now (mem .exit) ≡ copied (straightOf (openTask t)) d s (now (mem .entry))) × (r ≡ differ (λ k. d + k) to (now (mem .entry)) (now (mem .exit))) ⌝ }
 {
     let k = rect::straight_of(task_of(t));
     if keyed {
-        straight::straight_pixel(mem, k, from, to, d, s);
-        return;
+        return straight::straight_pixel(mem, k, from, to, d, s);
     }
-    straight::plain_pixel(mem, k, from, to, d, s);
+    straight::plain_pixel(mem, k, from, to, d, s)
 }
 
 // The w pixels of row y from column x on, of `to` bytes each from d on: each gets its source, of `from` bytes in the row that begins at s, or stays as it is
-// where the source matches the key.
+// where the source matches the key; how many change.
 fn straight_across(
     mem: &mut [u8],
     t: Stretch,
@@ -67,33 +75,34 @@ fn straight_across(
     x: u32,
     y: u32,
     w: u32,
-)
+) -> u32
     requires { ⌜ RowTakes t x y w (length (now mem)) × (ColumnsAt t columns x × (RunAt t from to d s x y × (keyed ≡ t .ink .srcKey))) ⌝ }
-    ensures { λ _. ⌜ state (now (mem .exit)) w ≡ paint (t .ink .target) (straightly t (across false x w y)) (state (now (mem .entry)) 0) ⌝ }
+    ensures { λ r. ⌜ state (now (mem .exit)) w r ≡ paint (t .ink .target) (straightly t (across false x w y)) (state (now (mem .entry)) 0 0) ⌝ }
 {
     let mut walk = columns;
+    let mut r = 0;
     let mut i = 0;
     while i < w {
         let at = straight::pixel_at(d, to, i);
         let source = straight::pixel_at(s, from, walk.at - 16384);
-        straight_pixel(mem, t, keyed, from, to, at, source);
+        r += surface::one(straight_pixel(mem, t, keyed, from, to, at, source));
         walk = scale::next(walk);
         i += 1;
     }
+    r
 }
 
 // Row y, without a key in loops of their own for one format and for 16 and 32 bits; its source is row sy.
-fn straight_row(mem: &mut [u8], t: Stretch, columns: Walk, sy: u32, x: u32, y: u32, w: u32)
+fn straight_row(mem: &mut [u8], t: Stretch, columns: Walk, sy: u32, x: u32, y: u32, w: u32) -> u32
     requires { ⌜ RowTakes t x y w (length (now mem)) × (ColumnsAt t columns x × ((sy ≡ rowOf t y) × ((0 < t .from .bytes) × Flat (openTask t)))) ⌝ }
-    ensures { λ _. ⌜ state (now (mem .exit)) w ≡ paint (t .ink .target) (straightly t (across false x w y)) (state (now (mem .entry)) 0) ⌝ }
+    ensures { λ r. ⌜ state (now (mem .exit)) w r ≡ paint (t .ink .target) (straightly t (across false x w y)) (state (now (mem .entry)) 0 0) ⌝ }
 {
     let from = t.from.bytes;
     let to = t.ink.target.bytes;
     let d = surface::byte_of(t.ink.target, x, y, 0);
     let s = surface::byte_of(t.from, 0, sy, 0);
     if t.ink.srcKey {
-        straight_across(mem, t, columns, true, from, to, d, s, x, y, w);
-        return;
+        return straight_across(mem, t, columns, true, from, to, d, s, x, y, w);
     }
     let pair = from * 8 + to;
     match pair {
@@ -119,17 +128,21 @@ fn straight_rows(
     h: u32,
 ) -> Tally
     requires { ⌜ Begins t columns rows x y w h (length (now mem)) × ((0 < t .from .bytes) × Flat (openTask t)) ⌝ }
-    ensures { λ r. ⌜ tallied (now (mem .exit)) r ≡ paint (t .ink .target) (straightly t (rect false false x y w h)) (state (now (mem .entry)) 0) ⌝ }
+    ensures { λ r. ⌜ tallied (now (mem .exit)) r ≡ paint (t .ink .target) (straightly t (rect false false x y w h)) (state (now (mem .entry)) 0 0) ⌝ }
 {
     let mut walk = rows;
+    let mut changed = 0;
     let mut j = 0;
     while j < h {
-        straight_row(mem, t, columns, walk.at - 16384, x, y + j, w);
+        changed += straight_row(mem, t, columns, walk.at - 16384, x, y + j, w);
         walk = scale::next(walk);
         j += 1;
     }
     let count = w * h;
-    Tally { count: count }
+    Tally {
+        count: count,
+        changed: changed,
+    }
 }
 
 // The source at (sx, sy); `range` is that of the source key.
@@ -241,7 +254,7 @@ fn mixed_rows(
     h: u32,
 ) -> Tally
     requires { ⌜ Begins t columns rows x y w h (length (now mem)) ⌝ }
-    ensures { λ r. ⌜ tallied (now (mem .exit)) r ≡ paint (t .ink .target) (stretchedInTurn t pattern (rect false false x y w h)) (state (now (mem .entry)) 0) ⌝ }
+    ensures { λ r. ⌜ tallied (now (mem .exit)) r ≡ paint (t .ink .target) (stretchedInTurn t pattern (rect false false x y w h)) (state (now (mem .entry)) 0 0) ⌝ }
 {
     let ink = t.ink;
     let source = keys::range_of(t.from.bytes, ink.srcMin, ink.srcMax);
@@ -249,7 +262,10 @@ fn mixed_rows(
     let masks = plan::masks_of(ink);
     let blank = plan::quads_of(masks, [0u32; 8]);
     let mut walk = rows;
-    let mut n = Tally { count: 0 };
+    let mut n = Tally {
+        count: 0,
+        changed: 0,
+    };
     let mut j = 0;
     while j < h {
         n = mixed_row(
@@ -284,13 +300,19 @@ pub fn paint_stretch(
     h: u32,
 ) -> Tally
     requires { ⌜ CanStretch t x y w h (length (now mem)) ⌝ }
-    ensures { λ r. ⌜ tallied (now (mem .exit)) r ≡ paint (t .ink .target) (stretched t pattern (now (mem .entry)) (rect false false x y w h)) (state (now (mem .entry)) 0) ⌝ }
+    ensures { λ r. ⌜ tallied (now (mem .exit)) r ≡ paint (t .ink .target) (stretched t pattern (now (mem .entry)) (rect false false x y w h)) (state (now (mem .entry)) 0 0) ⌝ }
 {
     if w == 0 {
-        return Tally { count: 0 };
+        return Tally {
+            count: 0,
+            changed: 0,
+        };
     }
     if h == 0 {
-        return Tally { count: 0 };
+        return Tally {
+            count: 0,
+            changed: 0,
+        };
     }
     let columns = scale::start(t.columns, 16384 + x);
     let rows = scale::start(t.rows, 16384 + y);

@@ -1,9 +1,10 @@
 -- Laws of drawing by address: one point and the others, and that a line inside the clip whose points get their source is drawn so.
 -- Assumes nothing.
-use mathlib.Core.Path.{_≡_, refl, sym, ap₂, subst, _∙_}
-use mathlib.Core.Bool.{true, not, _&&_}
+use mathlib.Core.Path.{_≡_, refl, sym, ap, ap₂, subst, _∙_}
+use mathlib.Core.Bool.{Bool, true, false, cond, not, _&&_}
+use mathlib.Core.Option.{Option, some}
 use mathlib.Core.List.{List, [], _∷_, _++_}
-use Prim.Native.Nat.{ℕ, zero, suc, _+_, _-_, _^_, _<_, _≤_}
+use Prim.Native.Nat.{ℕ, zero, suc, _+_, _-_, _/_, _%_, _^_, _<_, _≤_}
 use native.Mathlib.Decide.{ℕ-discrete}
 use native.Mathlib.Omega.{arith}
 use borrow.Author.Tests.{not-true}
@@ -17,16 +18,17 @@ use Rattle.paint.specs.declared.Clip.{Clip}
 use Rattle.ink.specs.declared.Ink.{Ink}
 use Rattle.paint.specs.Paint.{Touch, touch}
 use Rattle.ink.specs.Pattern.{patternValue}
-use Rattle.paint.specs.Mix.{bitSource, placed, direct, sourced}
+use Rattle.paint.specs.Mix.{source, bitSource, placed, direct, sourced}
 use Rattle.paint.specs.Clip.{inClip, pixelAt}
 use Rattle.paint.proofs.ClipLaws.{in-clip, clip-in}
 use Rattle.line.specs.declared.Line.{Line}
 use Rattle.line.specs.declared.Pen.{Pen}
 use Rattle.line.specs.Line.{longer, pointAt, pointsFrom, pointCount, points}
-use Rattle.line.specs.Stipple.{stippleBit, after}
+use Rattle.line.specs.declared.Point.{Point}
+use Rattle.line.specs.Stipple.{bitNumber, stepped, stippleBit, after, styleAfter}
 use Rattle.line.specs.Draw.{coveredPoints, lineTouches}
 use Rattle.line.specs.Asked.{Drawable}
-use Rattle.strokes.specs.Walk.{walkTouches, whole, walks}
+use Rattle.strokes.specs.Walk.{plainTouches, walkTouches, whole, walks}
 use Rattle.strokes.specs.Asked.{Walkable}
 use Rattle.line.proofs.Sides.{count-le}
 use Rattle.line.proofs.PointLaws.{point-box, from-cons, from-none}
@@ -43,6 +45,39 @@ module _ (ink : Ink) (pen : Pen) (l : Line) (i e style : ℕ) where
   pub walk-none : e ≤ i → walkTouches ink pen style (pointsFrom l i (e - i)) ≡ []
   unfolding walkTouches
   walk-none h = rw (from-none l i e h)
+
+-- the same where each is given one value
+module _ (v : ℕ) (l : Line) (i e : ℕ) where
+  pub plain-left : i < e → plainTouches v (pointsFrom l i (e - i)) ≡ plainTouches v (pointAt l i ∷ []) ++ plainTouches v (pointsFrom l (i + 1) (e - (i + 1)))
+  plain-left h = ap (plainTouches v) (from-cons l i e h)
+
+  pub plain-none : e ≤ i → plainTouches v (pointsFrom l i (e - i)) ≡ []
+  plain-none h = ap (plainTouches v) (from-none l i e h)
+
+-- without a stipple each is given colorFore, and the stipple's word stays
+module _ (ink : Ink) (pen : Pen) (no : pen .stippled ≡ false) where
+  given : (clear : Bool) → some (ink .fore) ≡ sourced (source (ink .fore) false (clear && false))
+  given true = refl
+  given false = refl
+
+  fore-given : (style : ℕ) → some (ink .fore) ≡ sourced (bitSource ink (stippleBit pen style))
+  unfolding stippleBit bitSource
+  fore-given style = given (ink .clear) ∙ ap (λ (b : Bool). sourced (bitSource ink (cond b (pen .stipple / 2 ^ bitNumber style % 2) 1))) (sym no)
+
+  pub plain-walk : (style : ℕ) (ps : List Point) → plainTouches (ink .fore) ps ≡ walkTouches ink pen style ps
+  unfolding walkTouches
+  plain-walk style [] = refl
+  plain-walk style (p ∷ ps) =
+      ap₂ {A = Touch} {B = List Touch} (λ t ts. t ∷ ts) (ap (λ (o : Option ℕ). touch (pixelAt (p .x) (p .y)) (λ m. o)) (fore-given style)) (plain-walk (after pen style) ps)
+
+  style-stays : (style : ℕ) → style ≡ after pen style
+  unfolding after
+  style-stays style = ap (λ (b : Bool). cond b (stepped style) style) (sym no)
+
+  pub plain-style : (n style : ℕ) → style ≡ styleAfter pen n style
+  unfolding styleAfter
+  plain-style zero style = refl
+  plain-style (suc n) style = style-stays style ∙ plain-style n (after pen style)
 
 -- ---- a line whose ends are inside the clip
 module _ (c : Clip) (l : Line) (start : inClip c (l .x0) (l .y0) ≡ true) (end : inClip c (l .x1) (l .y1) ≡ true) where
@@ -113,3 +148,7 @@ module _ (ink : Ink) (c : Clip) (l : Line) (style : ℕ) (can : walks ink c l st
         fields = and-right (direct ink) _ first-two;
         on = λ i g. each-on c l from-inside to-inside (ink .target) len 0 (pointCount l) (omega (arith, count-le l)) (h .on) i (omega arith) (omega arith);
       }
+
+-- with any word of the stipple
+pub plain-walkable : {s : Surface} {len : ℕ} {l : Line} {style : ℕ} → Walkable s len l style → Walkable s len l 0
+plain-walkable h = record { flat = h .flat; surface = h .surface; ahead = h .ahead; fields = refl; on = h .on }

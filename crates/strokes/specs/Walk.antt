@@ -3,7 +3,8 @@
 -- Assumes nothing.
 use mathlib.Core.Path.{_≡_}
 use mathlib.Core.Bool.{Bool, cond, not, _&&_}
-use mathlib.Core.List.{List, [], _∷_}
+use mathlib.Core.List.{List, [], _∷_, map}
+use mathlib.Core.Option.{some}
 use Prim.Native.Nat.{ℕ, _+_, _-_, _*_, _%_, _^_, _<_}
 use lib.Dec.{eqb, leb, ltb}
 use Rattle.surface.specs.declared.Surface.{Surface}
@@ -63,6 +64,10 @@ unfoldable pub walkTouches : Ink → Pen → ℕ → List Point → List Touch
 walkTouches ink pen style [] = []
 walkTouches ink pen style (p ∷ ps) =
     touch (pixelAt (p .x) (p .y)) (λ m. sourced (bitSource ink (stippleBit pen style))) ∷ walkTouches ink pen (after pen style) ps
+
+-- each point is given v
+abbrev pub plainTouches : ℕ → List Point → List Touch
+plainTouches v ps = map (λ p. touch (pixelAt (p .x) (p .y)) (λ m. some v)) ps
 
 -- ---- the stipple's four numbers
 

@@ -16,7 +16,7 @@ ghost use Rattle.line.specs.Line.{pointCount, points};
 ghost use Rattle.line.specs.Asked.{Placed, Drawable};
 ghost use Rattle.line.specs.Stipple.{stippleBit, after, styleAfter};
 ghost use Rattle.line.specs.Draw.{lineTouches};
-ghost use Rattle.strokes.specs.Walk.{shift, stepsOf, walkedOn, walkTouches, wordOf, whole, Fields, walks};
+ghost use Rattle.strokes.specs.Walk.{shift, stepsOf, walkedOn, plainTouches, walkTouches, wordOf, whole, Fields, walks};
 ghost use Rattle.strokes.specs.Asked.{Walkable};
 
 // Where a walk along a line is: the address of a point's first byte, and the remainder of its steps along the minor axis.
@@ -167,7 +167,7 @@ fn phase_bit(pen: Pen, p: Phase) -> u32
 // The line drawn by address, where each point gets its source.
 fn walk_line(mem: &mut [u8], ink: Ink, l: Line, pen: Pen, style: u32) -> LineDone
     requires { ⌜ Walkable (ink .target) (length (now mem)) l style ⌝ }
-    ensures { λ r. ⌜ (tallied (now (mem .exit)) (r .tally) ≡ paint (ink .target) (walkTouches ink pen style (points l)) (state (now (mem .entry)) 0)) × (r .style ≡ styleAfter pen (pointCount l) style) ⌝ }
+    ensures { λ r. ⌜ (tallied (now (mem .exit)) (r .tally) ≡ paint (ink .target) (walkTouches ink pen style (points l)) (state (now (mem .entry)) 0 0)) × (r .style ≡ styleAfter pen (pointCount l) style) ⌝ }
 {
     let s = ink.target;
     let n = s.bytes;
@@ -177,7 +177,10 @@ fn walk_line(mem: &mut [u8], ink: Ink, l: Line, pen: Pen, style: u32) -> LineDon
         rest: line::long_side(l),
     };
     let mut p = phase_of(style);
-    let mut tally = Tally { count: 0 };
+    let mut tally = Tally {
+        count: 0,
+        changed: 0,
+    };
     let mut i = 0;
     while i < surface::wide(line::point_count(l)) {
         let source = paint::bit_source(ink, phase_bit(pen, p));
@@ -190,6 +193,31 @@ fn walk_line(mem: &mut [u8], ink: Ink, l: Line, pen: Pen, style: u32) -> LineDon
         style: style_of(p),
         tally: tally,
     }
+}
+
+// The same of a line without a stipple, each point of which gets colorFore: a loop with less to keep.
+fn walk_plain(mem: &mut [u8], ink: Ink, l: Line) -> Tally
+    requires { ⌜ Walkable (ink .target) (length (now mem)) l 0 ⌝ }
+    ensures { λ r. ⌜ tallied (now (mem .exit)) r ≡ paint (ink .target) (plainTouches (ink .fore) (points l)) (state (now (mem .entry)) 0 0) ⌝ }
+{
+    let s = ink.target;
+    let n = s.bytes;
+    let t = steps_of(s, l);
+    let mut w = Walk {
+        at: surface::byte_of(s, l.x0 - 16384, l.y0 - 16384, 0),
+        rest: line::long_side(l),
+    };
+    let mut tally = Tally {
+        count: 0,
+        changed: 0,
+    };
+    let mut i = 0;
+    while i < surface::wide(line::point_count(l)) {
+        tally = paint::put_value_at(mem, w.at, n, false, ink.fore, tally);
+        w = walk_on(t, w);
+        i += 1;
+    }
+    tally
 }
 
 // Whether a line can be drawn so.
@@ -215,9 +243,16 @@ pub fn paint_line(
     style: u32,
 ) -> LineDone
     requires { ⌜ Drawable (ink .target) (length (now mem)) c l ⌝ }
-    ensures { λ r. ⌜ (tallied (now (mem .exit)) (r .tally) ≡ paint (ink .target) (lineTouches ink pattern c pen style (points l)) (state (now (mem .entry)) 0)) × (r .style ≡ styleAfter pen (pointCount l) style) ⌝ }
+    ensures { λ r. ⌜ (tallied (now (mem .exit)) (r .tally) ≡ paint (ink .target) (lineTouches ink pattern c pen style (points l)) (state (now (mem .entry)) 0 0)) × (r .style ≡ styleAfter pen (pointCount l) style) ⌝ }
 {
     if can_walk(ink, c, l, style) {
+        if !pen.stippled {
+            let tally = walk_plain(mem, ink, l);
+            return LineDone {
+                style: style,
+                tally: tally,
+            };
+        }
         return walk_line(mem, ink, l, pen, style);
     }
     points::paint_each(mem, ink, pattern, c, l, pen, style)

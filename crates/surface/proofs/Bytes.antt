@@ -1,15 +1,17 @@
 -- Runs of bytes: what a write of n bytes leaves, and what is read back after it. Stated once over the number of bytes.
 -- Assumes nothing.
-use mathlib.Core.Path.{_≡_, refl, ap, ap₂, subst⁻¹, _∙_}
+use mathlib.Core.Path.{_≡_, refl, ap, ap₂, subst, subst⁻¹, _∙_}
 use mathlib.Core.List.{List}
 use Prim.Native.Nat.{ℕ, zero, suc, _+_, _*_, _/_, _%_, _^_, _<_, _≤_}
 use native.Mathlib.Nat.{lt-of-le-of-lt, mul-le-mul-left, mul-lt-mul-of-pos-right, le-of-lt, pow-suc}
 use native.Mathlib.Omega.{arith}
+use native.Mathlib.Decide.{ℕ-discrete}
 use lib.Arith.{mod-mul}
 use lib.Pow.{pow-pos, pow-add}
 use lib.ListN.{length, getD, set, length-set}
 use lib.Seq.{getD-set-same, getD-set-other, lt-length-set}
 use Rattle.surface.specs.Place.{readBytes, writeBytes}
+use Rattle.surface.proofs.Lists.{by-cases}
 
 -- a product of two numbers fits the bits of both
 pub product-lt : (i j : ℕ) {a b : ℕ} → a < 2 ^ i → b < 2 ^ j → a * b < 2 ^ (i + j)
@@ -52,20 +54,34 @@ module _ (at : ℕ → ℕ) where
       let split : v % (256 ^ n * 256) ≡ v / 256 % 256 ^ n * 256 + v % 256 = mod-mul v (bytes-pos n) (omega arith) in
       rw (pow-suc 256 n) (omega arith)
 
-  -- memories that agree there read alike
-  pub read-alike : (k n : ℕ) (m m′ : List ℕ) → ((j : ℕ) → k ≤ j → j < k + n → getD m (at j) 0 ≡ getD m′ (at j) 0)
-      → readBytes m at k n ≡ readBytes m′ at k n
-  unfolding readBytes
-  read-alike k zero m m′ h = refl
-  read-alike k (suc n) m m′ h =
-      ap₂ (λ (a b : ℕ). a + 256 * b) (h k (omega arith) (omega arith)) (read-alike (suc k) n m m′ (λ j l u. h j (omega arith) (omega arith)))
+-- bytes that are the same, at places of one memory and of another, read alike
+pub read-as : (at at′ : ℕ → ℕ) (k n : ℕ) (m m′ : List ℕ) → ((j : ℕ) → k ≤ j → j < k + n → getD m (at j) 0 ≡ getD m′ (at′ j) 0) → readBytes m at k n ≡ readBytes m′ at′ k n
+unfolding readBytes
+read-as at at′ k zero m m′ h = refl
+read-as at at′ k (suc n) m m′ h =
+    ap₂ (λ (a b : ℕ). a + 256 * b) (h k (omega arith) (omega arith)) (read-as at at′ (suc k) n m m′ (λ j l u. h j (omega arith) (omega arith)))
+
+-- memories that agree there do
+pub read-alike : (at : ℕ → ℕ) (k n : ℕ) (m m′ : List ℕ) → ((j : ℕ) → k ≤ j → j < k + n → getD m (at j) 0 ≡ getD m′ (at j) 0)
+    → readBytes m at k n ≡ readBytes m′ at k n
+read-alike at k n m m′ = read-as at at k n m m′
+
+-- and in memories of bytes those that read alike agree there
+pub alike-read : (at : ℕ → ℕ) (m m′ : List ℕ) → ((a : ℕ) → getD m a 0 < 256) → ((a : ℕ) → getD m′ a 0 < 256) → (k n : ℕ) → readBytes m at k n ≡ readBytes m′ at k n
+    → (j : ℕ) → k ≤ j → j < k + n → getD m (at j) 0 ≡ getD m′ (at j) 0
+unfolding readBytes
+alike-read at m m′ b b′ k zero e j l u = absurd (omega arith)
+alike-read at m m′ b b′ k (suc n) e j l u =
+    let p = b (at k) in
+    let q = b′ (at k) in
+    let first : getD m (at k) 0 ≡ getD m′ (at k) 0 = omega arith in
+    let rest : readBytes m at (suc k) n ≡ readBytes m′ at (suc k) n = omega arith in
+    by-cases (ℕ-discrete k j) (λ w. subst (λ (i : ℕ). getD m (at i) 0 ≡ getD m′ (at i) 0) w first)
+    (λ w. alike-read at m m′ b b′ (suc k) n rest j (omega arith) (omega arith))
 
 -- addresses that agree read and write alike
 pub read-there : (m : List ℕ) (at at′ : ℕ → ℕ) (k n : ℕ) → ((j : ℕ) → j < k + n → at j ≡ at′ j) → readBytes m at k n ≡ readBytes m at′ k n
-unfolding readBytes
-read-there m at at′ k zero h = refl
-read-there m at at′ k (suc n) h =
-    ap₂ (λ (a b : ℕ). getD m a 0 + 256 * b) (h k (omega arith)) (read-there m at at′ (suc k) n (λ j l. h j (omega arith)))
+read-there m at at′ k n h = read-as at at′ k n m m (λ j l u. ap (λ (a : ℕ). getD m a 0) (h j u))
 
 pub write-there : (at at′ : ℕ → ℕ) (k n v : ℕ) (m : List ℕ) → ((j : ℕ) → j < k + n → at j ≡ at′ j) → writeBytes at k n v m ≡ writeBytes at′ k n v m
 unfolding writeBytes

@@ -9,7 +9,7 @@ use lib.Arith.{digits-lt}
 use lib.Dec.{eqb, ltb}
 use borrow.Author.Tests.{lt-ltb, eq-eqb, ne-eqb, ltb-true, eqb-false}
 use Rattle.surface.specs.declared.Surface.{Surface}
-use Rattle.surface.specs.Place.{rowBytes, byteAt, byteOf, rowPixels, firstByte, byteCount, inMemory, onSurface}
+use Rattle.surface.specs.Place.{rowBytes, byteAt, byteOf, one, rowPixels, firstByte, byteCount, inMemory, onSurface}
 use Rattle.surface.specs.Asked.{HasByte, OnColour, OnMono}
 use Rattle.surface.proofs.Rows.{byteAt-mono}
 
@@ -28,6 +28,11 @@ pub same-test : (a b : Bool) → (a ≡ true → b ≡ true) → (b ≡ true →
 same-test true b f g = sym (f refl)
 same-test false true f g = g refl
 same-test false false f g = refl
+
+-- a test counts for one at most
+pub one-most : (b : Bool) → one b ≤ 1
+one-most true = omega arith
+one-most false = omega arith
 
 -- ---- by format
 module _ (s : Surface) (x : ℕ) where

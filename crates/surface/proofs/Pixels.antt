@@ -10,7 +10,7 @@ use Rattle.surface.specs.Place.{rowBytes, byteOf, readPx, writePx, rowPi
 use Rattle.surface.specs.Asked.{OnColour}
 use Rattle.surface.proofs.Tiles.{digits-same}
 use Rattle.surface.proofs.Rows.{byteAt-inj}
-use Rattle.surface.proofs.Bytes.{length-written, written-other, read-written, read-alike, read-fits}
+use Rattle.surface.proofs.Bytes.{length-written, written-other, read-written, read-alike, alike-read, read-fits}
 use Rattle.surface.proofs.OnLaws.{colour-first, colour-count, in-row, on-column, colour-byte}
 
 -- ---- two different pixels of a surface share no byte
@@ -60,6 +60,12 @@ pub read-same : (s : Surface) (x y : ℕ) (m m′ : List ℕ) → ((k : ℕ) →
     → readPx m s x y ≡ readPx m′ s x y
 unfolding readPx
 read-same s x y m m′ h = read-alike (byteOf s x y) 0 (s .bytes) m m′ (λ j l u. h j (omega arith))
+
+-- in memories of bytes a pixel that reads alike has the same bytes
+pub same-read : (s : Surface) (x y : ℕ) (m m′ : List ℕ) → ((a : ℕ) → getD m a 0 < 256) → ((a : ℕ) → getD m′ a 0 < 256) → readPx m s x y ≡ readPx m′ s x y
+    → (k : ℕ) → k < s .bytes → getD m (byteOf s x y k) 0 ≡ getD m′ (byteOf s x y k) 0
+unfolding readPx
+same-read s x y m m′ b b′ e k l = alike-read (byteOf s x y) m m′ b b′ 0 (s .bytes) e k (omega arith) (omega arith)
 
 pub read-small : (m : List ℕ) (s : Surface) (x y : ℕ) → ((a : ℕ) → getD m a 0 < 256) → readPx m s x y < 256 ^ s .bytes
 unfolding readPx

@@ -1,16 +1,17 @@
 -- A pixel's bytes lie one after the other from an address on where it falls across no two tiles, and in rows so do the pixels of a row:
 -- read and written at one to four bytes.
 -- Assumes nothing.
-use mathlib.Core.Path.{_≡_, sym, ap, _∙_}
-use mathlib.Core.Bool.{false}
+use mathlib.Core.Path.{_≡_, sym, ap, ap₂, _∙_}
+use mathlib.Core.Bool.{Bool, false, not}
 use mathlib.Core.List.{List}
 use Prim.Native.Nat.{ℕ, _+_, _-_, _*_, _/_, _%_, _<_}
 use native.Mathlib.Nat.{add-zero, add-mul}
 use native.Mathlib.Omega.{arith}
 use native.Mathlib.Decide.{ℕ-discrete}
+use lib.Dec.{eqb}
 use lib.ListN.{getD, set}
 use Rattle.surface.specs.declared.Surface.{Surface}
-use Rattle.surface.specs.Place.{byteAt, byteOf, readBytes, writeBytes, readPx, writePx}
+use Rattle.surface.specs.Place.{byteAt, byteOf, readBytes, writeBytes, readPx, writePx, differ, differs}
 use Rattle.surface.specs.Asked.{Colour, OnColour, Held}
 use Rattle.surface.proofs.Tiles.{tile-run}
 use Rattle.surface.proofs.Rows.{by-layout, byteAt-tiled, byteAt-run}
@@ -69,6 +70,11 @@ module _ (s : Surface) (piece : InPiece s) (x y a : ℕ) (e : a ≡ byteOf s x y
   pub write-run : (v : ℕ) (m : List ℕ) → writeBytes (λ k. a + k) 0 (s .bytes) v m ≡ writePx m s x y v
   unfolding writePx
   write-run v m = write-there (λ k. a + k) (byteOf s x y) 0 (s .bytes) v m (λ k h. from k (omega arith))
+
+  -- a store by address is the pixel's, and so is its answer
+  pub pixel-stored : (v : ℕ) (m : List ℕ) {m′ : List ℕ} {d : Bool} → (m′ ≡ writeBytes (λ k. a + k) 0 (s .bytes) v m) × (d ≡ differ (λ k. a + k) (s .bytes) m m′)
+      → (m′ ≡ writePx m s x y v) × (d ≡ differs s x y m m′)
+  pixel-stored v m {m′} stored = (stored .0 ∙ write-run v m, stored .1 ∙ ap₂ (λ (a b : ℕ). not (eqb a b)) (read-run m) (read-run m′))
 
 -- ---- along a row
 module _ (s : Surface) (rows : s .tiled ≡ false) (x y a : ℕ) (e : a ≡ byteOf s x y 0) where

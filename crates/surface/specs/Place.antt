@@ -55,6 +55,17 @@ readPx m s x y = readBytes m (byteOf s x y) 0 (s .bytes)
 unfoldable pub writePx : List ℕ → Surface → ℕ → ℕ → ℕ → List ℕ
 writePx m s x y v = writeBytes (byteOf s x y) 0 (s .bytes) v m
 
+-- 1 for what is so, 0 for what is not
+abbrev pub one : Bool → ℕ
+one b = cond b 1 0
+
+-- the n bytes at those addresses are not the same in two memories; and the bytes of a pixel, all of them
+abbrev pub differ : (ℕ → ℕ) → ℕ → List ℕ → List ℕ → Bool
+differ at n m m′ = not (eqb (readBytes m at 0 n) (readBytes m′ at 0 n))
+
+abbrev pub differs : Surface → ℕ → ℕ → List ℕ → List ℕ → Bool
+differs s x y m m′ = not (eqb (readPx m s x y) (readPx m′ s x y))
+
 -- pixel (x, y) of a mono source: bit 7 - (x mod 8) of byte floor(x / 8) of its row
 unfoldable pub monoBit : List ℕ → Surface → ℕ → ℕ → ℕ
 monoBit m s x y = getD m (byteAt s (x / 8) y) 0 / 2 ^ (7 - x % 8) % 2

@@ -1,9 +1,9 @@
 // A surface, and the bytes and bits of its pixels in memory.
 ghost use mathlib.Core.Path.{_≡_};
 ghost use mathlib.Core.Bool.{false};
-ghost use Prim.Native.Nat.{_+_, _-_, _/_, _%_, _^_, _<_};
+ghost use Prim.Native.Nat.{_+_, _-_, _/_, _%_, _^_, _<_, _≤_, min};
 ghost use lib.ListN.{length, getD, set};
-ghost use Rattle.surface.specs.Place.{sameSurface, rowBytes, byteAt, byteOf, readBytes, writeBytes, readPx, writePx, monoBit};
+ghost use Rattle.surface.specs.Place.{sameSurface, one, rowBytes, byteAt, byteOf, readBytes, writeBytes, readPx, writePx, differ, differs, monoBit};
 ghost use Rattle.surface.specs.Asked.{Small, Colour, Near, Held, OnColour, OnMono};
 
 pub struct Surface {
@@ -25,6 +25,23 @@ pub fn wide(x: u32) -> usize
     ensures { λ r. ⌜ r ≡ x ⌝ }
 {
     x as usize
+}
+
+// The lesser of two numbers.
+pub fn least(a: u32, b: u32) -> u32
+    ensures { λ r. ⌜ r ≡ min a b ⌝ }
+{
+    if a < b { a } else { b }
+}
+
+// 1 for what is so, 0 for what is not.
+pub fn one(b: bool) -> u32
+    ensures { λ r. ⌜ (r ≡ one b) × (r ≤ 1) ⌝ }
+{
+    if b {
+        return 1;
+    }
+    0
 }
 
 // The address of byte `column` of row y.
@@ -125,6 +142,16 @@ pub fn put_bytes(mem: &mut [u8], at: usize, n: u32, v: u32)
     put_byte(mem, at + 3, v2 / 256);
 }
 
+// The same; whether they were others before.
+pub fn store_bytes(mem: &mut [u8], at: usize, n: u32, v: u32) -> bool
+    requires { ⌜ Held at n (length (now mem)) ⌝ }
+    ensures { λ r. ⌜ (now (mem .exit) ≡ writeBytes (λ k. at + k) 0 n v (now (mem .entry))) × (r ≡ differ (λ k. at + k) n (now (mem .entry)) (now (mem .exit))) ⌝ }
+{
+    let old = get_bytes(mem, at, n);
+    put_bytes(mem, at, n, v);
+    old != get_bytes(mem, at, n)
+}
+
 // A pixel of three bytes, wherever each of them lies.
 fn get_three(mem: &[u8], s: Surface, x: u32, y: u32) -> u32
     requires { ⌜ OnColour s (length (now mem)) x y × (s .bytes ≡ 3) ⌝ }
@@ -152,6 +179,16 @@ fn put_three(mem: &mut [u8], s: Surface, x: u32, y: u32, v: u32)
     put_byte(mem, at2, v1 / 256);
 }
 
+// The same; whether it was another before.
+fn store_three(mem: &mut [u8], s: Surface, x: u32, y: u32, v: u32) -> bool
+    requires { ⌜ OnColour s (length (now mem)) x y × (s .bytes ≡ 3) ⌝ }
+    ensures { λ r. ⌜ (now (mem .exit) ≡ writePx (now (mem .entry)) s x y v) × (r ≡ differs s x y (now (mem .entry)) (now (mem .exit))) ⌝ }
+{
+    let old = get_three(mem, s, x, y);
+    put_three(mem, s, x, y, v);
+    old != get_three(mem, s, x, y)
+}
+
 // A pixel of a surface in rows.
 pub fn get_in_rows(mem: &[u8], s: Surface, x: u32, y: u32) -> u32
     requires { ⌜ OnColour s (length (now mem)) x y × (s .tiled ≡ false) ⌝ }
@@ -161,12 +198,12 @@ pub fn get_in_rows(mem: &[u8], s: Surface, x: u32, y: u32) -> u32
     get_bytes(mem, at, s.bytes)
 }
 
-pub fn put_in_rows(mem: &mut [u8], s: Surface, x: u32, y: u32, v: u32)
+pub fn put_in_rows(mem: &mut [u8], s: Surface, x: u32, y: u32, v: u32) -> bool
     requires { ⌜ OnColour s (length (now mem)) x y × (s .tiled ≡ false) ⌝ }
-    ensures { λ _. ⌜ now (mem .exit) ≡ writePx (now (mem .entry)) s x y v ⌝ }
+    ensures { λ r. ⌜ (now (mem .exit) ≡ writePx (now (mem .entry)) s x y v) × (r ≡ differs s x y (now (mem .entry)) (now (mem .exit))) ⌝ }
 {
     let at = place_in_rows(s, x, y);
-    put_bytes(mem, at, s.bytes, v);
+    store_bytes(mem, at, s.bytes, v)
 }
 
 // A pixel of either: in rows, of three bytes that may lie in two tiles, or in one piece.
@@ -184,20 +221,19 @@ pub fn get_pixel(mem: &[u8], s: Surface, x: u32, y: u32) -> u32
     get_bytes(mem, at, s.bytes)
 }
 
-pub fn put_pixel(mem: &mut [u8], s: Surface, x: u32, y: u32, v: u32)
+// The store of a pixel: its bytes become those of v; whether they were others just before.
+pub fn put_pixel(mem: &mut [u8], s: Surface, x: u32, y: u32, v: u32) -> bool
     requires { ⌜ OnColour s (length (now mem)) x y ⌝ }
-    ensures { λ _. ⌜ now (mem .exit) ≡ writePx (now (mem .entry)) s x y v ⌝ }
+    ensures { λ r. ⌜ (now (mem .exit) ≡ writePx (now (mem .entry)) s x y v) × (r ≡ differs s x y (now (mem .entry)) (now (mem .exit))) ⌝ }
 {
     if !s.tiled {
-        put_in_rows(mem, s, x, y, v);
-        return;
+        return put_in_rows(mem, s, x, y, v);
     }
     if s.bytes == 3 {
-        put_three(mem, s, x, y, v);
-        return;
+        return store_three(mem, s, x, y, v);
     }
     let at = byte_of(s, x, y, 0);
-    put_bytes(mem, at, s.bytes, v);
+    store_bytes(mem, at, s.bytes, v)
 }
 
 // The byte that a mono pixel lies in, of a surface in rows.

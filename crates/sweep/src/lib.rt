@@ -134,14 +134,17 @@ pub fn paint_rows(
     toTop: bool,
 ) -> Tally
     requires { ⌜ CanPaint t w h (length (now mem)) × Rowwise t ⌝ }
-    ensures { λ r. ⌜ tallied (now (mem .exit)) r ≡ paint (t .ink .target) (inTurn t pattern (rect toLeft toTop (t .x) (t .y) w h)) (state (now (mem .entry)) 0) ⌝ }
+    ensures { λ r. ⌜ tallied (now (mem .exit)) r ≡ paint (t .ink .target) (inTurn t pattern (rect toLeft toTop (t .x) (t .y) w h)) (state (now (mem .entry)) 0 0) ⌝ }
 {
     let ink = t.ink;
     let source = keys::range_of(t.from.bytes, ink.srcMin, ink.srcMax);
     let target = keys::range_of(ink.target.bytes, ink.dstMin, ink.dstMax);
     let masks = plan::masks_of(ink);
     let blank = plan::quads_of(masks, [0u32; 8]);
-    let mut n = Tally { count: 0 };
+    let mut n = Tally {
+        count: 0,
+        changed: 0,
+    };
     let mut j = 0;
     while j < h {
         let y = paint::place(toTop, t.y, h, j);

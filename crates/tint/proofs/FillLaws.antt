@@ -17,7 +17,7 @@ use Rattle.surface.proofs.Lists.{In}
 use Rattle.surface.proofs.Rects.{in-across, in-rect}
 use Rattle.ink.specs.declared.Ink.{Ink}
 use Rattle.paint.specs.Tally.{noted}
-use Rattle.paint.specs.Paint.{State, tallied, touch, dab, paint}
+use Rattle.paint.specs.Paint.{State, tallied, touch, dab, paint, changing}
 use Rattle.paint.specs.Mix.{fillSource, chosen, mixed}
 use Rattle.ink.specs.Pattern.{patternColumn, patternRow, patternBit, patternValue}
 use Rattle.paint.proofs.Turns.{paint-same}
@@ -85,7 +85,7 @@ low-gives s p keep flip adds old st = by-test (eqb adds 0)
   where
     by-test : (none-there : Bool) → dab s p (cond none-there none (some (masked old (keep % 256 ^ s .bytes) (flip % 256 ^ s .bytes)))) st ≡ dab s p (cond none-there none (some (masked old keep flip))) st
     by-test true = refl
-    by-test false = ap (λ (l : List ℕ). tallied l (noted 1 (st .tally))) (put-low (byteOf s (p .x) (p .y)) 0 (s .bytes) old keep flip (st .mem))
+    by-test false = ap (λ (l : List ℕ). tallied l (noted 1 (changing s (st .mem) l p) (st .tally))) (put-low (byteOf s (p .x) (p .y)) 0 (s .bytes) old keep flip (st .mem))
 
 -- painting asks only what each pixel becomes
 paint-dab : (s : Surface) (f g : Px → List ℕ → Option ℕ) (ps : List Px) → ((p : Px) → In p ps → (st : State) → dab s p (f p (st .mem)) st ≡ dab s p (g p (st .mem)) st)

@@ -1,4 +1,5 @@
 pub mod MaskLaws
 pub mod ByteLaws
 pub mod RowLaws
+pub mod TellLaws
 pub mod FillLaws

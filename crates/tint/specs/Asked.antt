@@ -7,8 +7,6 @@ use Prim.Native.Nat.{ℕ, _+_, _*_, _%_, _^_, _<_, _≤_}
 use lib.ListN.{length, getD}
 use Rattle.surface.specs.declared.Surface.{Surface}
 use Rattle.surface.specs.Asked.{Colour}
-use Rattle.paint.specs.declared.Tally.{Tally}
-use Rattle.paint.specs.Asked.{Room}
 use Rattle.runs.specs.Asked.{RowOn}
 use Rattle.tint.specs.Masking.{ones, maskIn, Tables}
 
@@ -28,12 +26,11 @@ pub record RowsSound (s : Surface) (keep flip adds : List ℕ) (h : ℕ) : Type 
   pub sound : (j : ℕ) → j < h → (i : ℕ) → i < 8
       → Sound (s .bytes) (maskIn (s .bytes) keep (j % 8 * 8 + i)) (maskIn (s .bytes) flip (j % 8 * 8 + i)) (getD adds (j % 8 * 8 + i) 0)
 
--- w pixels of row y from x on can be tinted, where n tells of those before them
-pub record CanTint (s : Surface) (keep flip adds : List ℕ) (first len x w y : ℕ) (n : Tally) : Type 0 where
+-- w pixels of row y from x on can be tinted
+pub record CanTint (s : Surface) (keep flip adds : List ℕ) (first len x w y : ℕ) : Type 0 where
   pub flat : s .tiled ≡ false
   pub colour : Colour s
   pub on : RowOn s len x w y
-  pub room : Room n w
   pub eight : first ≤ 56
   pub keeps : length keep ≡ 256
   pub flips : length flip ≡ 256

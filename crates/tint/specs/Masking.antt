@@ -13,7 +13,7 @@ use Rattle.surface.specs.declared.Surface.{Surface}
 use Rattle.surface.specs.Place.{readBytes, readPx}
 use Rattle.surface.specs.Pixels.{Px}
 use Rattle.ink.specs.declared.Ink.{Ink}
-use Rattle.paint.specs.Paint.{Touch, touch}
+use Rattle.paint.specs.Paint.{state, Touch, touch, paint}
 use Rattle.paint.specs.Mix.{fillSource}
 use Rattle.ink.specs.Pattern.{patternColumn, patternRow, patternBit, patternIn}
 use Rattle.tint.specs.declared.Mask.{Mask}
@@ -78,6 +78,10 @@ downTints s keep flip adds x y ps = map (λ p. touch p (λ now. downTint s keep 
 unfoldable pub blended : List ℕ → List ℕ → ℕ → ℕ → ℕ → List ℕ → List ℕ
 blended keep flip from at zero m = m
 blended keep flip from at (suc n) m = blended keep flip (from + 1) (at + 1) n (set m at (masked (getD m at 0) (getD keep from 0) (getD flip from 0)))
+
+-- a memory is what painting leaves, and so many pixels were written; how many of them changed is not said
+abbrev pub Painted : Surface → List Touch → List ℕ → List ℕ → ℕ → Type 0
+Painted s ts m m′ count = (changed : ℕ) × (state m′ count changed ≡ paint s ts (state m 0 0))
 
 -- how many rows of masks h rows of pixels want: they repeat after eight
 unfoldable pub maskRows : ℕ → ℕ

@@ -9,8 +9,9 @@ ghost use lib.ListN.{length};
 ghost use Rattle.surface.specs.Asked.{Colour};
 ghost use Rattle.surface.specs.Pixels.{across, rect};
 ghost use Rattle.paint.specs.Paint.{state, tallied, paint};
+ghost use Rattle.paint.specs.Asked.{Room};
 ghost use Rattle.runs.specs.Asked.{RectOn};
-ghost use Rattle.tint.specs.Masking.{blended, maskFor, maskRows, tintings, downTints, tables, MasksOf};
+ghost use Rattle.tint.specs.Masking.{blended, maskFor, maskRows, tintings, downTints, tables, MasksOf, Painted};
 ghost use Rattle.tint.specs.Asked.{Whole, RowsSound, CanTint};
 
 // The bits of a pixel that are kept, those that are then turned over, and 1 if the pixel is written.
@@ -102,7 +103,7 @@ pub fn tint_bytes(mem: &mut [u8], at: usize, n: usize, keep: &[u8], flip: &[u8],
     }
 }
 
-// The w pixels, at most eight, of row y from x on, each of so many bytes, by the masks from number `first` on, after those that n tells of.
+// The w pixels, at most eight, of row y from x on, each of so many bytes, by the masks from number `first` on; how many are written.
 fn tint_across(
     mem: &mut [u8],
     s: Surface,
@@ -114,10 +115,9 @@ fn tint_across(
     x: u32,
     w: u32,
     y: u32,
-    n: Tally,
-) -> Tally
-    requires { ⌜ CanTint s (now keep) (now flip) (now adds) first (length (now mem)) x w y n × (bytes ≡ s .bytes) × (w ≤ 8) ⌝ }
-    ensures { λ r. ⌜ tallied (now (mem .exit)) r ≡ paint s (tintings s (now (keep .entry)) (now (flip .entry)) (now (adds .entry)) first x (across false x w y)) (tallied (now (mem .entry)) n) ⌝ }
+) -> u32
+    requires { ⌜ CanTint s (now keep) (now flip) (now adds) first (length (now mem)) x w y × (bytes ≡ s .bytes) × (w ≤ 8) ⌝ }
+    ensures { λ r. ⌜ Painted s (tintings s (now (keep .entry)) (now (flip .entry)) (now (adds .entry)) first x (across false x w y)) (now (mem .entry)) (now (mem .exit)) r ⌝ }
 {
     let at = surface::place_in_rows(s, x, y);
     let many = (w * bytes) as usize;
@@ -129,7 +129,7 @@ fn tint_across(
         more += adds[(first + i) as usize];
         i += 1;
     }
-    paint::note(n, more)
+    more
 }
 
 // Eight times so many pixels of row y from x on, eight at a time, by the same eight masks each time.
@@ -144,23 +144,61 @@ fn tint_eights(
     x: u32,
     eights: u32,
     y: u32,
-    n: Tally,
-) -> Tally
-    requires { ⌜ CanTint s (now keep) (now flip) (now adds) first (length (now mem)) x (8 * eights) y n × (bytes ≡ s .bytes) ⌝ }
-    ensures { λ r. ⌜ tallied (now (mem .exit)) r ≡ paint s (tintings s (now (keep .entry)) (now (flip .entry)) (now (adds .entry)) first x (across false x (8 * eights) y)) (tallied (now (mem .entry)) n) ⌝ }
+) -> u32
+    requires { ⌜ CanTint s (now keep) (now flip) (now adds) first (length (now mem)) x (8 * eights) y × (bytes ≡ s .bytes) ⌝ }
+    ensures { λ r. ⌜ Painted s (tintings s (now (keep .entry)) (now (flip .entry)) (now (adds .entry)) first x (across false x (8 * eights) y)) (now (mem .entry)) (now (mem .exit)) r ⌝ }
 {
-    let mut r = n;
+    let mut r = 0;
     let mut i = 0;
     while i < eights {
-        r = tint_across(mem, s, bytes, keep, flip, adds, first, x + 8 * i, 8, y, r);
+        r += tint_across(mem, s, bytes, keep, flip, adds, first, x + 8 * i, 8, y);
         i += 1;
     }
     r
 }
 
 // A row of any width: the eights by the number of bytes, so that each number has a loop of its own, and then the pixels that are left.
-fn tint_row(
+fn tint_run(
     mem: &mut [u8],
+    s: Surface,
+    keep: &[u8],
+    flip: &[u8],
+    adds: &[u32; 64],
+    first: u32,
+    x: u32,
+    w: u32,
+    y: u32,
+) -> u32
+    requires { ⌜ CanTint s (now keep) (now flip) (now adds) first (length (now mem)) x w y ⌝ }
+    ensures { λ r. ⌜ Painted s (tintings s (now (keep .entry)) (now (flip .entry)) (now (adds .entry)) first x (across false x w y)) (now (mem .entry)) (now (mem .exit)) r ⌝ }
+{
+    let bytes = s.bytes;
+    let eights = w / 8;
+    let r = match bytes {
+        1 => tint_eights(mem, s, 1, keep, flip, adds, first, x, eights, y),
+        2 => tint_eights(mem, s, 2, keep, flip, adds, first, x, eights, y),
+        3 => tint_eights(mem, s, 3, keep, flip, adds, first, x, eights, y),
+        _ => tint_eights(mem, s, 4, keep, flip, adds, first, x, eights, y),
+    };
+    r
+        + tint_across(
+            mem,
+            s,
+            bytes,
+            keep,
+            flip,
+            adds,
+            first,
+            x + 8 * eights,
+            w % 8,
+            y,
+        )
+}
+
+// At most 256 of them, after those that n tells of. What stood there is kept in a buffer, so that those that change can be counted.
+fn tint_part(
+    mem: &mut [u8],
+    old: &mut [u8],
     s: Surface,
     keep: &[u8],
     flip: &[u8],
@@ -171,30 +209,49 @@ fn tint_row(
     y: u32,
     n: Tally,
 ) -> Tally
-    requires { ⌜ CanTint s (now keep) (now flip) (now adds) first (length (now mem)) x w y n ⌝ }
+    requires { ⌜ (CanTint s (now keep) (now flip) (now adds) first (length (now mem)) x w y × ((w ≤ 256) × (1024 ≤ length (now old)))) × Room n w ⌝ }
     ensures { λ r. ⌜ tallied (now (mem .exit)) r ≡ paint s (tintings s (now (keep .entry)) (now (flip .entry)) (now (adds .entry)) first x (across false x w y)) (tallied (now (mem .entry)) n) ⌝ }
 {
     let bytes = s.bytes;
-    let eights = w / 8;
-    let r = match bytes {
-        1 => tint_eights(mem, s, 1, keep, flip, adds, first, x, eights, y, n),
-        2 => tint_eights(mem, s, 2, keep, flip, adds, first, x, eights, y, n),
-        3 => tint_eights(mem, s, 3, keep, flip, adds, first, x, eights, y, n),
-        _ => tint_eights(mem, s, 4, keep, flip, adds, first, x, eights, y, n),
-    };
-    tint_across(
+    let many = surface::wide(w) * surface::wide(bytes);
+    runs::keep_row(
+        old,
         mem,
         s,
-        bytes,
-        keep,
-        flip,
-        adds,
-        first,
-        x + 8 * eights,
-        w % 8,
-        y,
-        r,
-    )
+        surface::wide(x) * surface::wide(bytes),
+        surface::wide(y),
+        many,
+    );
+    let count = tint_run(mem, s, keep, flip, adds, first, x, w, y);
+    let at = surface::place_in_rows(s, x, y);
+    paint::note(n, count, runs::unlike(old, 0, mem, at, bytes, w))
+}
+
+// A row, 256 at a time.
+fn tint_row(
+    mem: &mut [u8],
+    old: &mut [u8],
+    s: Surface,
+    keep: &[u8],
+    flip: &[u8],
+    adds: &[u32; 64],
+    first: u32,
+    x: u32,
+    w: u32,
+    y: u32,
+    n: Tally,
+) -> Tally
+    requires { ⌜ CanTint s (now keep) (now flip) (now adds) first (length (now mem)) x w y × ((1024 ≤ length (now old)) × Room n w) ⌝ }
+    ensures { λ r. ⌜ tallied (now (mem .exit)) r ≡ paint s (tintings s (now (keep .entry)) (now (flip .entry)) (now (adds .entry)) first x (across false x w y)) (tallied (now (mem .entry)) n) ⌝ }
+{
+    let mut r = n;
+    let mut i = 0;
+    while i < w {
+        let k = surface::least(256, w - i);
+        r = tint_part(mem, old, s, keep, flip, adds, first, x + i, k, y, r);
+        i += k;
+    }
+    r
 }
 
 // A rectangle by tables of masks, its surface in rows, row by row from the upper left corner; the tally of the pixels written.
@@ -210,12 +267,28 @@ pub fn tint_rows(
     h: u32,
 ) -> Tally
     requires { ⌜ (s .tiled ≡ false) × (RectOn s (length (now mem)) x y w h × RowsSound s (now keep) (now flip) (now adds) h) ⌝ }
-    ensures { λ r. ⌜ tallied (now (mem .exit)) r ≡ paint s (downTints s (now (keep .entry)) (now (flip .entry)) (now (adds .entry)) x y (rect false false x y w h)) (state (now (mem .entry)) 0) ⌝ }
+    ensures { λ r. ⌜ tallied (now (mem .exit)) r ≡ paint s (downTints s (now (keep .entry)) (now (flip .entry)) (now (adds .entry)) x y (rect false false x y w h)) (state (now (mem .entry)) 0 0) ⌝ }
 {
-    let mut n = Tally { count: 0 };
+    let mut old = [0u8; 1024];
+    let mut n = Tally {
+        count: 0,
+        changed: 0,
+    };
     let mut j = 0;
     while j < h {
-        n = tint_row(mem, s, keep, flip, adds, j % 8 * 8, x, w, y + j, n);
+        n = tint_row(
+            mem,
+            &mut old,
+            s,
+            keep,
+            flip,
+            adds,
+            j % 8 * 8,
+            x,
+            w,
+            y + j,
+            n,
+        );
         j += 1;
     }
     n

@@ -2,14 +2,14 @@
 -- Assumes nothing.
 use mathlib.Core.Path.{_≡_, refl, sym, ap, ap₂, _∙_}
 use mathlib.Core.Bool.{false}
-use mathlib.Core.List.{List, [], _∷_, _++_, List·Memᴰ·head, List·Memᴰ·tail}
+use mathlib.Core.List.{List}
 use Prim.Native.Nat.{ℕ, zero, suc, _+_, _-_, _*_, _/_, _%_, _<_, _≤_}
 use native.Mathlib.Nat.{suc-mul, div-add-mod'}
 use native.Mathlib.Omega.{arith}
 use lib.ListN.{getD}
 use Rattle.surface.specs.Pixels.{Px, across, rect}
-use Rattle.surface.proofs.Lists.{In}
-use Rattle.paint.proofs.Settle.{summed}
+use Rattle.paint.specs.Paint.{summed}
+use Rattle.paint.proofs.Changes.{summed-append}
 use Rattle.wash.specs.Count.{counting, countings}
 
 -- ---- a turn of the loop over pixels, or over rows
@@ -58,16 +58,6 @@ module _ (adds : List ℕ) (w : ℕ) where
   rows-done h j r l = let q : h - j ≡ 0 = omega arith in rw q (omega arith)
 
 -- ---- as many as pixels by pixels
-summed-append : (f : Px → ℕ) (ps qs : List Px) → summed f (ps ++ qs) ≡ summed f ps + summed f qs
-unfolding summed
-summed-append f [] qs = omega arith
-summed-append f (p ∷ ps) qs = omega (arith, summed-append f ps qs)
-
-pub summed-same : (f g : Px → ℕ) (ps : List Px) → ((p : Px) → In p ps → f p ≡ g p) → summed f ps ≡ summed g ps
-unfolding summed
-summed-same f g [] h = refl
-summed-same f g (p ∷ ps) h = ap₂ _+_ (h p (List·Memᴰ·head refl)) (summed-same f g ps (λ q i. h q (List·Memᴰ·tail i)))
-
 module _ (adds : List ℕ) (x y : ℕ) where
   -- what the mask of a pixel adds
   abbrev pub addsAt : Px → ℕ

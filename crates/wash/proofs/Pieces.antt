@@ -1,9 +1,9 @@
--- Rectangles of bytes changed by masks: a piece that reaches over no edge of a tile, and one piece or one row more.
+-- Rectangles of bytes changed by masks: a piece that reaches over no edge of a tile, and one piece, one part or one row more.
 -- Assumes nothing.
 use mathlib.Core.Path.{_≡_, sym, ap, ap₂, subst, _∙_}
 use mathlib.Core.List.{List}
-use Prim.Native.Nat.{ℕ, _+_, _-_, _*_, _%_, _<_, _≤_}
-use native.Mathlib.Nat.{mod-lt, mod-le, mod-add-mod}
+use Prim.Native.Nat.{ℕ, _+_, _-_, _*_, _/_, _%_, _<_, _≤_}
+use native.Mathlib.Nat.{mod-lt, mod-le, mod-add-mod, add-mul, mul-assoc, add-mul-mod-self-right}
 use native.Mathlib.Omega.{arith}
 use lib.ListN.{length, getD}
 use Rattle.surface.specs.declared.Surface.{Surface}
@@ -85,6 +85,29 @@ module _ (s : Surface) (keep flip : List ℕ) where
         put-beside s (washed s keep flip (inRow first period x) m₀) x y (i + k) 1 (omega arith) i k (omega arith) (omega arith) done
         (later (inRow first period x) (λ q. first + i % period + (q .x - (x + i))) (x + i) y k 1 x y i 1 (omega arith) (omega arith)
         (goes-on keeps) (goes-on flips) (λ p q u v e f. omega arith) done put)
+
+  -- so many pixels of a row, after eights of them: the masks begin again there
+  module _ (first x y i k : ℕ) (wide : x * s .bytes + (i + k) * s .bytes ≤ rowBytes s) (eights : i % 8 ≡ 0) where
+    begins-again : (p : Px) → Inside (x * s .bytes + i * s .bytes) y (k * s .bytes) 1 p
+        → inRow first (8 * s .bytes) (x * s .bytes + i * s .bytes) p ≡ inRow first (8 * s .bytes) (x * s .bytes) p
+    begins-again p j =
+        let b = s .bytes in
+        let d = p .x - (x * b + i * b) in
+        let whole : i ≡ i / 8 * 8 = omega arith in
+        let turns : i * b ≡ i / 8 * (8 * b) = ap (λ (n : ℕ). n * b) whole ∙ mul-assoc (i / 8) 8 b in
+        let e : p .x - x * b ≡ d + i / 8 * (8 * b) = omega (arith, turns) in
+        ap (λ (n : ℕ). first + n) (sym (ap (λ (n : ℕ). n % (8 * b)) e ∙ add-mul-mod-self-right d (i / 8) (8 * b)))
+
+    pub part-more : {m₀ m m₁ : List ℕ} → Put s (washed s keep flip (inRow first (8 * s .bytes) (x * s .bytes)) m₀) (x * s .bytes) y (i * s .bytes) 1 m₀ m
+        → Put s (washed s keep flip (inRow first (8 * s .bytes) ((x + i) * s .bytes)) m) ((x + i) * s .bytes) y (k * s .bytes) 1 m m₁
+        → Put s (washed s keep flip (inRow first (8 * s .bytes) (x * s .bytes)) m₀) (x * s .bytes) y ((i + k) * s .bytes) 1 m₀ m₁
+    part-more {m₀} {m} {m₁} done put =
+        let b = s .bytes in
+        let all = add-mul i k b in
+        put-beside s (washed s keep flip (inRow first (8 * b) (x * b)) m₀) (x * b) y ((i + k) * b) 1 wide (i * b) (k * b) (omega arith) (omega arith) done
+        (later (inRow first (8 * b) (x * b)) (inRow first (8 * b) (x * b + i * b)) (x * b + i * b) y (k * b) 1 (x * b) y (i * b) 1 (omega arith) (omega arith)
+        (λ p j. ap (λ (a : ℕ). getD keep a 0) (begins-again p j)) (λ p j. ap (λ (a : ℕ). getD flip a 0) (begins-again p j)) (λ p q u v e f. omega arith) done
+        (subst (λ (n : ℕ). Put s (washed s keep flip (inRow first (8 * b) n) m) n y (k * b) 1 m m₁) (add-mul x i b) put))
 
   -- a row
   module _ (period x y n j : ℕ) (wide : x + n ≤ rowBytes s) where

@@ -1,9 +1,10 @@
 -- Wide tables: their rows repeat, a rectangle of pixels can be changed by them, and they change it as the tables do that they were made of.
 -- Assumes nothing.
 use mathlib.Core.Path.{_≡_, sym, ap, ap₂, _∙_}
+use mathlib.Core.Bool.{true}
 use mathlib.Core.List.{List}
-use Prim.Native.Nat.{ℕ, _+_, _-_, _*_, _%_, _<_}
-use native.Mathlib.Nat.{mod-lt, mod-le, mod-mod}
+use Prim.Native.Nat.{ℕ, _+_, _-_, _*_, _%_, _<_, _≤_}
+use native.Mathlib.Nat.{mod-lt, mod-le, mod-mod, add-mul, mul-le-mul-right}
 use native.Mathlib.Omega.{arith}
 use lib.ListN.{getD}
 use Rattle.surface.specs.declared.Surface.{Surface}
@@ -33,10 +34,11 @@ module _ {rows period n wide : ℕ} (steps : Period period) (enough : (i : ℕ) 
 module _ (s : Surface) {x y w h rows wide : ℕ} {keep flip keep′ flip′ : List ℕ} (enough : (i : ℕ) → i < 160 → i < w * s .bytes → i < wide)
     (lines : (j : ℕ) → j < h → j % 8 < rows) (keeps : Widened keep rows (8 * s .bytes) wide keep′) (flips : Widened flip rows (8 * s .bytes) wide flip′) {len : ℕ}
     (on : RectOn s len x y w h) where
-  pub rows-can : 0 < w → 0 < h → (j : ℕ) → j < h → CanWash s keep′ flip′ (j % 8 * 160) (8 * s .bytes) (x * s .bytes) (y + j) (w * s .bytes) len
-  rows-can pw ph j l =
+  pub rows-can : s .tiled ≡ true → 0 < w → 0 < h → (j : ℕ) → j < h → CanWash s keep′ flip′ (j % 8 * 160) (8 * s .bytes) (x * s .bytes) (y + j) (w * s .bytes) len
+  rows-can tiled pw ph j l =
       let steps = period-of (on .colour) in
       record {
+        tiled = tiled;
         small = on .colour .small;
         wide = bytes-wide s (on .colour .some) x y w h (on .on) pw ph;
         high = omega (arith, on .high);
@@ -59,3 +61,22 @@ module _ (s : Surface) {x y w h rows wide : ℕ} {keep flip keep′ flip′ : Li
         others = put .others;
         long = put .long;
       }
+
+-- ---- some pixels of a row that can be changed
+pub can-part : {s : Surface} {keep flip : List ℕ} {first y len : ℕ} (x w : ℕ) → CanWash s keep flip first (8 * s .bytes) (x * s .bytes) y (w * s .bytes) len → (i k : ℕ) → i + k ≤ w
+    → CanWash s keep flip first (8 * s .bytes) ((x + i) * s .bytes) y (k * s .bytes) len
+can-part {s} x w can i k fits =
+    let b = s .bytes in
+    let inside : i * b + k * b ≤ w * b = omega (arith, mul-le-mul-right {m = i + k} {n = w} b fits, add-mul i k b) in
+    rw (add-mul x i b)
+    (record {
+      tiled = can .tiled;
+      small = can .small;
+      wide = omega (arith, can .wide);
+      high = can .high;
+      steps = can .steps;
+      room = can .room;
+      held = λ c low high. can .held c (omega arith) (omega arith);
+      keeps = record { same = λ j u l. can .keeps .same j u (omega arith) };
+      flips = record { same = λ j u l. can .flips .same j u (omega arith) };
+    })

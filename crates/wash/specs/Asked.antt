@@ -2,6 +2,7 @@
 -- Assumes nothing.
 use mathlib.Core.List.{List}
 use mathlib.Core.Path.{_≡_}
+use mathlib.Core.Bool.{true}
 use Prim.Native.Nat.{ℕ, _+_, _%_, _<_, _≤_, _^_}
 use lib.ListN.{getD}
 use Rattle.surface.specs.declared.Surface.{Surface}
@@ -22,8 +23,9 @@ pub record Period (period : ℕ) : Type 0 where
   pub some : 0 < period
   pub few : period ≤ 32
 
--- n bytes of row y from column x on can be changed by the tables' rows from number `first` on, in a memory of len bytes
+-- n bytes of row y from column x on, on tiles, can be changed by the tables' rows from number `first` on, in a memory of len bytes
 pub record CanWash (s : Surface) (keep flip : List ℕ) (first period x y n len : ℕ) : Type 0 where
+  pub tiled : s .tiled ≡ true
   pub small : Small s
   pub wide : x + n ≤ rowBytes s
   pub high : y < 2 ^ 32

@@ -6,26 +6,14 @@ ghost use mathlib.Core.Path.{_≡_};
 ghost use mathlib.Core.Bool.{true, false};
 ghost use Prim.Native.Nat.{ℕ, _+_, _*_, _%_, _^_, _<_, _≤_};
 ghost use lib.ListN.{length};
-ghost use Rattle.surface.specs.Place.{rowBytes};
-ghost use Rattle.surface.specs.Pixels.{rect};
-ghost use Rattle.paint.specs.Paint.{state, tallied, paint};
-ghost use Rattle.runs.specs.Asked.{RectOn};
+ghost use Rattle.surface.specs.Pixels.{across, rect};
+ghost use Rattle.paint.specs.Paint.{state, tallied, paint, changing, summed};
+ghost use Rattle.runs.specs.Asked.{RowOn, RectOn};
 ghost use Rattle.blocks.specs.Blocks.{Put};
 ghost use Rattle.tint.specs.Tint.{fillings};
 ghost use Rattle.wash.specs.Wash.{washed, inRow, inRows, Spread, Widened};
 ghost use Rattle.wash.specs.Asked.{Period, CanWash, Ones};
 ghost use Rattle.wash.specs.Count.{counting, countings};
-
-// How many of n bytes, from column `at` on, come before the next edge of a tile.
-fn to_edge(at: usize, n: usize) -> usize
-    ensures { λ r. ⌜ (r ≤ n) × (0 < n → 0 < r) × (at % 128 + r ≤ 128) ⌝ }
-{
-    let left = 128 - at % 128;
-    if left < n {
-        return left;
-    }
-    n
-}
 
 // How many bytes of a row of n its masks are repeated to.
 fn wide_row(n: usize) -> usize
@@ -85,33 +73,89 @@ fn wash_row(
 {
     let mut i = 0;
     while i < n {
-        let k = to_edge(x + i, n - i);
+        let k = runs::to_edge(s, x + i, 128, n - i);
         let at = surface::byte_at(s, x + i, y);
         tint::tint_bytes(mem, at, k, keep, flip, first + i % period);
         i += k;
     }
 }
 
+// At most 256 pixels of row y from x on; how many change. What stood there, and what then stands there, are put into buffers.
+fn wash_part(
+    mem: &mut [u8],
+    old: &mut [u8],
+    new: &mut [u8],
+    s: Surface,
+    keep: &[u8; 1280],
+    flip: &[u8; 1280],
+    first: usize,
+    x: u32,
+    y: u32,
+    w: u32,
+) -> u32
+    requires { ⌜ CanWash s (now keep) (now flip) first (8 * s .bytes) (x * s .bytes) y (w * s .bytes) (length (now mem)) × ((w ≤ 256) × (RowOn s (length (now mem)) x w y × ((1024 ≤ length (now old)) × (1024 ≤ length (now new))))) ⌝ }
+    ensures { λ r. ⌜ Put s (washed s (now (keep .entry)) (now (flip .entry)) (inRow first (8 * s .bytes) (x * s .bytes)) (now (mem .entry))) (x * s .bytes) y (w * s .bytes) 1 (now (mem .entry)) (now (mem .exit)) × (r ≡ summed (changing s (now (mem .entry)) (now (mem .exit))) (across false x w y)) ⌝ }
+{
+    let bytes = surface::wide(s.bytes);
+    let left = surface::wide(x) * bytes;
+    let down = surface::wide(y);
+    let n = surface::wide(w) * bytes;
+    runs::keep_row(old, mem, s, left, down, n);
+    wash_row(mem, s, keep, flip, first, 8 * bytes, left, down, n);
+    runs::keep_row(new, mem, s, left, down, n);
+    runs::unlike(old, 0, new, 0, s.bytes, w)
+}
+
+// Any number of them, 256 at a time.
+fn wash_line(
+    mem: &mut [u8],
+    old: &mut [u8],
+    new: &mut [u8],
+    s: Surface,
+    keep: &[u8; 1280],
+    flip: &[u8; 1280],
+    first: usize,
+    x: u32,
+    y: u32,
+    w: u32,
+) -> u32
+    requires { ⌜ CanWash s (now keep) (now flip) first (8 * s .bytes) (x * s .bytes) y (w * s .bytes) (length (now mem)) × (RowOn s (length (now mem)) x w y × ((1024 ≤ length (now old)) × (1024 ≤ length (now new)))) ⌝ }
+    ensures { λ r. ⌜ Put s (washed s (now (keep .entry)) (now (flip .entry)) (inRow first (8 * s .bytes) (x * s .bytes)) (now (mem .entry))) (x * s .bytes) y (w * s .bytes) 1 (now (mem .entry)) (now (mem .exit)) × (r ≡ summed (changing s (now (mem .entry)) (now (mem .exit))) (across false x w y)) ⌝ }
+{
+    let mut r = 0;
+    let mut i = 0;
+    while i < w {
+        let k = surface::least(256, w - i);
+        r += wash_part(mem, old, new, s, keep, flip, first, x + i, y, k);
+        i += k;
+    }
+    r
+}
+
 // h rows of them.
-fn wash_bytes(
+fn wash_lines(
     mem: &mut [u8],
     s: Surface,
     keep: &[u8; 1280],
     flip: &[u8; 1280],
-    period: usize,
-    x: usize,
-    y: usize,
-    n: usize,
-    h: usize,
-)
-    requires { ⌜ (x + n ≤ rowBytes s) × (y + h < 2 ^ 32) × ((j : ℕ) → j < h → CanWash s (now keep) (now flip) (j % 8 * 160) period x (y + j) n (length (now mem))) ⌝ }
-    ensures { λ _. ⌜ Put s (washed s (now (keep .entry)) (now (flip .entry)) (inRows 160 period x y) (now (mem .entry))) x y n h (now (mem .entry)) (now (mem .exit)) ⌝ }
+    x: u32,
+    y: u32,
+    w: u32,
+    h: u32,
+) -> u32
+    requires { ⌜ RectOn s (length (now mem)) x y w h × ((j : ℕ) → j < h → CanWash s (now keep) (now flip) (j % 8 * 160) (8 * s .bytes) (x * s .bytes) (y + j) (w * s .bytes) (length (now mem))) ⌝ }
+    ensures { λ r. ⌜ Put s (washed s (now (keep .entry)) (now (flip .entry)) (inRows 160 (8 * s .bytes) (x * s .bytes) y) (now (mem .entry))) (x * s .bytes) y (w * s .bytes) h (now (mem .entry)) (now (mem .exit)) × (r ≡ summed (changing s (now (mem .entry)) (now (mem .exit))) (rect false false x y w h)) ⌝ }
 {
+    let mut old = [0u8; 1024];
+    let mut new = [0u8; 1024];
+    let mut r = 0;
     let mut j = 0;
     while j < h {
-        wash_row(mem, s, keep, flip, j % 8 * 160, period, x, y + j, n);
+        let first = surface::wide(j % 8 * 160);
+        r += wash_line(mem, &mut old, &mut new, s, keep, flip, first, x, y + j, w);
         j += 1;
     }
+    r
 }
 
 // How many of n pixels, at most eight, are counted.
@@ -150,7 +194,7 @@ fn count_rows(adds: &[u32; 64], w: u32, h: u32) -> u32
     r
 }
 
-// A rectangle of pixels, by the first rows of masks in two tables.
+// A rectangle of pixels, by the first rows of masks in two tables; how many change.
 fn wash_masks(
     mem: &mut [u8],
     s: Surface,
@@ -161,28 +205,16 @@ fn wash_masks(
     y: u32,
     w: u32,
     h: u32,
-)
-    requires { ⌜ RectOn s (length (now mem)) x y w h × (((0 < w) × (0 < h)) × ((rows ≤ 8) × ((j : ℕ) → j < h → j % 8 < rows))) ⌝ }
-    ensures { λ _. ⌜ Put s (washed s (now (keeps .entry)) (now (flips .entry)) (inRows (8 * s .bytes) (8 * s .bytes) (x * s .bytes) y) (now (mem .entry))) (x * s .bytes) y (w * s .bytes) h (now (mem .entry)) (now (mem .exit)) ⌝ }
+) -> u32
+    requires { ⌜ RectOn s (length (now mem)) x y w h × ((s .tiled ≡ true) × (((0 < w) × (0 < h)) × ((rows ≤ 8) × ((j : ℕ) → j < h → j % 8 < rows)))) ⌝ }
+    ensures { λ r. ⌜ Put s (washed s (now (keeps .entry)) (now (flips .entry)) (inRows (8 * s .bytes) (8 * s .bytes) (x * s .bytes) y) (now (mem .entry))) (x * s .bytes) y (w * s .bytes) h (now (mem .entry)) (now (mem .exit)) × (r ≡ summed (changing s (now (mem .entry)) (now (mem .exit))) (rect false false x y w h)) ⌝ }
 {
     let bytes = s.bytes as usize;
     let period = 8 * bytes;
-    let n = w as usize * bytes;
-    let many = wide_row(n);
+    let many = wide_row(w as usize * bytes);
     let keep = widen(keeps, rows as usize, period, many);
     let flip = widen(flips, rows as usize, period, many);
-    let left = x as usize * bytes;
-    wash_bytes(
-        mem,
-        s,
-        &keep,
-        &flip,
-        period,
-        left,
-        y as usize,
-        n,
-        h as usize,
-    );
+    wash_lines(mem, s, &keep, &flip, x, y, w, h)
 }
 
 // A fill without a target key: the masks are worked out once, and go over the rows as the layout has them; the tally of the pixels written.
@@ -196,7 +228,7 @@ pub fn wash_rows(
     h: u32,
 ) -> Tally
     requires { ⌜ RectOn (ink .target) (length (now mem)) x y w h × ((ink .target .tiled ≡ true → (0 < w) × (0 < h)) × (ink .dstKey ≡ false)) ⌝ }
-    ensures { λ r. ⌜ tallied (now (mem .exit)) r ≡ paint (ink .target) (fillings ink pattern (rect false false x y w h)) (state (now (mem .entry)) 0) ⌝ }
+    ensures { λ r. ⌜ tallied (now (mem .exit)) r ≡ paint (ink .target) (fillings ink pattern (rect false false x y w h)) (state (now (mem .entry)) 0 0) ⌝ }
 {
     let rows = tint::mask_rows(h);
     let mut keep = [0u8; 256];
@@ -207,8 +239,9 @@ pub fn wash_rows(
     if !s.tiled {
         return tint::tint_rows(mem, s, &keep, &flip, &adds, x, y, w, h);
     }
-    wash_masks(mem, s, &keep, &flip, rows, x, y, w, h);
+    let changed = wash_masks(mem, s, &keep, &flip, rows, x, y, w, h);
     Tally {
         count: count_rows(&adds, w, h),
+        changed: changed,
     }
 }

@@ -66,8 +66,8 @@ returns-2 c =
     (carried-out (a .blit)
     ((c .end-line .ensures) ∙ ap (lineEnded (a .bank)) ((c .before .before .before .before .paint-line .ensures .1) ∙ ap₂ (λ (p : Pen) (l : Line). styleAfter p (pointCount l) (r .lineStyle)) (c .before .before .before .before .before .before .before .decode-pen .ensures) (c .before .before .before .before .before .before .before .before .decode-line .ensures)))
     ((c .before .before .before .before .paint-line .ensures .0)
-    ∙ ap₂ (λ (i : Ink) (k : Clip). paint (i .target) (lineTouches i (a .bank .pattern) k p (r .lineStyle) (points l)) (state (a .mem .now) 0)) (c .before .before .before .before .before .before .before .before .before .before .decode-ink .ensures) (c .before .before .before .before .before .before .before .before .before .decode-clip .ensures)
-    ∙ ap₂ (λ (p : Pen) (l : Line). paint (target r) (lineTouches (inkOf r) (a .bank .pattern) (clipOf r) p (r .lineStyle) (points l)) (state (a .mem .now) 0)) (c .before .before .before .before .before .before .before .decode-pen .ensures) (c .before .before .before .before .before .before .before .before .decode-line .ensures)))
+    ∙ ap₂ (λ (i : Ink) (k : Clip). paint (i .target) (lineTouches i (a .bank .pattern) k p (r .lineStyle) (points l)) (state (a .mem .now) 0 0)) (c .before .before .before .before .before .before .before .before .before .before .decode-ink .ensures) (c .before .before .before .before .before .before .before .before .before .decode-clip .ensures)
+    ∙ ap₂ (λ (p : Pen) (l : Line). paint (target r) (lineTouches (inkOf r) (a .bank .pattern) (clipOf r) p (r .lineStyle) (points l)) (state (a .mem .now) 0 0)) (c .before .before .before .before .before .before .before .decode-pen .ensures) (c .before .before .before .before .before .before .before .before .decode-line .ensures)))
 
 pub draw-spec : {M : Type 1} → statement M
 draw-spec =

@@ -1,7 +1,13 @@
 -- `bits::put_bit` meets its contract: the one colour, or the other one, which may be left.
 -- Assumes nothing.
 use borrow.Author.Needs.{needs}
-use borrow.Author.Tests.{eq-eqb, ne-eqb}
+use mathlib.Core.Path.{_≡_, ap, _∙_}
+use mathlib.Core.Bool.{true, false, cond, not, _&&_, and-true, and-false}
+use mathlib.Core.Logic.{⊎-elim}
+use mathlib.Core.Option.{Option, none, some}
+use Prim.Native.Nat.{ℕ}
+use lib.Dec.{eqb}
+use Rattle.paint.specs.Paint.{tallied, dabAt}
 use Rattle.bits.specs.Bits.{coloured}
 use Rattle.bits.proofs.put_bit.Statement.{statement}
 use Rattle.bits.proofs.put_bit.Tie as tie
@@ -14,17 +20,13 @@ same-length c = search needs
 
 returns : tie.Need-returns
 unfolding coloured
-returns c = rw (eq-eqb _ 1 (c .before .before .before .before .if1 .taken)) (c .before .before .put-value-at .ensures)
-
-put-value-at-requires-2 : tie.Need-put-value-at-requires-2
-put-value-at-requires-2 c κs = search needs
-
-same-length-2 : tie.Need-same-length-2
-same-length-2 c = search needs
-
-returns-2 : tie.Need-returns-2
-unfolding coloured
-returns-2 c = rw (ne-eqb _ 1 (c .before .before .before .before .if1 .left)) (c .before .before .put-value-at2 .ensures)
+returns c =
+    let a = c .before .before .before .before .before .before .before .args in
+    let v = c .before .before .before .before .before .if1 in
+    let o : cond (a .p .clear && not (eqb (a .bit) 1)) none (some (v .v)) ≡ coloured (a .p) (a .bit) =
+    ⊎-elim (λ w. let e : eqb (a .bit) 1 ≡ true = w .0 .taken in rw (w .1, e, and-false (a .p .clear)))
+    (λ w. let e : eqb (a .bit) 1 ≡ false = w .0 .left in rw (w .1, e, and-true (a .p .clear))) (v .came) in
+    c .before .before .put-value-at .ensures ∙ ap (λ (u : Option ℕ). dabAt (a .at) (a .n) u (tallied (a .mem .now) (a .tally))) o
 
 pub put-bit-spec : {M : Type 1} → statement M
-put-bit-spec = tie.close (tie.spec put-value-at-requires same-length returns put-value-at-requires-2 same-length-2 returns-2)
+put-bit-spec = tie.close (tie.spec put-value-at-requires same-length returns)

@@ -49,7 +49,7 @@ enum-told : tie.Need-enum-told
 enum-told c = search needs
 
 run-requires : tie.Need-run-requires
-run-requires c κs = (whole (c .before .before .before .before .before .before), (each-byte (c .before .before .before .before .before .before), draws-command _ (sym (c .before .before .before .before .before .find-place .ensures) ∙ c .before .before .before .enum-told .given .1) (c .before .before .if2 .taken)))
+run-requires c κs = (whole (c .before .before .before .before .before .before .before), (each-byte (c .before .before .before .before .before .before .before), draws-command _ (sym (c .before .before .before .before .before .before .find-place .ensures) ∙ c .before .before .before .before .enum-told .given .1) (c .before .before .before .if2 .taken)))
 
 same-length-2 : tie.Need-same-length-2
 same-length-2 c = search needs
@@ -81,13 +81,13 @@ enum-told-2 : tie.Need-enum-told-2
 enum-told-2 c = search needs
 
 run-requires-2 : tie.Need-run-requires-2
-run-requires-2 c κs = (whole (c .before .before .before .before .before), (each-byte (c .before .before .before .before .before), draws-launch _ (sym (c .before .before .before .before .find-place .ensures) ∙ c .before .before .enum-told2 .given .1)))
+run-requires-2 c κs = (whole (c .before .before .before .before .before .before), (each-byte (c .before .before .before .before .before .before), draws-launch _ (sym (c .before .before .before .before .before .find-place .ensures) ∙ c .before .before .before .enum-told2 .given .1)))
 
 enum-told-3 : tie.Need-enum-told-3
 enum-told-3 c = search needs
 
 run-requires-3 : tie.Need-run-requires-3
-run-requires-3 c κs = (whole (c .before .before .before .before .before), (each-byte (c .before .before .before .before .before), draws-nowhere _ (sym (c .before .before .before .before .find-place .ensures) ∙ c .before .before .enum-told3 .given .1)))
+run-requires-3 c κs = (whole (c .before .before .before .before .before .before), (each-byte (c .before .before .before .before .before .before), draws-nowhere _ (sym (c .before .before .before .before .before .find-place .ensures) ∙ c .before .before .before .enum-told3 .given .1)))
 
 same-length-4 : tie.Need-same-length-4
 same-length-4 c = search needs

@@ -15,6 +15,9 @@ write-requires c κs = search needs
 save-requires : tie.Need-save-requires
 save-requires c κs = opened _ (c .before .before .before .before .before .before .before .before .before .before .pre .0) (c .before .before .before .before .before .before .before .before .before .before .pre .1 .0) .size
 
+changed-requires : tie.Need-changed-requires
+changed-requires c κs = search needs
+
 pack-requires : tie.Need-pack-requires
 pack-requires c κs = search needs
 
@@ -26,8 +29,8 @@ same-length-2 c = search needs
 
 returns : tie.Need-returns
 returns c =
-    command-written (c .before .before .before .before .before .before .before .before .before .before .before .before .before .before .args .s .now) (c .before .before .before .before .before .before .before .before .before .before .before .before .before .before .args .mem .now) (c .before .before .before .before .before .before .before .before .before .before .before .before .before .before .args .offset) (c .before .before .before .before .before .before .before .before .before .before .before .before .before .before .args .word) (c .before .before .before .before .before .before .before .before .before .before .before .before .before .before .pre .0) (c .before .before .before .before .before .before .before .before .before .before .before .before .before .before .pre .1 .0) (c .before .before .before .before .before .before .before .before .before .before .before .before .before .before .pre .1 .1)
-    (c .before .before .before .before .before .before .before .before .before .before .decode .ensures) (c .before .before .before .before .before .before .before .before .write .ensures) (c .before .before .before .save .ensures) (c .pack .ensures)
+    command-written (c .before .before .before .before .before .before .before .before .before .before .before .before .before .before .before .args .s .now) (c .before .before .before .before .before .before .before .before .before .before .before .before .before .before .before .args .mem .now) (c .before .before .before .before .before .before .before .before .before .before .before .before .before .before .before .args .offset) (c .before .before .before .before .before .before .before .before .before .before .before .before .before .before .before .args .word) (c .before .before .before .before .before .before .before .before .before .before .before .before .before .before .before .pre .0) (c .before .before .before .before .before .before .before .before .before .before .before .before .before .before .before .pre .1 .0) (c .before .before .before .before .before .before .before .before .before .before .before .before .before .before .before .pre .1 .1)
+    (c .before .before .before .before .before .before .before .before .before .before .before .decode .ensures) (c .before .before .before .before .before .before .before .before .before .write .ensures) (c .before .before .before .before .save .ensures) (c .pack .ensures) (c .before .changed .ensures)
 
 pub run-spec : {M : Type 1} → statement M
 run-spec =
@@ -36,6 +39,7 @@ run-spec =
     decode-requires
     write-requires
     save-requires
+    changed-requires
     pack-requires
     same-length
     same-length-2

@@ -24,7 +24,7 @@ use Rattle.points.proofs.paint_each.Tie as tie
 
 abbrev Inv-loop : tie.InvT-loop
 Inv-loop mem₀ ink pattern c l pen style total done₀ i₀ mem done i =
-    Left (ink .target) (lineTouches ink pattern c pen style (points l)) mem₀ (tally 0) i (lineTouches ink pattern c pen (done .style) (pointsFrom l i (total - i))) mem (done .tally)
+    Left (ink .target) (lineTouches ink pattern c pen style (points l)) mem₀ (tally 0 0) i (lineTouches ink pattern c pen (done .style) (pointsFrom l i (total - i))) mem (done .tally)
     × (styleAfter pen (total - i) (done .style) ≡ styleAfter pen (pointCount l) style)
     × (allOn (ink .target) (length mem₀) (coveredPoints c (pointsFrom l i (total - i))) ≡ true)
     × (i ≤ total)

@@ -10,6 +10,7 @@ use lib.ListN.{length}
 use Rattle.surface.specs.Pixels.{rect}
 use Rattle.surface.proofs.Bytes.{product-lt}
 use Rattle.surface.proofs.OnLaws.{and-left, and-right}
+use Rattle.paint.specs.Tally.{tally}
 use Rattle.paint.specs.Paint.{state, paint}
 use Rattle.sweep.specs.declared.Task.{Task}
 use Rattle.sweep.specs.Copy.{giving}
@@ -71,10 +72,10 @@ returns-2 c =
     let m = a .mem .now in
     let ps = rect false false (a .t .x) (a .t .y) (a .w) (a .h) in
     c .before .before .mono-rows .ensures
-    ∙ ap (λ (k : Mono). paint (k .plain .target) (monoly k (rect false false (k .x) (k .y) (a .w) (a .h))) (state m 0)) (made .0)
+    ∙ ap (λ (k : Mono). paint (k .plain .target) (monoly k (rect false false (k .x) (k .y) (a .w) (a .h))) (state m 0 0)) (made .0)
     ∙ sym (paint-same (a .t .ink .target) (λ q now. giving (a .t) (a .pattern) now now q) (λ q now. monoGiving (monoOf (a .t)) now q) ps
-    (λ q i now. mono-gives (a .t) bitwise (made .1 .0) (made .1 .1) (a .pattern) now q) (state m 0))
-    ∙ mono-corner (a .t) (a .w) (a .h) (length m) (is-mono (a .t) bitwise) (p .0) (p .1 .1) (a .toLeft) (a .toTop) (a .pattern) m 0
+    (λ q i now. mono-gives (a .t) bitwise (made .1 .0) (made .1 .1) (a .pattern) now q) (state m 0 0))
+    ∙ mono-corner (a .t) (a .w) (a .h) (length m) (is-mono (a .t) bitwise) (p .0) (p .1 .1) (a .toLeft) (a .toTop) (a .pattern) m (tally 0 0)
 
 is-plain-requires : tie.Need-is-plain-requires
 is-plain-requires c κs = search needs
@@ -133,9 +134,9 @@ returns-4 c =
     let straight = sym (c .before .before .before .before .before .before .is-straight .ensures) ∙ c .before .before .before .before .before .if4 .taken in
     let m = a .mem .now in
     c .before .before .straight-rows .ensures
-    ∙ ap (λ (k : Straight). paint (k .target) (straightly k (rect (a .toLeft) (a .toTop) (k .x) (k .y) (a .w) (a .h))) (state m 0)) (c .before .before .before .straight-of .ensures)
+    ∙ ap (λ (k : Straight). paint (k .target) (straightly k (rect (a .toLeft) (a .toTop) (k .x) (k .y) (a .w) (a .h))) (state m 0 0)) (c .before .before .before .straight-of .ensures)
     ∙ sym (paint-same (a .t .ink .target) (λ q now. giving (a .t) (a .pattern) now now q) (λ q now. straightGiving (straightOf (a .t)) now q)
-    (rect (a .toLeft) (a .toTop) (a .t .x) (a .t .y) (a .w) (a .h)) (λ q i now. straight-gives (a .t) straight (a .pattern) now q) (state m 0))
+    (rect (a .toLeft) (a .toTop) (a .t .x) (a .t .y) (a .w) (a .h)) (λ q i now. straight-gives (a .t) straight (a .pattern) now q) (state m 0 0))
 
 paint-rows-requires : tie.Need-paint-rows-requires
 paint-rows-requires c κs =

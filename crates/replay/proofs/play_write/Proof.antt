@@ -49,6 +49,18 @@ slice-aggregate-say-number-2 c = search needs
 say-number-requires-2 : tie.Need-say-number-requires-2
 say-number-requires-2 c κs = search needs
 
+changed-requires : tie.Need-changed-requires
+changed-requires c κs = search needs
+
+cast-say-number-3 : tie.Need-cast-say-number-3
+cast-say-number-3 c = search needs
+
+slice-aggregate-say-number-3 : tie.Need-slice-aggregate-say-number-3
+slice-aggregate-say-number-3 c = search needs
+
+say-number-requires-3 : tie.Need-say-number-requires-3
+say-number-requires-3 c κs = search needs
+
 same-length : tie.Need-same-length
 same-length c = search needs
 
@@ -73,5 +85,9 @@ play-write-spec =
     cast-say-number-2
     slice-aggregate-say-number-2
     say-number-requires-2
+    changed-requires
+    cast-say-number-3
+    slice-aggregate-say-number-3
+    say-number-requires-3
     same-length
     returns-2)

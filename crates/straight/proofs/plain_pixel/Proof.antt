@@ -15,8 +15,8 @@ get-bytes-requires c κs = search needs
 convert-by-rule-requires : tie.Need-convert-by-rule-requires
 convert-by-rule-requires c κs = search needs
 
-put-bytes-requires : tie.Need-put-bytes-requires
-put-bytes-requires c κs = search needs
+store-bytes-requires : tie.Need-store-bytes-requires
+store-bytes-requires c κs = search needs
 
 same-length : tie.Need-same-length
 same-length c = search needs
@@ -26,11 +26,13 @@ returns c =
     let a = (c .before .before .before .before .before .before .before .before .args) in
     let p = (c .before .before .before .before .before .before .before .before .pre) in
     let value = (c .before .before .before .convert-by-rule) in
-    let v = (c .before .before .before .before .before .get-bytes) in
-    puts (a .t) (a .from) (a .to) (a .d) (a .s) (v .result) (a .mem .now) (p .0 .formats) (v .ensures) (value .result) _ (omega arith)
-    (ap (λ (b : Bool). b && keyMatch (a .t .from .bytes) (a .t .least) (a .t .most) (v .result)) (p .1)) (value .ensures) (c .before .before .put-bytes .ensures)
+    let v = (c .before .before .before .before .before .get-bytes) in (
+      puts (a .t) (a .from) (a .to) (a .d) (a .s) (v .result) (a .mem .now) (p .0 .formats) (v .ensures) (value .result) _ (omega arith)
+          (ap (λ (b : Bool). b && keyMatch (a .t .from .bytes) (a .t .least) (a .t .most) (v .result)) (p .1)) (value .ensures) (c .before .before .store-bytes .ensures .0),
+      c .before .before .store-bytes .ensures .1,
+    )
 
 pub plain-pixel-spec : {M : Type 1} → statement M
 plain-pixel-spec =
     tie.close
-    (tie.spec get-bytes-requires convert-by-rule-requires put-bytes-requires same-length returns)
+    (tie.spec get-bytes-requires convert-by-rule-requires store-bytes-requires same-length returns)

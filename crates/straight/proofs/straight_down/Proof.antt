@@ -11,10 +11,10 @@ use Rattle.straight.proofs.straight_down.Statement.{statement}
 use Rattle.straight.proofs.straight_down.Tie as tie
 
 abbrev Inv-loop : tie.InvT-loop
-Inv-loop mem₀ t from to d s w j i₀ mem i = Copying t w j true mem₀ (w - i) mem × (i ≤ w)
+Inv-loop mem₀ t from to d s w j r₀ i₀ mem r i = Copying t w j true mem₀ (w - i) r mem × (i ≤ w)
 
 abbrev μ-loop : tie.MeasureT-loop
-μ-loop mem₀ t from to d s w j i₀ mem i = i
+μ-loop mem₀ t from to d s w j r₀ i₀ mem r i = i
 
 loop-holds : tie.Need-loop-holds Inv-loop μ-loop
 loop-holds c =
@@ -37,18 +37,25 @@ straight-pixel-requires c κs =
     let k = c .before .before .before .before .loop in
     rw (c .before .pixel-at .ensures, c .pixel-at2 .ensures, k .inv .0 .left .long) (pixel-copies (p .0) (p .1) (k .i - 1) (omega arith))
 
+one-requires : tie.Need-one-requires Inv-loop μ-loop
+one-requires c κs = search needs
+
+add-r : tie.Need-add-r Inv-loop μ-loop
+add-r c = let k = c .before .before .before .before .before .before .before .before .loop in omega (arith, k .inv .0 .left .upto .changed, c .one .ensures .1)
+
 loop-less : tie.Need-loop-less Inv-loop μ-loop
 loop-less c = search needs
 
 loop-again : tie.Need-loop-again Inv-loop μ-loop
 loop-again c =
-    let p = c .before .before .before .before .before .before .before .before .before .pre in
-    let w = c .before .before .before .before .before .before .before .before .before .args .w in
-    let k = c .before .before .before .before .before .before .before .loop in
-    let some = c .before .before .before .before .before .before .loop-test .taken in
+    let first = c .before .before .before .before .before .before .before .before .before .before in
+    let p = first .pre in
+    let w = first .args .w in
+    let k = c .before .before .before .before .before .before .before .before .loop in
+    let some = c .before .before .before .before .before .before .before .loop-test .taken in
     let next : w - (k .i - 1) ≡ w - k .i + 1 = omega arith in (
       rw next (row-copies (p .0) (p .1) (k .i - 1) (k .inv .0) (omega arith) (omega arith)
-          (rw (c .before .before .before .before .pixel-at .ensures, c .before .before .before .pixel-at2 .ensures) at (c .before .before .straight-pixel .ensures))),
+          (rw (c .before .before .before .before .before .pixel-at .ensures, c .before .before .before .before .pixel-at2 .ensures) at (c .before .before .before .straight-pixel .ensures)) (c .one .ensures .0)),
       omega arith,
     )
 
@@ -69,6 +76,8 @@ straight-down-spec =
     pixel-at-requires
     pixel-at-requires-2
     straight-pixel-requires
+    one-requires
+    add-r
     loop-less
     loop-again
     same-length

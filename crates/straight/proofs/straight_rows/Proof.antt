@@ -7,17 +7,17 @@ use Prim.Native.Nat.{ℕ, _+_, _-_, _*_, _^_}
 use borrow.Author.Needs.{needs}
 use Rattle.paint.specs.Tally.{tally}
 use Rattle.paint.proofs.Turns.{nth-in}
-use Rattle.paint.proofs.Loops.{RowsLeft, rows-begin, rows-fill, rows-full}
+use Rattle.paint.proofs.Loops.{RowsLeft, rows-begin, rows-fill, rows-full, rows-sum}
 use Rattle.straight.specs.Straight.{straightGiving}
 use Rattle.straight.proofs.StraightLaws.{nth-from, can-row}
 use Rattle.straight.proofs.straight_rows.Statement.{statement}
 use Rattle.straight.proofs.straight_rows.Tie as tie
 
 abbrev Inv-loop : tie.InvT-loop
-Inv-loop mem₀ t w h toLeft toTop i₀ mem i = RowsLeft (t .target) (λ p now. straightGiving t now p) toLeft toTop (t .x) (t .y) w h mem₀ i mem (tally (w * i))
+Inv-loop mem₀ t w h toLeft toTop changed₀ i₀ mem changed i = RowsLeft (t .target) (λ p now. straightGiving t now p) toLeft toTop (t .x) (t .y) w h mem₀ i mem (tally (w * i) changed)
 
 abbrev μ-loop : tie.MeasureT-loop
-μ-loop mem₀ t w h toLeft toTop i₀ mem i = h - i
+μ-loop mem₀ t w h toLeft toTop changed₀ i₀ mem changed i = h - i
 
 loop-holds : tie.Need-loop-holds Inv-loop μ-loop
 loop-holds c = rw mul-zero rows-begin
@@ -32,6 +32,16 @@ straight-row-requires c κs =
     let number = nth-in (a .toTop) 0 (a .h) (k .i) (c .before .before .loop-test .taken) in
     let e = c .before .place .ensures in
     rw (k .inv .left .long) (can-row (c .before .before .before .before .before .pre) (c .before .place .result) (omega arith))
+
+add-changed : tie.Need-add-changed Inv-loop μ-loop
+add-changed c =
+    let s = c .before .before .before .before .before .before .before .before in
+    let j = c .before .before .before .before .place in
+    omega (
+      arith,
+      rows-sum (c .before .before .before .before .before .before .loop .inv) (omega (arith, s .pre .wide)) (omega (arith, s .pre .high))
+          (c .before .before .before .before .before .loop-test .taken) (s .args .t .y + j .result) (c .before .before .straight-row .ensures),
+    )
 
 add-i : tie.Need-add-i Inv-loop μ-loop
 add-i c = search needs
@@ -67,6 +77,7 @@ straight-rows-spec =
     loop-holds
     place-requires
     straight-row-requires
+    add-changed
     add-i
     loop-less
     loop-again

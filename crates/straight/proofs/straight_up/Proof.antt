@@ -10,10 +10,10 @@ use Rattle.straight.proofs.straight_up.Statement.{statement}
 use Rattle.straight.proofs.straight_up.Tie as tie
 
 abbrev Inv-loop : tie.InvT-loop
-Inv-loop mem₀ t from to d s w j i₀ mem i = Copying t w j false mem₀ i mem
+Inv-loop mem₀ t from to d s w j r₀ i₀ mem r i = Copying t w j false mem₀ i r mem
 
 abbrev μ-loop : tie.MeasureT-loop
-μ-loop mem₀ t from to d s w j i₀ mem i = w - i
+μ-loop mem₀ t from to d s w j r₀ i₀ mem r i = w - i
 
 loop-holds : tie.Need-loop-holds Inv-loop μ-loop
 loop-holds c = row-begins
@@ -30,6 +30,12 @@ straight-pixel-requires c κs =
     let k = c .before .before .before .before .loop in
     rw (c .before .pixel-at .ensures, c .pixel-at2 .ensures, k .inv .left .long) (pixel-copies (p .0) (p .1) (k .i) (omega arith))
 
+one-requires : tie.Need-one-requires Inv-loop μ-loop
+one-requires c κs = search needs
+
+add-r : tie.Need-add-r Inv-loop μ-loop
+add-r c = let k = c .before .before .before .before .before .before .before .before .loop in omega (arith, k .inv .left .upto .changed, c .one .ensures .1)
+
 add-i : tie.Need-add-i Inv-loop μ-loop
 add-i c = search needs
 
@@ -38,10 +44,10 @@ loop-less c = search needs
 
 loop-again : tie.Need-loop-again Inv-loop μ-loop
 loop-again c =
-    let p = c .before .before .before .before .before .before .before .before .before .pre in
-    let k = c .before .before .before .before .before .before .before .loop in
-    row-copies (p .0) (p .1) (k .i) (k .inv) (c .before .before .before .before .before .before .loop-test .taken) (omega arith)
-    (rw (c .before .before .before .before .pixel-at .ensures, c .before .before .before .pixel-at2 .ensures) at (c .before .before .straight-pixel .ensures))
+    let p = c .before .before .before .before .before .before .before .before .before .before .pre in
+    let k = c .before .before .before .before .before .before .before .before .loop in
+    row-copies (p .0) (p .1) (k .i) (k .inv) (c .before .before .before .before .before .before .before .loop-test .taken) (omega arith)
+    (rw (c .before .before .before .before .before .pixel-at .ensures, c .before .before .before .before .pixel-at2 .ensures) at (c .before .before .before .straight-pixel .ensures)) (c .one .ensures .0)
 
 same-length : tie.Need-same-length Inv-loop μ-loop
 same-length c = c .before .loop .inv .left .long
@@ -59,6 +65,8 @@ straight-up-spec =
     pixel-at-requires
     pixel-at-requires-2
     straight-pixel-requires
+    one-requires
+    add-r
     add-i
     loop-less
     loop-again

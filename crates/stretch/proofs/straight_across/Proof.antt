@@ -13,10 +13,10 @@ use Rattle.stretch.proofs.straight_across.Statement.{statement}
 use Rattle.stretch.proofs.straight_across.Tie as tie
 
 abbrev Inv-loop : tie.InvT-loop
-Inv-loop mem₀ t keyed from to d s x y w walk₀ i₀ mem walk i = Copying t x w y mem₀ i mem × (walk ≡ walkAt (t .columns) (origin + (x + i)))
+Inv-loop mem₀ t keyed from to d s x y w walk₀ r₀ i₀ mem walk r i = Copying t x w y mem₀ i r mem × (walk ≡ walkAt (t .columns) (origin + (x + i)))
 
 abbrev μ-loop : tie.MeasureT-loop
-μ-loop mem₀ t keyed from to d s x y w walk₀ i₀ mem walk i = w - i
+μ-loop mem₀ t keyed from to d s x y w walk₀ r₀ i₀ mem walk r i = w - i
 
 loop-holds : tie.Need-loop-holds Inv-loop μ-loop
 loop-holds c = let a = (c .before .args) in (row-begins, walk-begins (a .t .columns) (a .x) (c .before .pre .1 .0))
@@ -45,11 +45,17 @@ straight-pixel-requires c κs =
     let k = (c .before .before .before .before .before .loop) in
     rw ((c .before .before .before .pixel-at .ensures), (c .before .pixel-at2 .ensures), k .inv .0 .left .long, walk-place (begin .args .t .columns) _ (k .inv .1)) ((pixel-copies (begin .pre .0) (begin .pre .1 .1 .0) (k .i) (c .before .before .before .before .loop-test .taken)), begin .pre .1 .1 .1)
 
+one-requires : tie.Need-one-requires Inv-loop μ-loop
+one-requires c κs = search needs
+
+add-r : tie.Need-add-r Inv-loop μ-loop
+add-r c = let k = c .before .before .before .before .before .before .before .before .before .loop in omega (arith, k .inv .0 .left .upto .changed, c .one .ensures .1)
+
 next-requires : tie.Need-next-requires Inv-loop μ-loop
 next-requires c κs =
-    let begin = (c .before .before .before .before .before .before .before .before .before .before) in
-    let k = (c .before .before .before .before .before .before .before .before .loop) in
-    can-step (begin .args .x) (begin .args .w) (k .i) (begin .pre .0 .first) (begin .pre .0 .last) (k .inv .1) (c .before .before .before .before .before .before .before .loop-test .taken)
+    let begin = c .before .before .before .before .before .before .before .before .before .before .before in
+    let k = c .before .before .before .before .before .before .before .before .before .loop in
+    can-step (begin .args .x) (begin .args .w) (k .i) (begin .pre .0 .first) (begin .pre .0 .last) (k .inv .1) (c .before .before .before .before .before .before .before .before .loop-test .taken)
 
 add-i : tie.Need-add-i Inv-loop μ-loop
 add-i c = search needs
@@ -59,12 +65,11 @@ loop-less c = search needs
 
 loop-again : tie.Need-loop-again Inv-loop μ-loop
 loop-again c =
-    let begin = (c .before .before .before .before .before .before .before .before .before .before .before) in
-    let k = (c .before .before .before .before .before .before .before .before .before .loop) in
-    let put = (c .before .before .before .straight-pixel) in
-    let more = (c .before .before .before .before .before .before .before .before .loop-test .taken) in (
+    let begin = c .before .before .before .before .before .before .before .before .before .before .before .before in
+    let k = c .before .before .before .before .before .before .before .before .before .before .loop in
+    let more = c .before .before .before .before .before .before .before .before .before .loop-test .taken in (
       row-copies (begin .pre .0) (begin .pre .1 .1 .0) (k .i) (k .inv .0) (k .inv .1) more
-          (rw ((c .before .before .before .before .before .before .before .pixel-at .ensures), (c .before .before .before .before .before .pixel-at2 .ensures)) at (put .ensures)),
+          (rw (c .before .before .before .before .before .before .before .before .pixel-at .ensures, c .before .before .before .before .before .before .pixel-at2 .ensures) at (c .before .before .before .before .straight-pixel .ensures)) (c .before .one .ensures .0),
       steps-on (begin .args .x) (begin .args .w) (k .i) (begin .pre .0 .first) (begin .pre .0 .last) (k .inv .1) more (c .next .ensures),
     )
 
@@ -85,6 +90,8 @@ straight-across-spec =
     sub-pixel-at
     pixel-at-requires-2
     straight-pixel-requires
+    one-requires
+    add-r
     next-requires
     add-i
     loop-less

@@ -27,8 +27,10 @@ same-length c = search needs
 
 returns : tie.Need-returns
 returns c =
-    let a = (c .before .before .before .before .before .before .before .before .args) in
-    (c .before .before .straight-pixel .ensures) ∙ ap (λ (k : Straight). copied k (a .d) (a .s) (a .mem .now)) ((c .before .before .before .before .before .straight-of .ensures) ∙ ap straightOf (c .before .before .before .before .before .before .task-of .ensures))
+    let a = (c .before .before .before .before .before .before .before .before .args) in (
+      (c .before .before .straight-pixel .ensures .0) ∙ ap (λ (k : Straight). copied k (a .d) (a .s) (a .mem .now)) ((c .before .before .before .before .before .straight-of .ensures) ∙ ap straightOf (c .before .before .before .before .before .before .task-of .ensures)),
+      c .before .before .straight-pixel .ensures .1,
+    )
 
 plain-pixel-requires : tie.Need-plain-pixel-requires
 unfolding straightOf
@@ -42,8 +44,10 @@ same-length-2 c = search needs
 
 returns-2 : tie.Need-returns-2
 returns-2 c =
-    let a = (c .before .before .before .before .before .before .before .before .args) in
-    (c .before .before .plain-pixel .ensures) ∙ ap (λ (k : Straight). copied k (a .d) (a .s) (a .mem .now)) ((c .before .before .before .before .before .straight-of .ensures) ∙ ap straightOf (c .before .before .before .before .before .before .task-of .ensures))
+    let a = (c .before .before .before .before .before .before .before .before .args) in (
+      (c .before .before .plain-pixel .ensures .0) ∙ ap (λ (k : Straight). copied k (a .d) (a .s) (a .mem .now)) ((c .before .before .before .before .before .straight-of .ensures) ∙ ap straightOf (c .before .before .before .before .before .before .task-of .ensures)),
+      c .before .before .plain-pixel .ensures .1,
+    )
 
 pub straight-pixel-spec : {M : Type 1} → statement M
 straight-pixel-spec =

@@ -8,7 +8,7 @@ use mathlib.Core.Bool.{false}
 use Prim.Native.Nat.{_+_, _-_, _*_, _^_}
 use Rattle.surface.specs.Pixels.{origin}
 use Rattle.paint.specs.Tally.{tally}
-use Rattle.paint.proofs.Loops.{RowsLeft, rows-begin, rows-fill, rows-full}
+use Rattle.paint.proofs.Loops.{RowsLeft, rows-begin, rows-fill, rows-full, rows-sum}
 use Rattle.scale.specs.Scale.{walkAt}
 use Rattle.stretch.proofs.Taken.{can-step, steps-on, walk-begins, walk-place, can-take, can-row}
 use Rattle.stretch.proofs.Straight.{straightlyAt}
@@ -16,11 +16,11 @@ use Rattle.stretch.proofs.straight_rows.Statement.{statement}
 use Rattle.stretch.proofs.straight_rows.Tie as tie
 
 abbrev Inv-loop : tie.InvT-loop
-Inv-loop mem₀ t columns x y w h walk₀ j₀ mem walk j =
-    RowsLeft (t .ink .target) (straightlyAt t) false false x y w h mem₀ j mem (tally (w * j)) × (walk ≡ walkAt (t .rows) (origin + (y + j)))
+Inv-loop mem₀ t columns x y w h walk₀ changed₀ j₀ mem walk changed j =
+    RowsLeft (t .ink .target) (straightlyAt t) false false x y w h mem₀ j mem (tally (w * j) changed) × (walk ≡ walkAt (t .rows) (origin + (y + j)))
 
 abbrev μ-loop : tie.MeasureT-loop
-μ-loop mem₀ t columns x y w h walk₀ j₀ mem walk j = h - j
+μ-loop mem₀ t columns x y w h walk₀ changed₀ j₀ mem walk changed j = h - j
 
 loop-holds : tie.Need-loop-holds Inv-loop μ-loop
 loop-holds c = let a = (c .before .args) in (rw mul-zero rows-begin, walk-begins (a .t .rows) (a .y) (c .before .pre .0 .rowsAt))
@@ -40,6 +40,16 @@ straight-row-requires c κs =
     let k = (c .before .before .before .loop) in
     let place = walk-place ((c .before .before .before .before .before .args .t) .rows) _ (k .inv .1) in
     rw (k .inv .0 .left .long, place) (can-row (p .0 .can) (k .j) (p .0 .wide) (c .before .before .loop-test .taken), (p .0 .columnsAt, (refl, p .1)))
+
+add-changed : tie.Need-add-changed Inv-loop μ-loop
+add-changed c =
+    let begin = c .before .before .before .before .before .before .before .before in
+    let k = c .before .before .before .before .before .before .loop in
+    omega (
+      arith,
+      rows-sum (k .inv .0) (omega (arith, begin .pre .0 .can .wide)) (omega (arith, begin .pre .0 .can .high)) (c .before .before .before .before .before .loop-test .taken) (begin .args .y + k .j)
+          (c .before .before .straight-row .ensures),
+    )
 
 next-requires : tie.Need-next-requires Inv-loop μ-loop
 next-requires c κs =
@@ -86,6 +96,7 @@ straight-rows-spec =
     sub-straight-row
     add-straight-row
     straight-row-requires
+    add-changed
     next-requires
     add-j
     loop-less

@@ -28,7 +28,7 @@ use Rattle.strokes.proofs.walk_line.Tie as tie
 
 abbrev Inv-loop : tie.InvT-loop
 Inv-loop mem₀ ink l pen style n t w₀ p₀ r₀ i₀ mem w p r i =
-    Left (ink .target) (walkTouches ink pen style (points l)) mem₀ (tally 0) i (walkTouches ink pen (wordOf p) (pointsFrom l i (pointCount l - i))) mem r
+    Left (ink .target) (walkTouches ink pen style (points l)) mem₀ (tally 0 0) i (walkTouches ink pen (wordOf p) (pointsFrom l i (pointCount l - i))) mem r
     × (styleAfter pen (pointCount l - i) (wordOf p) ≡ styleAfter pen (pointCount l) style)
     × (i < pointCount l → AtPoint (ink .target) l i w)
     × Fields p × (i ≤ pointCount l)

@@ -2,8 +2,7 @@
 -- Assumes nothing.
 use borrow.Author.Needs.{needs}
 use borrow.Author.Tests.{not-true}
-use mathlib.Core.Path.{_∙_}
-use Rattle.surface.proofs.Run.{in-piece, pixel-held, write-run}
+use Rattle.surface.proofs.Run.{in-piece, pixel-held, pixel-stored}
 use Rattle.surface.proofs.put_pixel.Statement.{statement}
 use Rattle.surface.proofs.put_pixel.Tie as tie
 
@@ -16,8 +15,8 @@ same-length c = search needs
 returns : tie.Need-returns
 returns c = search needs
 
-put-three-requires : tie.Need-put-three-requires
-put-three-requires c κs = (c .before .before .before .before .before .before .pre, c .before .if2 .taken)
+store-three-requires : tie.Need-store-three-requires
+store-three-requires c κs = (c .before .before .before .before .before .before .pre, c .before .if2 .taken)
 
 same-length-2 : tie.Need-same-length-2
 same-length-2 c = search needs
@@ -28,8 +27,8 @@ returns-2 c = search needs
 byte-of-requires : tie.Need-byte-of-requires
 byte-of-requires c κs = search needs
 
-put-bytes-requires : tie.Need-put-bytes-requires
-put-bytes-requires c κs =
+store-bytes-requires : tie.Need-store-bytes-requires
+store-bytes-requires c κs =
     let on = c .before .before .before .before .before .before .before .pre in
     pixel-held (in-piece _ (on .colour) (c .before .before .if2 .left)) on _ (c .before .byte-of .ensures)
 
@@ -41,7 +40,7 @@ returns-3 c =
     let f = c .before .before .before .before .before in
     let b = f .before .before .before .before .before in
     let a = b .args in
-    c .before .before .put-bytes .ensures ∙ write-run (a .s) (in-piece (a .s) (b .pre .colour) (f .if2 .left)) (a .x) (a .y) _ (c .before .before .before .before .byte-of .ensures) (a .v) (a .mem .now)
+    pixel-stored (a .s) (in-piece (a .s) (b .pre .colour) (f .if2 .left)) (a .x) (a .y) _ (c .before .before .before .before .byte-of .ensures) (a .v) (a .mem .now) (c .before .before .store-bytes .ensures)
 
 pub put-pixel-spec : {M : Type 1} → statement M
 put-pixel-spec =
@@ -50,10 +49,10 @@ put-pixel-spec =
     put-in-rows-requires
     same-length
     returns
-    put-three-requires
+    store-three-requires
     same-length-2
     returns-2
     byte-of-requires
-    put-bytes-requires
+    store-bytes-requires
     same-length-3
     returns-3)

@@ -5,9 +5,6 @@ use mathlib.Core.Path.{_≡_, refl, ap, ap₂, _∙_}
 use Prim.Native.Nat.{ℕ, _+_, _-_, _*_, _<_, _≤_}
 use lib.ListN.{getD}
 use borrow.Author.Needs.{needs}
-use Rattle.paint.specs.Tally.{noted}
-use Rattle.paint.specs.Paint.{tallied}
-use Rattle.paint.proofs.Tallies.{room-less}
 use Rattle.tint.specs.Masking.{blended}
 use Rattle.tint.proofs.ByteLaws.{in-table}
 use Rattle.tint.proofs.RowLaws.{total, total-more, row-blended, row-held}
@@ -15,10 +12,10 @@ use Rattle.tint.proofs.tint_across.Statement.{statement}
 use Rattle.tint.proofs.tint_across.Tie as tie
 
 abbrev Inv-loop : tie.InvT-loop
-Inv-loop mem bytes keep flip adds first x w y n at many from more₀ i₀ more i = (more ≡ total adds first i) × (i ≤ w) × (more ≤ i)
+Inv-loop mem bytes keep flip adds first x w y at many from more₀ i₀ more i = (more ≡ total adds first i) × (i ≤ w) × (more ≤ i)
 
 abbrev μ-loop : tie.MeasureT-loop
-μ-loop mem bytes keep flip adds first x w y n at many from more₀ i₀ more i = w - i
+μ-loop mem bytes keep flip adds first x w y at many from more₀ i₀ more i = w - i
 
 abbrev start : tie.After-slice-known2 Inv-loop μ-loop → tie.Start Inv-loop μ-loop
 start c = c .before .before .before .before .before .before .before .before
@@ -91,25 +88,22 @@ loop-again c =
     let l = c .before .before .loop in
     (omega (arith, l .inv .0, total-more (a .adds .now) (a .first) (l .i)), omega (arith, c .before .loop-test .taken), omega (arith, one (c .before), l .inv .2))
 
-note-requires : tie.Need-note-requires Inv-loop μ-loop
-note-requires c κs = room-less (start (c .before .before) .pre .0 .room) (omega (arith, c .before .loop .inv))
-
 same-length : tie.Need-same-length Inv-loop μ-loop
-same-length c = c .before .before .before .before .before .tint-bytes .kept .0
+same-length c = c .before .before .before .before .tint-bytes .kept .0
 
 returns : tie.Need-returns Inv-loop μ-loop
 returns c =
-    let l = c .before .before .loop in
-    let b = c .before .before .before .before .before in
-    let a = start (c .before .before .before) .args in
-    let p = start (c .before .before .before) .pre in
-    let end : l .i ≡ a .w = omega (arith, l .inv .1, c .before .loop-test .left) in
-    ap₂ tallied
-    (b .tint-bytes .ensures ∙ ap₂ (λ (at n : ℕ). blended (a .keep .now) (a .flip .now) (a .first * n) at (a .w * n) (a .mem .now)) (b .before .before .place-in-rows .ensures) (p .1))
-    (c .note .ensures ∙ ap (λ (k : ℕ). noted k (a .n)) (l .inv .0 ∙ ap (total (a .adds .now) (a .first)) end))
-    ∙ row-blended (a .s) (a .keep .now) (a .flip .now) (a .adds .now) (a .first) (a .x) (a .y) (p .0 .flat) (p .0 .colour .some) (p .0 .colour .small .bytes)
+    let l = c .before .loop in
+    let b = c .before .before .before .before in
+    let a = start (c .before .before) .args in
+    let p = start (c .before .before) .pre in
+    let end : l .i ≡ a .w = omega (arith, l .inv .1, c .loop-test .left) in
+    let made = b .tint-bytes .ensures ∙ ap₂ (λ (at n : ℕ). blended (a .keep .now) (a .flip .now) (a .first * n) at (a .w * n) (a .mem .now)) (b .before .before .place-in-rows .ensures) (p .1) in
+    let count = l .inv .0 ∙ ap (total (a .adds .now) (a .first)) end in
+    rw (made, count)
+    (row-blended (a .s) (a .keep .now) (a .flip .now) (a .adds .now) (a .first) (a .x) (a .y) (p .0 .flat) (p .0 .colour .some) (p .0 .colour .small .bytes)
     (λ i. omega (arith, b .before .before .before .before .shared-slice-known .given i)) (λ i. omega (arith, b .before .before .before .shared-slice-known2 .given i))
-    (p .0 .sound) (a .w) (a .n) (a .mem .now) (p .2) (λ i. omega (arith, b .before .before .before .before .before .slice-known .given i))
+    (p .0 .sound) (a .w) (a .mem .now) (p .2) (λ i. omega (arith, b .before .before .before .before .before .slice-known .given i)))
 
 pub tint-across-spec : {M : Type 1} → statement M
 tint-across-spec =
@@ -132,6 +126,5 @@ tint-across-spec =
     add-i
     loop-less
     loop-again
-    note-requires
     same-length
     returns)

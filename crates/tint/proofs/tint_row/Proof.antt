@@ -1,77 +1,87 @@
--- `tint::tint_row` meets its contract: the eights are the row's first pixels, by whatever number of bytes, and the last ones go on from there.
+-- `tint::tint_row` meets its contract: what remains of the row, painted on the memory now, is the row painted on the memory at the start.
 -- Assumes nothing.
 use native.Mathlib.Omega.{arith}
-use mathlib.Core.Path.{refl, ap₂, _∙_}
-use mathlib.Core.Logic.{⊎-elim}
-use Prim.Native.Nat.{ℕ, _+_, _*_, _/_, _%_, _≤_}
+use mathlib.Core.Path.{_≡_, refl, _∙_}
+use Prim.Native.Nat.{_+_, _-_, _%_, _<_, _≤_}
+use lib.ListN.{length}
 use borrow.Author.Needs.{needs}
-use Rattle.paint.specs.Paint.{tallied}
-use Rattle.paint.proofs.Loops.{row-ended}
-use Rattle.tint.proofs.RowLaws.{TintLeft, can-part, tint-takes, can-begin, tint-begun}
+use Rattle.paint.proofs.Tallies.{room-left}
+use Rattle.paint.proofs.Loops.{row-begins, row-ended}
+use Rattle.tint.proofs.RowLaws.{TintLeft, can-part, tint-takes}
 use Rattle.tint.proofs.tint_row.Statement.{statement}
 use Rattle.tint.proofs.tint_row.Tie as tie
 
-tint-eights-requires : tie.Need-tint-eights-requires
-tint-eights-requires c κs = let p = c .before .before .before .before .before .pre in (can-begin p _ (omega arith), omega (arith, c .before .match .keys1))
+abbrev Inv-loop : tie.InvT-loop
+Inv-loop mem₀ old₀ s keep flip adds first x w y r₀ i₀ mem old r i = TintLeft s keep flip adds first x w y mem₀ r₀ i mem r × (i < w → i % 8 ≡ 0) × (length old ≡ length old₀)
 
-tint-eights-requires-2 : tie.Need-tint-eights-requires-2
-tint-eights-requires-2 c κs = let p = c .before .before .before .before .before .pre in (can-begin p _ (omega arith), omega (arith, c .before .match .keys2))
+abbrev μ-loop : tie.MeasureT-loop
+μ-loop mem₀ old₀ s keep flip adds first x w y r₀ i₀ mem old r i = w - i
 
-tint-eights-requires-3 : tie.Need-tint-eights-requires-3
-tint-eights-requires-3 c κs = let p = c .before .before .before .before .before .pre in (can-begin p _ (omega arith), omega (arith, c .before .match .keys3))
+loop-holds : tie.Need-loop-holds Inv-loop μ-loop
+loop-holds c = (row-begins, λ l. refl, refl)
 
-tint-eights-requires-4 : tie.Need-tint-eights-requires-4
-tint-eights-requires-4 c κs =
-    let p = c .before .before .before .before .before .pre in
-    let none = c .before .match .rest in
-    (can-begin p _ (omega arith), omega (arith, p .colour .some, p .colour .small .bytes, none .1, none .0 .1, none .0 .0 .1))
+sub-least : tie.Need-sub-least Inv-loop μ-loop
+sub-least c = search needs
 
--- after the eights
-module _ (c : tie.At-match-came) where
-  abbrev start : tie.Start
-  start = c .before .before .before .before
+least-requires : tie.Need-least-requires Inv-loop μ-loop
+least-requires c κs = search needs
 
-  abbrev eights : ℕ
-  eights = 8 * (start .args .w / 8)
+-- so many more are there
+module _ (c : tie.After-least Inv-loop μ-loop) where
+  abbrev start : tie.Start Inv-loop μ-loop
+  start = c .before .before .before .before .before .before .before
 
-  left : TintLeft (start .args .s) (start .args .keep .now) (start .args .flip .now) (start .args .adds .now) (start .args .first) (start .args .x) (start .args .w) (start .args .y)
-      (start .args .mem .now) (start .args .n) eights (c .match .mem) (c .match .r)
-  left =
-      tint-begun (start .pre) eights (omega arith)
-      (⊎-elim (λ q. ap₂ tallied (q .5) (q .6) ∙ q .2 .ensures)
-      (⊎-elim (λ q. ap₂ tallied (q .5) (q .6) ∙ q .2 .ensures)
-      (⊎-elim (λ q. ap₂ tallied (q .5) (q .6) ∙ q .2 .ensures) (λ q. ap₂ tallied (q .5) (q .6) ∙ q .2 .ensures))) (c .match .came))
+  part : (c .before .before .loop .i + c .least .result ≤ start .args .w) × (c .least .result ≤ 256)
+  part = omega (arith, c .least .ensures, c .before .loop-test .taken)
 
-  fits : eights + start .args .w % 8 ≤ start .args .w
-  fits = omega arith
+add-tint-part : tie.Need-add-tint-part Inv-loop μ-loop
+add-tint-part c = omega (arith, c .before .before .before .loop-test .taken, start (c .before .before) .pre .0 .on .wide)
 
-mul-tint-across : tie.Need-mul-tint-across
-mul-tint-across c = search needs
+tint-part-requires : tie.Need-tint-part-requires Inv-loop μ-loop
+tint-part-requires c κs =
+    let b = c .before .before in
+    let p = start b .pre in
+    let l = b .before .before .loop in
+    ((can-part (p .0) (l .inv .0) (b .least .result) (part b .0), (part b .1, omega (arith, p .1 .0, l .inv .2))), room-left (p .1 .1) (l .inv .0 .left .upto) (part b .0))
 
-add-tint-across : tie.Need-add-tint-across
-add-tint-across c = search needs
+add-i : tie.Need-add-i Inv-loop μ-loop
+add-i c = omega (arith, part (c .before .before .before .before .before .before .before) .0)
 
-tint-across-requires : tie.Need-tint-across-requires
-tint-across-requires c κs = let b = c .before in (can-part (start b .pre) (left b) (start b .args .w % 8) (fits b), refl, omega arith)
+loop-less : tie.Need-loop-less Inv-loop μ-loop
+loop-less c = omega (arith, c .before .before .before .before .before .before .before .least .ensures, c .before .before .before .before .before .before .before .before .loop-test .taken)
 
-same-length : tie.Need-same-length
-same-length c = c .before .before .tint-across .kept .0 ∙ left (c .before .before .before .before) .left .long
+loop-again : tie.Need-loop-again Inv-loop μ-loop
+loop-again c =
+    let b = c .before .before .before .before .before .before .before in
+    let l = b .before .before .loop in (
+      tint-takes (start b .pre .0) (l .inv .0) (b .least .result) (part b .0) (l .inv .1 (b .before .loop-test .taken)) (c .before .before .before .before .tint-part .ensures),
+      λ more. omega (arith, b .least .ensures, l .inv .1 (b .before .loop-test .taken)),
+      c .before .before .before .before .tint-part .kept .1 .0 ∙ l .inv .2,
+    )
 
-returns : tie.Need-returns
-returns c =
-    let b = c .before .before .before .before in
-    row-ended (tint-takes (start b .pre) (left b) (start b .args .w % 8) (fits b) (omega arith) (c .before .before .tint-across .ensures)) (omega arith)
+same-length : tie.Need-same-length Inv-loop μ-loop
+same-length c = c .before .loop .inv .0 .left .long
+
+same-length-2 : tie.Need-same-length-2 Inv-loop μ-loop
+same-length-2 c = c .before .loop .inv .2
+
+returns : tie.Need-returns Inv-loop μ-loop
+returns c = row-ended (c .before .loop .inv .0) (c .loop-test .left)
 
 pub tint-row-spec : {M : Type 1} → statement M
 tint-row-spec =
     tie.close
     (tie.spec
-    tint-eights-requires
-    tint-eights-requires-2
-    tint-eights-requires-3
-    tint-eights-requires-4
-    mul-tint-across
-    add-tint-across
-    tint-across-requires
+    Inv-loop
+    μ-loop
+    loop-holds
+    sub-least
+    least-requires
+    add-tint-part
+    tint-part-requires
+    add-i
+    loop-less
+    loop-again
     same-length
+    same-length-2
     returns)

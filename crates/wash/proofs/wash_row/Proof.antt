@@ -57,10 +57,10 @@ tint-bytes-requires c κs =
     let a = c .before .before .before .before .before .before .before .before .args in
     let p = c .before .before .before .before .before .before .before .before .pre in
     let low = mod-lt (l .i) (p .steps .some) in (
-      λ i h. rw (c .before .before .before .byte-at .ensures, ← piece-at (a .s) (a .keep .now) (a .flip .now) (a .x + l .i) (a .y) _ (e .2) i h, l .inv .0 .long)
+      λ i h. rw (c .before .before .before .byte-at .ensures, ← piece-at (a .s) (a .keep .now) (a .flip .now) (a .x + l .i) (a .y) _ (e .2 (p .tiled)) i h, l .inv .0 .long)
           (p .held (a .x + l .i + i) (omega arith) (omega (arith, e .0))),
-      omega (arith, p .room, p .steps .few, e .2),
-      omega (arith, p .room, p .steps .few, e .2),
+      omega (arith, p .room, p .steps .few, e .2 (p .tiled)),
+      omega (arith, p .room, p .steps .few, e .2 (p .tiled)),
     )
 
 add-i : tie.Need-add-i Inv-loop μ-loop
@@ -81,10 +81,10 @@ loop-again c =
     let a = b .before .before .before .before .before .args in
     let p = b .before .before .before .before .before .pre in
     let from = a .first + l .i % a .period in
-    let piece = piece-put (a .s) (a .keep .now) (a .flip .now) (a .x + l .i) (a .y) k (e .2) from (l .mem)
+    let piece = piece-put (a .s) (a .keep .now) (a .flip .now) (a .x + l .i) (a .y) k (e .2 (p .tiled)) from (l .mem)
     (λ i h u. subst (λ (n : ℕ). byteAt (a .s) i (a .y) < n) (sym (l .inv .0 .long)) (p .held i (omega arith) (omega (arith, e .0)))) in
     let made = c .before .before .tint-bytes .ensures ∙ ap (λ (at : ℕ). blended (a .keep .now) (a .flip .now) from at k (l .mem)) (b .byte-at .ensures) in (
-      piece-more (a .s) (a .keep .now) (a .flip .now) (a .first) (a .period) (a .x) (a .y) (a .n) (l .i) k (p .steps) (p .wide) (omega (arith, e .0)) (omega (arith, e .2))
+      piece-more (a .s) (a .keep .now) (a .flip .now) (a .first) (a .period) (a .x) (a .y) (a .n) (l .i) k (p .steps) (p .wide) (omega (arith, e .0)) (omega (arith, e .2 (p .tiled)))
           (p .keeps) (p .flips) (l .inv .0)
           (subst (Put (a .s) (washed (a .s) (a .keep .now) (a .flip .now) (λ q. from + (q .x - (a .x + l .i))) (l .mem)) (a .x + l .i) (a .y) k 1 (l .mem)) (sym made) piece),
       omega (arith, e .0),

@@ -1,4 +1,5 @@
--- `wash::wash_rows` meets its contract: the masks are sound and are the fill's; on tiles the bytes are what their masks make of them, and the count is what the masks count.
+-- `wash::wash_rows` meets its contract: the masks are sound and are the fill's; on tiles the bytes are what their masks make of them, and the count is
+-- what the masks count.
 -- Assumes nothing.
 use mathlib.Core.Path.{refl, subst⁻¹, _∙_}
 use Prim.Native.Nat.{ℕ, _%_, _<_, _≤_}
@@ -64,12 +65,13 @@ returns c =
     let b = c .before .before .before .before .before .before .before .before .before .before in
     let a = start b .args in
     c .before .before .tint-rows .ensures
-    ∙ rect-fills (a .ink) (a .pattern) (a .x) (a .y) (rows b) (m b) (b .masks-at .ensures) (start b .pre .1 .1) (a .w) (a .h) (fit b .1) (state (a .mem .now) 0)
+    ∙ rect-fills (a .ink) (a .pattern) (a .x) (a .y) (rows b) (m b) (b .masks-at .ensures) (start b .pre .1 .1) (a .w) (a .h) (fit b .1) (state (a .mem .now) 0 0)
 
 wash-masks-requires : tie.Need-wash-masks-requires
 wash-masks-requires c κs =
     let b = c .before .before .before .before .before .before in
-    (start b .pre .0, (start b .pre .1 .0 (not-false _ (c .before .before .before .if1 .left)), fit b))
+    let tiled = not-false _ (c .before .before .before .if1 .left) in
+    (start b .pre .0, (tiled, (start b .pre .1 .0 tiled, fit b)))
 
 count-rows-requires : tie.Need-count-rows-requires
 count-rows-requires c κs =
@@ -86,8 +88,8 @@ returns-2 c =
     let a = start b .args in
     washed-whole (a .ink .target) (m b .keep) (m b .flip) (m b .adds) (a .x) (a .y) (a .w) (a .h) (a .mem .now) (start b .pre .0)
     (λ i. omega (arith, b .before .before .before .before .before .slice-known .given i)) (keep-bytes b) (flip-bytes b) (sound b .sound)
-    (c .before .before .before .before .wash-masks .ensures) (c .count-rows .ensures)
-    ∙ rect-fills (a .ink) (a .pattern) (a .x) (a .y) (rows b) (m b) (b .masks-at .ensures) (start b .pre .1 .1) (a .w) (a .h) (fit b .1) (state (a .mem .now) 0)
+    (c .before .before .before .before .wash-masks .ensures .0) (c .count-rows .ensures) (c .before .before .before .before .wash-masks .ensures .1)
+    ∙ rect-fills (a .ink) (a .pattern) (a .x) (a .y) (rows b) (m b) (b .masks-at .ensures) (start b .pre .1 .1) (a .w) (a .h) (fit b .1) (state (a .mem .now) 0 0)
 
 pub wash-rows-spec : {M : Type 1} → statement M
 wash-rows-spec =

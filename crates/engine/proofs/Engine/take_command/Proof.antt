@@ -42,7 +42,7 @@ unfolding commanded storedIn
 returns-2 c =
     let a = (c .before .before .before .before .before .args) in
     rw (ne-eqb _ _ (c .if1 .left))
-    (ap₂ (λ (b : Bank) (k : Blit). step (record { bank = b; blit = k; opened = a .self .opened }) (a .mem .now) (Taken 0)) (c .before .before .store .ensures) (c .before .no-blit .ensures))
+    (ap₂ (λ (b : Bank) (k : Blit). step (record { bank = b; blit = k; opened = a .self .opened }) (a .mem .now) (Taken 0 0)) (c .before .before .store .ensures) (c .before .no-blit .ensures))
 
 pub take-command-spec : {M : Type 1} → statement M
 take-command-spec =

@@ -18,7 +18,7 @@ store-pattern-requires c κs = search needs
 
 returns-2 : tie.Need-returns-2
 unfolding toPattern
-returns-2 c = ap (λ (b : Bank). step (withBank (c .before .before .before .before .args .self) b) (c .before .before .before .before .args .mem .now) (Taken 0)) (c .store-pattern .ensures) ∙ rests (c .before .before .before .before .args .self .blit .waiting) _ _ (c .before .before .if1 .left)
+returns-2 c = ap (λ (b : Bank). step (withBank (c .before .before .before .before .args .self) b) (c .before .before .before .before .args .mem .now) (Taken 0 0)) (c .store-pattern .ensures) ∙ rests (c .before .before .before .before .args .self .blit .waiting) _ _ (c .before .before .if1 .left)
 
 pub take-pattern-spec : {M : Type 1} → statement M
 take-pattern-spec = tie.close (tie.spec returns store-pattern-requires returns-2)

@@ -32,7 +32,7 @@ unfolding toRegister storedIn
 returns-3 c =
     let a = (c .before .before .before .before .before .args) in
     rw (ne-eqb _ _ (c .before .before .before .if1 .left))
-    (ap (λ (b : Bank). step (withBank (a .self) b) (a .mem .now) (Taken 0)) (c .store .ensures) ∙ rests (a .self .blit .waiting) _ _ (c .before .before .if2 .left))
+    (ap (λ (b : Bank). step (withBank (a .self) b) (a .mem .now) (Taken 0 0)) (c .store .ensures) ∙ rests (a .self .blit .waiting) _ _ (c .before .before .if2 .left))
 
 pub take-register-spec : {M : Type 1} → statement M
 take-register-spec =
