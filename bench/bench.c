@@ -1,5 +1,6 @@
 /* The driver of the bench: each case is run by the engine, by plain C, and where there is one by pixman and by memset or memmove, in turns; the best
-   time of each counts. Before that, engine and plain C run the case once on the same memory, and what they leave must be equal. */
+   time of each counts. Before that, engine and plain C run the case twice on the same memory, and what they leave must be equal, and so must be the numbers
+   of pixels that they wrote and changed. */
 #define _GNU_SOURCE
 #include <pixman.h>
 #include <pthread.h>
@@ -30,6 +31,7 @@ static struct plain_pen pen;
 static int bytes;
 static u32 n, stride;
 static u32 sink;
+static struct plain_drawn by_engine, by_plain; /* pixels written and changed so far */
 
 static u32 rand_state = 12345;
 static u32 next_random(void)
@@ -38,14 +40,22 @@ static u32 next_random(void)
     return rand_state >> 8;
 }
 
-static uint64_t out(u32 offset, u32 word)
+static void out(u32 offset, u32 word)
 {
-    uint64_t a = rimebarrow_write(state, sizeof state, ours, MEMORY, offset, word);
+    uint32_t changed;
+    uint64_t a = rimebarrow_write(state, sizeof state, ours, MEMORY, offset, word, &changed);
     if (a >> 32) {
         fprintf(stderr, "bench: write %x to %x refused with %u\n", word, offset, rimebarrow_number(a));
         exit(1);
     }
-    return a;
+    by_engine.count += rimebarrow_value(a);
+    by_engine.changed += changed;
+}
+
+static void drew(struct plain_drawn d)
+{
+    by_plain.count += d.count;
+    by_plain.changed += d.changed;
 }
 
 static struct plain_surface target(void) { return (struct plain_surface){theirs, stride}; }
@@ -72,8 +82,8 @@ static void registers(u32 row)
 /* ---- the cases: set up, by the engine, by plain C, by pixman, by the C library */
 
 static void fill_set(void) { registers(n * bytes); out(command, 0xcc000005); }
-static void launch_at_0(void) { sink += out(launch, 0); }
-static void fill_plain(void) { sink += plain_fill(bytes, target(), 0, 0, n, n, FORE); }
+static void launch_at_0(void) { out(launch, 0); }
+static void fill_plain(void) { drew(plain_fill(bytes, target(), 0, 0, n, n, FORE)); }
 static int fill_pixman(void)
 {
     u32 xor = bytes == 1 ? FORE & 255 : bytes == 2 ? FORE & 0xffff : FORE;
@@ -87,13 +97,13 @@ static int fill_limit(void)
 }
 
 static void xor_set(void) { registers(n * bytes); out(command, 0x5a000005); }
-static void xor_plain(void) { sink += plain_pattern_xor(bytes, target(), 0, 0, n, n, patterns); }
+static void xor_plain(void) { drew(plain_pattern_xor(bytes, target(), 0, 0, n, n, patterns)); }
 
 static void mono_pattern_set(void) { registers(n * bytes); out(command, 0xf0012005); }
-static void mono_pattern_plain(void) { sink += plain_pattern_mono(bytes, target(), 0, 0, n, n, patterns, FORE); }
+static void mono_pattern_plain(void) { drew(plain_pattern_mono(bytes, target(), 0, 0, n, n, patterns, FORE)); }
 
 static void copy_set(void) { registers(n * bytes); out(command, 0xcc000001); }
-static void copy_plain(void) { sink += plain_copy(bytes, target(), source(), 0, 0, n, n); }
+static void copy_plain(void) { drew(plain_copy(bytes, target(), source(), 0, 0, n, n)); }
 static int copy_pixman(void)
 {
     return pixman_blt((uint32_t *)(theirs + SOURCE), (uint32_t *)theirs, stride / 4, stride / 4, bytes * 8, bytes * 8, 0, 0, 0, 0, n, n);
@@ -113,8 +123,8 @@ static void over_set(void)
     out(dstXY, both(n + 4, n + 2));
     out(command, 0xcc00c001);
 }
-static void over_ours(void) { sink += out(launch, both(n - 1, n - 1)); }
-static void over_plain(void) { sink += plain_copy_over(bytes, target(), 0, 0, 5, 3, n, n); }
+static void over_ours(void) { out(launch, both(n - 1, n - 1)); }
+static void over_plain(void) { drew(plain_copy_over(bytes, target(), 0, 0, 5, 3, n, n)); }
 static int over_limit(void)
 {
     for (u32 j = n; j-- > 0;)
@@ -130,7 +140,7 @@ static void smear_set(void)
     out(dstXY, both(1, 0));
     out(command, 0xcc000001);
 }
-static void smear_plain(void) { sink += plain_copy(bytes, target(), target(), 1, 0, n, n); }
+static void smear_plain(void) { drew(plain_smear(bytes, target(), n, n)); }
 
 static void key_set(void)
 {
@@ -141,10 +151,10 @@ static void key_set(void)
     out(commandExtra, 1);
     out(command, 0xcc000001);
 }
-static void key_plain(void) { sink += plain_copy_key(bytes, target(), source(), 0, 0, n, n, LOW, HIGH); }
+static void key_plain(void) { drew(plain_copy_key(bytes, target(), source(), 0, 0, n, n, LOW, HIGH)); }
 
 static void invert_set(void) { registers(n * bytes); out(command, 0x66000001); }
-static void invert_plain(void) { sink += plain_copy_xor(bytes, target(), source(), 0, 0, n, n); }
+static void invert_plain(void) { drew(plain_copy_xor(bytes, target(), source(), 0, 0, n, n)); }
 
 static void into_key_set(void)
 {
@@ -155,7 +165,7 @@ static void into_key_set(void)
     out(commandExtra, 2);
     out(command, 0xaa000001);
 }
-static void into_key_plain(void) { sink += plain_copy_into_key(bytes, target(), source(), 0, 0, n, n, LOW, HIGH); }
+static void into_key_plain(void) { drew(plain_copy_into_key(bytes, target(), source(), 0, 0, n, n, LOW, HIGH)); }
 
 static void widen_set(void)
 {
@@ -165,7 +175,7 @@ static void widen_set(void)
 }
 static void widen_plain(void)
 {
-    sink += plain_copy_16_32(target(), (struct plain_surface){theirs + SOURCE, n * 2}, 0, 0, n, n);
+    drew(plain_copy_16_32(target(), (struct plain_surface){theirs + SOURCE, n * 2}, 0, 0, n, n));
 }
 
 /* A square of the source to one of the target, by command 2. */
@@ -177,10 +187,10 @@ static void stretch_set(u32 from, u32 to)
     out(command, 0xcc000002);
 }
 static void thumbnail_set(void) { stretch_set(n, n / 8); }
-static void thumbnail_plain(void) { sink += plain_stretch(bytes, target(), source(), n / 8, n / 8, n, n); }
+static void thumbnail_plain(void) { drew(plain_stretch(bytes, target(), source(), n / 8, n / 8, n, n)); }
 
 static void enlarged_set(void) { stretch_set(n / 8, n / 2); }
-static void enlarged_plain(void) { sink += plain_stretch(bytes, target(), source(), n / 2, n / 2, n / 8, n / 8); }
+static void enlarged_plain(void) { drew(plain_stretch(bytes, target(), source(), n / 2, n / 2, n / 8, n / 8)); }
 
 static void thumbnail_16_set(void)
 {
@@ -189,7 +199,7 @@ static void thumbnail_16_set(void)
 }
 static void thumbnail_16_plain(void)
 {
-    sink += plain_stretch_32_16(target(), (struct plain_surface){theirs + SOURCE, n * 4}, n / 8, n / 8, n, n);
+    drew(plain_stretch_32_16(target(), (struct plain_surface){theirs + SOURCE, n * 4}, n / 8, n / 8, n, n));
 }
 
 static void mono_set(void)
@@ -200,7 +210,7 @@ static void mono_set(void)
 }
 static void mono_plain(void)
 {
-    sink += plain_copy_mono(bytes, target(), (struct plain_surface){theirs + SOURCE, n / 8}, 0, 0, n, n, FORE, BACK);
+    drew(plain_copy_mono(bytes, target(), (struct plain_surface){theirs + SOURCE, n / 8}, 0, 0, n, n, FORE, BACK));
 }
 
 static const u32 glyph[4] = {0x60c01f0e, 0x20c86044, 0x80f140e2, 0x0000e03b};
@@ -216,7 +226,7 @@ static void glyph_ours(void)
     for (u32 g = 0; g < GLYPHS; g++) {
         out(dstXY, both(g * 12, 3));
         for (int k = 0; k < 4; k++)
-            sink += out(launch, glyph[k]);
+            out(launch, glyph[k]);
     }
 }
 static void glyph_plain(void)
@@ -225,7 +235,7 @@ static void glyph_plain(void)
         struct plain_blit b;
         plain_blit_open(&b, bytes, target(), g * 12, 3, 11, 7, FORE, BACK);
         for (int k = 0; k < 4; k++)
-            sink += plain_blit_mono(&b, glyph[k]);
+            drew(plain_blit_mono(&b, glyph[k]));
     }
 }
 
@@ -239,7 +249,7 @@ static void host_ours(void)
 {
     const u32 *w = (const u32 *)(start + SOURCE);
     for (u32 k = 0; k < n * n / 4 * bytes; k++)
-        sink += out(launch, w[k]);
+        out(launch, w[k]);
 }
 static void host_plain(void)
 {
@@ -247,7 +257,7 @@ static void host_plain(void)
     struct plain_blit b;
     plain_blit_open(&b, bytes, target(), 0, 0, n, n, FORE, BACK);
     for (u32 k = 0; k < n * n / 4 * bytes; k++)
-        sink += plain_blit_word(&b, w[k]);
+        drew(plain_blit_word(&b, w[k]));
 }
 
 static void line_set(void) { registers(n * bytes); out(command, 0xcc000006); pen = (struct plain_pen){FORE, BACK, 0, 0, 0, 0, 0, 0}; }
@@ -262,14 +272,14 @@ static void stipple_set(void)
 static void line_ours(void)
 {
     out(srcXY, 0);
-    sink += out(launch, both(n - 1, n * 5 / 8));
+    out(launch, both(n - 1, n * 5 / 8));
     out(srcXY, both(n - 1, 0));
-    sink += out(launch, both(n / 3, n - 1));
+    out(launch, both(n / 3, n - 1));
 }
 static void line_plain(void)
 {
-    sink += plain_line(bytes, target(), 0, 0, n - 1, n * 5 / 8, 0xfff, 0xfff, &pen);
-    sink += plain_line(bytes, target(), n - 1, 0, n / 3, n - 1, 0xfff, 0xfff, &pen);
+    drew(plain_line(bytes, target(), 0, 0, n - 1, n * 5 / 8, 0xfff, 0xfff, &pen));
+    drew(plain_line(bytes, target(), n - 1, 0, n / 3, n - 1, 0xfff, 0xfff, &pen));
 }
 
 /* on tiles: the target, the source, or both */
@@ -286,16 +296,16 @@ static void tiles_set(int to, int from, u32 word)
 static struct plain_surface place(u8 *at, int tiles) { return (struct plain_surface){at, tiles ? tiles_across() : stride}; }
 static void tiles_copy(int to, int from)
 {
-    sink += plain_tiles_copy(bytes, place(theirs, to), to, place(theirs + SOURCE, from), from, n, n);
+    drew(plain_tiles_copy(bytes, place(theirs, to), to, place(theirs + SOURCE, from), from, n, n));
 }
 static void tiles_fill_set(void) { tiles_set(1, 0, 0xcc000005); }
-static void tiles_fill_plain(void) { sink += plain_tiles_fill(bytes, place(theirs, 1), n, n, FORE); }
+static void tiles_fill_plain(void) { drew(plain_tiles_fill(bytes, place(theirs, 1), n, n, FORE)); }
 static void tiles_xor_set(void) { tiles_set(1, 0, 0x5a000005); }
-static void tiles_xor_plain(void) { sink += plain_tiles_xor(bytes, place(theirs, 1), n, n, patterns); }
+static void tiles_xor_plain(void) { drew(plain_tiles_xor(bytes, place(theirs, 1), n, n, patterns)); }
 static void tiles_copy_set(void) { tiles_set(1, 1, 0xcc000001); }
 static void tiles_copy_plain(void) { tiles_copy(1, 1); }
 static void tiles_invert_set(void) { tiles_set(1, 1, 0x66000001); }
-static void tiles_invert_plain(void) { sink += plain_tiles_copy_xor(bytes, place(theirs, 1), place(theirs + SOURCE, 1), n, n); }
+static void tiles_invert_plain(void) { drew(plain_tiles_copy_xor(bytes, place(theirs, 1), place(theirs + SOURCE, 1), n, n)); }
 static void to_tiles_set(void) { tiles_set(1, 0, 0xcc000001); }
 static void to_tiles_plain(void) { tiles_copy(1, 0); }
 static void from_tiles_set(void) { tiles_set(0, 1, 0xcc000001); }
@@ -304,7 +314,7 @@ static void from_tiles_plain(void) { tiles_copy(0, 1); }
 static void write_ours(void)
 {
     for (u32 k = 0; k < 64; k++)
-        sink += out(colorFore + k % 2 * 4, k);
+        out(colorFore + k % 2 * 4, k);
 }
 static void write_plain(void)
 {
@@ -381,9 +391,16 @@ static int run(const struct work *w, double least)
     memcpy(ours, start, MEMORY);
     memcpy(theirs, start, MEMORY);
     w->set();
-    w->ours();
-    w->plain();
+    by_engine = by_plain = (struct plain_drawn){0, 0};
+    for (int pass = 0; pass < 2; pass++) {
+        w->ours();
+        w->plain();
+    }
     int equal = memcmp(ours, theirs, MEMORY) == 0;
+    int counted = by_engine.count == by_plain.count && by_engine.changed == by_plain.changed;
+    if (!counted)
+        fprintf(stderr, "bench: %s, %d bpp, %u: the engine wrote %u pixels and changed %u, C wrote %u and changed %u\n", w->name, bytes * 8, n,
+                by_engine.count, by_engine.changed, by_plain.count, by_plain.changed);
     double best[4] = {0, 0, 0, 0};
     u32 times[4] = {0, 0, 0, 0};
     for (int who = 0; who < 4; who++) {
@@ -403,9 +420,9 @@ static int run(const struct work *w, double least)
     }
     double unit = w->unit > 0 ? w->unit : w->unit < 0 ? n + n : (double)n * n;
     printf("%s;%d;%u;%.4f;%.4f;%.4f;%.4f;%s\n", w->name, bytes * 8, n, best[0] / unit, best[1] / unit, best[2] / unit, best[3] / unit,
-           equal ? "equal" : "DIFFERENT");
+           !equal ? "DIFFERENT" : !counted ? "OTHER NUMBERS" : "equal");
     fflush(stdout);
-    return equal;
+    return equal && counted;
 }
 
 /* ---- how deep the stack gets: every case once, on a stack whose bytes are known before */
@@ -446,7 +463,7 @@ int main(int argc, char **argv)
     theirs = aligned_alloc(4096, MEMORY);
     start = aligned_alloc(4096, MEMORY);
     for (u32 k = 0; k < MEMORY; k++)
-        start[k] = next_random();
+        start[k] = next_random() >> 16; /* the lower bits come again after 65,536 bytes, and the source would be what the target is */
     for (u32 k = 0; k < 256; k++)
         patterns[k] = next_random();
     int fine = 1;

@@ -1,5 +1,5 @@
 /* The work of each case in straightforward C: plain loops, with what does not change in a loop taken out of it. It uses no header of the system,
-   so that any clang compiles it. Each function returns the number of pixels that it wrote. */
+   so that any clang compiles it. Each function returns the number of pixels that it wrote, and how many of them changed. */
 #include "plain.h"
 
 #define INLINE static inline __attribute__((always_inline))
@@ -39,98 +39,187 @@ INLINE void put(int bytes, u8 *p, u32 v)
     }
 }
 
+/* Stores a pixel; whether it changed. */
+INLINE u32 store(int bytes, u8 *p, u32 v)
+{
+    u32 old = get(bytes, p);
+    put(bytes, p, v);
+    return old != (bytes == 4 ? v : v & ((1u << bytes * 8 % 32) - 1));
+}
+
+/* The pixels of a row, one by one: pixel i gets a value, which may speak of i, and is counted where it changes. The count of a piece is no wider than a
+   pixel, so that as many counts go into a vector as pixels. */
+#define STORE_ROW(bytes, d, w, changed, value) \
+    for (u32 from = 0, past; from < (w); from = past) { \
+        u8 narrow = 0; \
+        u16 middle = 0; \
+        u32 wide = 0; \
+        past = (w) - from < ((bytes) == 1 ? 128 : 32768) ? (w) : from + ((bytes) == 1 ? 128 : 32768); \
+        for (u32 i = from; i < past; i++) { \
+            u32 new = store(bytes, (d) + (u64)i * (bytes), value); \
+            if ((bytes) == 1) \
+                narrow += new; \
+            else if ((bytes) == 2) \
+                middle += new; \
+            else \
+                wide += new; \
+        } \
+        changed += narrow + middle + wide; \
+    }
+
+INLINE struct plain_drawn drawn(u32 count, u32 changed)
+{
+    return (struct plain_drawn){count, changed};
+}
+
 INLINE u8 *row_of(int bytes, struct plain_surface s, u32 x, u32 y)
 {
     return s.at + (u64)y * s.stride + (u64)x * bytes;
 }
 
-INLINE u32 fill(int bytes, struct plain_surface to, u32 x, u32 y, u32 w, u32 h, u32 colour)
+/* Three bytes by four: all but the last pixel of a row are looked at with the byte that follows. Four pixels are three words. */
+INLINE u32 fill_row_3(u8 *d, u32 w, u32 colour)
 {
-    for (u32 j = 0; j < h; j++) {
-        u8 *d = row_of(bytes, to, x, y + j);
-        for (u32 i = 0; i < w; i++)
-            put(bytes, d + (u64)i * bytes, colour);
-    }
-    return w * h;
+    u32 changed = 0, i = 0, a = colour & 0xffffff;
+    const u32 words[3] = {a | a << 24, a >> 8 | a << 16, a >> 16 | a << 8};
+    for (i = 0; i + 1 < w; i++)
+        changed += (*(const u32 *)(d + (u64)i * 3) & 0xffffff) != a;
+    changed += get(3, d + (u64)i * 3) != a;
+    for (i = 0; i + 4 <= w; i += 4)
+        for (u32 k = 0; k < 3; k++)
+            ((u32 *)(d + (u64)i * 3))[k] = words[k];
+    for (; i < w; i++)
+        put(3, d + (u64)i * 3, colour);
+    return changed;
 }
 
-u32 plain_fill(int bytes, struct plain_surface to, u32 x, u32 y, u32 w, u32 h, u32 colour)
+/* A row of at least one pixel. */
+INLINE u32 fill_row(int bytes, u8 *d, u32 w, u32 colour)
+{
+    u32 changed = 0;
+    if (bytes == 3)
+        return fill_row_3(d, w, colour);
+    STORE_ROW(bytes, d, w, changed, colour)
+    return changed;
+}
+
+INLINE struct plain_drawn fill(int bytes, struct plain_surface to, u32 x, u32 y, u32 w, u32 h, u32 colour)
+{
+    u32 changed = 0;
+    for (u32 j = 0; j < h; j++)
+        changed += fill_row(bytes, row_of(bytes, to, x, y + j), w, colour);
+    return drawn(w * h, changed);
+}
+
+struct plain_drawn plain_fill(int bytes, struct plain_surface to, u32 x, u32 y, u32 w, u32 h, u32 colour)
 {
     BY_BYTES(fill(1, to, x, y, w, h, colour), fill(2, to, x, y, w, h, colour), fill(3, to, x, y, w, h, colour), fill(4, to, x, y, w, h, colour))
 }
 
 /* Raster operation 5A with the colour pattern: target xor pattern. */
-INLINE u32 pattern_xor(int bytes, struct plain_surface to, u32 x, u32 y, u32 w, u32 h, const u8 *pattern)
+INLINE struct plain_drawn pattern_xor(int bytes, struct plain_surface to, u32 x, u32 y, u32 w, u32 h, const u8 *pattern)
 {
+    u32 changed = 0;
     for (u32 j = 0; j < h; j++) {
         u8 *d = row_of(bytes, to, x, y + j);
         u32 row[8];
         for (u32 k = 0; k < 8; k++)
             row[k] = get(bytes, pattern + ((y + j) % 8 * 8 + k) * bytes);
-        for (u32 i = 0; i < w; i++)
-            put(bytes, d + (u64)i * bytes, get(bytes, d + (u64)i * bytes) ^ row[(x + i) % 8]);
+        STORE_ROW(bytes, d, w, changed, get(bytes, d + (u64)i * bytes) ^ row[(x + i) % 8])
     }
-    return w * h;
+    return drawn(w * h, changed);
 }
 
-u32 plain_pattern_xor(int bytes, struct plain_surface to, u32 x, u32 y, u32 w, u32 h, const u8 *pattern)
+struct plain_drawn plain_pattern_xor(int bytes, struct plain_surface to, u32 x, u32 y, u32 w, u32 h, const u8 *pattern)
 {
     BY_BYTES(pattern_xor(1, to, x, y, w, h, pattern), pattern_xor(2, to, x, y, w, h, pattern), pattern_xor(3, to, x, y, w, h, pattern),
              pattern_xor(4, to, x, y, w, h, pattern))
 }
 
 /* Raster operation F0 with the mono pattern, pixels of its clear bits left. */
-INLINE u32 pattern_mono(int bytes, struct plain_surface to, u32 x, u32 y, u32 w, u32 h, const u8 *pattern, u32 fore)
+INLINE struct plain_drawn pattern_mono(int bytes, struct plain_surface to, u32 x, u32 y, u32 w, u32 h, const u8 *pattern, u32 fore)
 {
-    u32 n = 0;
+    u32 n = 0, changed = 0;
     for (u32 j = 0; j < h; j++) {
         u8 *d = row_of(bytes, to, x, y + j);
         u32 bits = pattern[(y + j) % 8];
         for (u32 i = 0; i < w; i++) {
             if (bits >> (7 - (x + i) % 8) & 1) {
-                put(bytes, d + (u64)i * bytes, fore);
+                changed += store(bytes, d + (u64)i * bytes, fore);
                 n++;
             }
         }
     }
-    return n;
+    return drawn(n, changed);
 }
 
-u32 plain_pattern_mono(int bytes, struct plain_surface to, u32 x, u32 y, u32 w, u32 h, const u8 *pattern, u32 fore)
+struct plain_drawn plain_pattern_mono(int bytes, struct plain_surface to, u32 x, u32 y, u32 w, u32 h, const u8 *pattern, u32 fore)
 {
     BY_BYTES(pattern_mono(1, to, x, y, w, h, pattern, fore), pattern_mono(2, to, x, y, w, h, pattern, fore),
              pattern_mono(3, to, x, y, w, h, pattern, fore), pattern_mono(4, to, x, y, w, h, pattern, fore))
 }
 
-INLINE u32 copy(int bytes, struct plain_surface to, struct plain_surface from, u32 x, u32 y, u32 w, u32 h)
+/* Three bytes by four, as in a fill. */
+INLINE u32 copy_row_3(u8 *d, const u8 *s, u32 w)
 {
-    for (u32 j = 0; j < h; j++) {
-        u8 *d = row_of(bytes, to, x, y + j);
-        const u8 *s = row_of(bytes, from, 0, j);
-        for (u32 i = 0; i < w; i++)
-            put(bytes, d + (u64)i * bytes, get(bytes, s + (u64)i * bytes));
-    }
-    return w * h;
+    u32 changed = 0, i = 0;
+    for (i = 0; i + 1 < w; i++)
+        changed += ((*(const u32 *)(d + (u64)i * 3) ^ *(const u32 *)(s + (u64)i * 3)) & 0xffffff) != 0;
+    changed += get(3, d + (u64)i * 3) != get(3, s + (u64)i * 3);
+    __builtin_memmove(d, s, (u64)w * 3);
+    return changed;
 }
 
-u32 plain_copy(int bytes, struct plain_surface to, struct plain_surface from, u32 x, u32 y, u32 w, u32 h)
+/* A row of at least one pixel, to a place that has no byte of it or as it was before. */
+INLINE u32 copy_row(int bytes, u8 *d, const u8 *s, u32 w)
+{
+    u32 changed = 0;
+    if (bytes == 3)
+        return copy_row_3(d, s, w);
+    STORE_ROW(bytes, d, w, changed, get(bytes, s + (u64)i * bytes))
+    return changed;
+}
+
+INLINE struct plain_drawn copy(int bytes, struct plain_surface to, struct plain_surface from, u32 x, u32 y, u32 w, u32 h)
+{
+    u32 changed = 0;
+    for (u32 j = 0; j < h; j++)
+        changed += copy_row(bytes, row_of(bytes, to, x, y + j), row_of(bytes, from, 0, j), w);
+    return drawn(w * h, changed);
+}
+
+struct plain_drawn plain_copy(int bytes, struct plain_surface to, struct plain_surface from, u32 x, u32 y, u32 w, u32 h)
 {
     BY_BYTES(copy(1, to, from, x, y, w, h), copy(2, to, from, x, y, w, h), copy(3, to, from, x, y, w, h), copy(4, to, from, x, y, w, h))
 }
 
-/* Within one surface, to the right and down: from the last pixel to the first. */
-INLINE u32 copy_over(int bytes, struct plain_surface s, u32 sx, u32 sy, u32 x, u32 y, u32 w, u32 h)
+/* Within one surface, each pixel onto its right-hand neighbour, from the left: the first column spreads. */
+INLINE struct plain_drawn smear(int bytes, struct plain_surface s, u32 w, u32 h)
 {
-    for (u32 j = h; j-- > 0;) {
-        u8 *d = row_of(bytes, s, x, y + j);
-        const u8 *a = row_of(bytes, s, sx, sy + j);
-        for (u32 i = w; i-- > 0;)
-            put(bytes, d + (u64)i * bytes, get(bytes, a + (u64)i * bytes));
+    u32 changed = 0;
+    for (u32 j = 0; j < h; j++) {
+        u8 *d = row_of(bytes, s, 1, j);
+        for (u32 i = 0; i < w; i++)
+            changed += store(bytes, d + (u64)i * bytes, get(bytes, d + (u64)i * bytes - bytes));
     }
-    return w * h;
+    return drawn(w * h, changed);
 }
 
-u32 plain_copy_over(int bytes, struct plain_surface s, u32 sx, u32 sy, u32 x, u32 y, u32 w, u32 h)
+struct plain_drawn plain_smear(int bytes, struct plain_surface s, u32 w, u32 h)
+{
+    BY_BYTES(smear(1, s, w, h), smear(2, s, w, h), smear(3, s, w, h), smear(4, s, w, h))
+}
+
+/* Within one surface, to other rows further down: from the last row to the first. */
+INLINE struct plain_drawn copy_over(int bytes, struct plain_surface s, u32 sx, u32 sy, u32 x, u32 y, u32 w, u32 h)
+{
+    u32 changed = 0;
+    for (u32 j = h; j-- > 0;)
+        changed += copy_row(bytes, row_of(bytes, s, x, y + j), row_of(bytes, s, sx, sy + j), w);
+    return drawn(w * h, changed);
+}
+
+struct plain_drawn plain_copy_over(int bytes, struct plain_surface s, u32 sx, u32 sy, u32 x, u32 y, u32 w, u32 h)
 {
     BY_BYTES(copy_over(1, s, sx, sy, x, y, w, h), copy_over(2, s, sx, sy, x, y, w, h), copy_over(3, s, sx, sy, x, y, w, h),
              copy_over(4, s, sx, sy, x, y, w, h))
@@ -152,75 +241,88 @@ INLINE int matches(int bytes, u32 v, u32 low, u32 high)
     return between(v, low, high, 0, 255) && between(v, low, high, 8, 255) && between(v, low, high, 16, 255);
 }
 
-/* Raster operation 66: target xor source. */
-INLINE u32 copy_xor(int bytes, struct plain_surface to, struct plain_surface from, u32 x, u32 y, u32 w, u32 h)
+/* Raster operation 66: target xor source. Three bytes by four, as in a fill; what is not 0 changes the target. */
+INLINE u32 xor_row(int bytes, u8 *d, const u8 *s, u32 w)
 {
-    for (u32 j = 0; j < h; j++) {
-        u8 *d = row_of(bytes, to, x, y + j);
-        const u8 *s = row_of(bytes, from, 0, j);
-        for (u32 i = 0; i < w; i++)
-            put(bytes, d + (u64)i * bytes, get(bytes, d + (u64)i * bytes) ^ get(bytes, s + (u64)i * bytes));
+    u32 changed = 0, i = 0;
+    if (bytes == 3) {
+        for (; i + 1 < w; i++)
+            changed += (*(const u32 *)(s + (u64)i * 3) & 0xffffff) != 0;
+        changed += get(3, s + (u64)i * 3) != 0;
+        for (i = 0; i < w * 3; i++)
+            d[i] ^= s[i];
+        return changed;
     }
-    return w * h;
+    STORE_ROW(bytes, d, w, changed, get(bytes, d + (u64)i * bytes) ^ get(bytes, s + (u64)i * bytes))
+    return changed;
 }
 
-u32 plain_copy_xor(int bytes, struct plain_surface to, struct plain_surface from, u32 x, u32 y, u32 w, u32 h)
+INLINE struct plain_drawn copy_xor(int bytes, struct plain_surface to, struct plain_surface from, u32 x, u32 y, u32 w, u32 h)
+{
+    u32 changed = 0;
+    for (u32 j = 0; j < h; j++)
+        changed += xor_row(bytes, row_of(bytes, to, x, y + j), row_of(bytes, from, 0, j), w);
+    return drawn(w * h, changed);
+}
+
+struct plain_drawn plain_copy_xor(int bytes, struct plain_surface to, struct plain_surface from, u32 x, u32 y, u32 w, u32 h)
 {
     BY_BYTES(copy_xor(1, to, from, x, y, w, h), copy_xor(2, to, from, x, y, w, h), copy_xor(3, to, from, x, y, w, h), copy_xor(4, to, from, x, y, w, h))
 }
 
 /* A pixel gets its source where the target matches the key. */
-INLINE u32 copy_into_key(int bytes, struct plain_surface to, struct plain_surface from, u32 x, u32 y, u32 w, u32 h, u32 low, u32 high)
+INLINE struct plain_drawn copy_into_key(int bytes, struct plain_surface to, struct plain_surface from, u32 x, u32 y, u32 w, u32 h, u32 low, u32 high)
 {
+    u32 changed = 0;
     for (u32 j = 0; j < h; j++) {
         u8 *d = row_of(bytes, to, x, y + j);
         const u8 *s = row_of(bytes, from, 0, j);
         for (u32 i = 0; i < w; i++) {
             if (matches(bytes, get(bytes, d + (u64)i * bytes), low, high))
-                put(bytes, d + (u64)i * bytes, get(bytes, s + (u64)i * bytes));
+                changed += store(bytes, d + (u64)i * bytes, get(bytes, s + (u64)i * bytes));
         }
     }
-    return w * h;
+    return drawn(w * h, changed);
 }
 
-u32 plain_copy_into_key(int bytes, struct plain_surface to, struct plain_surface from, u32 x, u32 y, u32 w, u32 h, u32 low, u32 high)
+struct plain_drawn plain_copy_into_key(int bytes, struct plain_surface to, struct plain_surface from, u32 x, u32 y, u32 w, u32 h, u32 low, u32 high)
 {
     BY_BYTES(copy_into_key(1, to, from, x, y, w, h, low, high), copy_into_key(2, to, from, x, y, w, h, low, high),
              copy_into_key(3, to, from, x, y, w, h, low, high), copy_into_key(4, to, from, x, y, w, h, low, high))
 }
 
 /* A pixel whose source matches the key keeps its target. */
-INLINE u32 copy_key(int bytes, struct plain_surface to, struct plain_surface from, u32 x, u32 y, u32 w, u32 h, u32 low, u32 high)
+INLINE struct plain_drawn copy_key(int bytes, struct plain_surface to, struct plain_surface from, u32 x, u32 y, u32 w, u32 h, u32 low, u32 high)
 {
+    u32 changed = 0;
     for (u32 j = 0; j < h; j++) {
         u8 *d = row_of(bytes, to, x, y + j);
         const u8 *s = row_of(bytes, from, 0, j);
-        for (u32 i = 0; i < w; i++) {
-            u32 v = get(bytes, s + (u64)i * bytes);
-            if (!matches(bytes, v, low, high))
-                put(bytes, d + (u64)i * bytes, v);
-        }
+        STORE_ROW(bytes, d, w, changed,
+                  matches(bytes, get(bytes, s + (u64)i * bytes), low, high) ? get(bytes, d + (u64)i * bytes) : get(bytes, s + (u64)i * bytes))
     }
-    return w * h;
+    return drawn(w * h, changed);
 }
 
-u32 plain_copy_key(int bytes, struct plain_surface to, struct plain_surface from, u32 x, u32 y, u32 w, u32 h, u32 low, u32 high)
+struct plain_drawn plain_copy_key(int bytes, struct plain_surface to, struct plain_surface from, u32 x, u32 y, u32 w, u32 h, u32 low, u32 high)
 {
     BY_BYTES(copy_key(1, to, from, x, y, w, h, low, high), copy_key(2, to, from, x, y, w, h, low, high),
              copy_key(3, to, from, x, y, w, h, low, high), copy_key(4, to, from, x, y, w, h, low, high))
 }
 
-u32 plain_copy_16_32(struct plain_surface to, struct plain_surface from, u32 x, u32 y, u32 w, u32 h)
+struct plain_drawn plain_copy_16_32(struct plain_surface to, struct plain_surface from, u32 x, u32 y, u32 w, u32 h)
 {
+    u32 changed = 0;
     for (u32 j = 0; j < h; j++) {
         u32 *d = (u32 *)row_of(4, to, x, y + j);
         const u16 *s = (const u16 *)row_of(2, from, 0, j);
         for (u32 i = 0; i < w; i++) {
-            u32 v = s[i], r = v >> 11, g = v >> 5 & 63, b = v & 31;
+            u32 v = s[i], r = v >> 11, g = v >> 5 & 63, b = v & 31, old = d[i];
             d[i] = (r << 3 | r >> 2) << 16 | (g << 2 | g >> 4) << 8 | (b << 3 | b >> 2);
+            changed += d[i] != old;
         }
     }
-    return w * h;
+    return drawn(w * h, changed);
 }
 
 INLINE u32 narrowed(u32 v)
@@ -229,17 +331,17 @@ INLINE u32 narrowed(u32 v)
 }
 
 /* Pixel i of w from pixel i * sw / w of its source row, and rows likewise, each by a running remainder. */
-INLINE u32 stretch(int bytes, int source, struct plain_surface to, struct plain_surface from, u32 w, u32 h, u32 sw, u32 sh)
+INLINE struct plain_drawn stretch(int bytes, int source, struct plain_surface to, struct plain_surface from, u32 w, u32 h, u32 sw, u32 sh)
 {
     u32 right = sw / w, rest = sw % w, down = sh / h, left_over = sh % h;
-    u32 y = 0, below = 0;
+    u32 y = 0, below = 0, changed = 0;
     for (u32 j = 0; j < h; j++) {
         u8 *d = row_of(bytes, to, 0, j);
         const u8 *s = row_of(source, from, 0, y);
         u32 x = 0, past = 0;
         for (u32 i = 0; i < w; i++) {
             u32 v = get(source, s + (u64)x * source);
-            put(bytes, d + (u64)i * bytes, source == bytes ? v : narrowed(v));
+            changed += store(bytes, d + (u64)i * bytes, source == bytes ? v : narrowed(v));
             x += right;
             past += rest;
             if (past >= w) {
@@ -254,32 +356,33 @@ INLINE u32 stretch(int bytes, int source, struct plain_surface to, struct plain_
             y++;
         }
     }
-    return w * h;
+    return drawn(w * h, changed);
 }
 
-u32 plain_stretch(int bytes, struct plain_surface to, struct plain_surface from, u32 w, u32 h, u32 sw, u32 sh)
+struct plain_drawn plain_stretch(int bytes, struct plain_surface to, struct plain_surface from, u32 w, u32 h, u32 sw, u32 sh)
 {
     BY_BYTES(stretch(1, 1, to, from, w, h, sw, sh), stretch(2, 2, to, from, w, h, sw, sh), stretch(3, 3, to, from, w, h, sw, sh),
              stretch(4, 4, to, from, w, h, sw, sh))
 }
 
-u32 plain_stretch_32_16(struct plain_surface to, struct plain_surface from, u32 w, u32 h, u32 sw, u32 sh)
+struct plain_drawn plain_stretch_32_16(struct plain_surface to, struct plain_surface from, u32 w, u32 h, u32 sw, u32 sh)
 {
     return stretch(2, 4, to, from, w, h, sw, sh);
 }
 
-INLINE u32 copy_mono(int bytes, struct plain_surface to, struct plain_surface from, u32 x, u32 y, u32 w, u32 h, u32 fore, u32 back)
+INLINE struct plain_drawn copy_mono(int bytes, struct plain_surface to, struct plain_surface from, u32 x, u32 y, u32 w, u32 h, u32 fore, u32 back)
 {
+    const u32 colours[2] = {back, fore};
+    u32 changed = 0;
     for (u32 j = 0; j < h; j++) {
         u8 *d = row_of(bytes, to, x, y + j);
         const u8 *s = from.at + (u64)j * from.stride;
-        for (u32 i = 0; i < w; i++)
-            put(bytes, d + (u64)i * bytes, s[i / 8] >> (7 - i % 8) & 1 ? fore : back);
+        STORE_ROW(bytes, d, w, changed, colours[s[i / 8] >> (7 - i % 8) & 1])
     }
-    return w * h;
+    return drawn(w * h, changed);
 }
 
-u32 plain_copy_mono(int bytes, struct plain_surface to, struct plain_surface from, u32 x, u32 y, u32 w, u32 h, u32 fore, u32 back)
+struct plain_drawn plain_copy_mono(int bytes, struct plain_surface to, struct plain_surface from, u32 x, u32 y, u32 w, u32 h, u32 fore, u32 back)
 {
     BY_BYTES(copy_mono(1, to, from, x, y, w, h, fore, back), copy_mono(2, to, from, x, y, w, h, fore, back),
              copy_mono(3, to, from, x, y, w, h, fore, back), copy_mono(4, to, from, x, y, w, h, fore, back))
@@ -299,17 +402,17 @@ INLINE u32 stipple(struct plain_pen *pen)
 }
 
 /* The points of a line, each looked at against the clip. */
-INLINE u32 line(int bytes, struct plain_surface to, int x0, int y0, int x1, int y1, int right, int bottom, struct plain_pen *pen, int stippled)
+INLINE struct plain_drawn line(int bytes, struct plain_surface to, int x0, int y0, int x1, int y1, int right, int bottom, struct plain_pen *pen, int stippled)
 {
     int dx = x1 > x0 ? x1 - x0 : x0 - x1, dy = y1 > y0 ? y1 - y0 : y0 - y1;
     int sx = x1 > x0 ? 1 : -1, sy = y1 > y0 ? 1 : -1, wide = dx >= dy;
     int n = wide ? dx : dy, m = wide ? dy : dx, e = n;
-    u32 done = 0;
+    u32 done = 0, changed = 0;
     struct plain_pen p = *pen;
     for (int i = 0; i <= n; i++) {
         u32 on = stippled ? stipple(&p) : 1;
         if (x0 >= 0 && x0 < right && y0 >= 0 && y0 < bottom) {
-            put(bytes, row_of(bytes, to, x0, y0), on ? p.fore : p.back);
+            changed += store(bytes, row_of(bytes, to, x0, y0), on ? p.fore : p.back);
             done++;
         }
         e += 2 * m;
@@ -320,10 +423,10 @@ INLINE u32 line(int bytes, struct plain_surface to, int x0, int y0, int x1, int 
         y0 += wide ? (aside ? sy : 0) : sy;
     }
     *pen = p;
-    return done;
+    return drawn(done, changed);
 }
 
-u32 plain_line(int bytes, struct plain_surface to, int x0, int y0, int x1, int y1, int right, int bottom, struct plain_pen *pen)
+struct plain_drawn plain_line(int bytes, struct plain_surface to, int x0, int y0, int x1, int y1, int right, int bottom, struct plain_pen *pen)
 {
     if (pen->stippled)
         BY_BYTES(line(1, to, x0, y0, x1, y1, right, bottom, pen, 1), line(2, to, x0, y0, x1, y1, right, bottom, pen, 1),
@@ -348,14 +451,14 @@ INLINE void end_row(struct plain_blit *b)
 }
 
 /* The pixels that a word of colour data finishes; rows follow each other with no gap. */
-INLINE u32 blit_word(int bytes, struct plain_blit *b, u32 word)
+INLINE struct plain_drawn blit_word(int bytes, struct plain_blit *b, u32 word)
 {
-    u32 done = 0;
+    u32 done = 0, changed = 0;
     for (int k = 0; k < 4 && b->y < b->height; k++) {
         b->acc |= (word >> 8 * k & 255) << 8 * b->have;
         b->have++;
         if ((int)b->have == bytes) {
-            put(bytes, row_of(bytes, b->to, b->left + b->x, b->top + b->y), b->acc);
+            changed += store(bytes, row_of(bytes, b->to, b->left + b->x, b->top + b->y), b->acc);
             done++;
             b->acc = 0;
             b->have = 0;
@@ -363,33 +466,33 @@ INLINE u32 blit_word(int bytes, struct plain_blit *b, u32 word)
             end_row(b);
         }
     }
-    return done;
+    return drawn(done, changed);
 }
 
-u32 plain_blit_word(struct plain_blit *b, u32 word)
+struct plain_drawn plain_blit_word(struct plain_blit *b, u32 word)
 {
     int bytes = b->bytes;
     BY_BYTES(blit_word(1, b, word), blit_word(2, b, word), blit_word(3, b, word), blit_word(4, b, word))
 }
 
 /* The pixels of a word of mono data; each row starts at a byte. */
-INLINE u32 blit_mono(int bytes, struct plain_blit *b, u32 word)
+INLINE struct plain_drawn blit_mono(int bytes, struct plain_blit *b, u32 word)
 {
-    u32 done = 0;
+    u32 done = 0, changed = 0;
     for (int k = 0; k < 4 && b->y < b->height; k++) {
         u32 byte = word >> 8 * k & 255;
         u8 *d = row_of(bytes, b->to, b->left + b->x, b->top + b->y);
         for (u32 i = 0; i < 8 && b->x < b->width; i++) {
-            put(bytes, d + (u64)i * bytes, byte >> (7 - i) & 1 ? b->fore : b->back);
+            changed += store(bytes, d + (u64)i * bytes, byte >> (7 - i) & 1 ? b->fore : b->back);
             b->x++;
             done++;
         }
         end_row(b);
     }
-    return done;
+    return drawn(done, changed);
 }
 
-u32 plain_blit_mono(struct plain_blit *b, u32 word)
+struct plain_drawn plain_blit_mono(struct plain_blit *b, u32 word)
 {
     int bytes = b->bytes;
     BY_BYTES(blit_mono(1, b, word), blit_mono(2, b, word), blit_mono(3, b, word), blit_mono(4, b, word))
@@ -415,82 +518,102 @@ u32 plain_write(struct plain_regs *r, u32 offset, u32 word)
     return 0;
 }
 
-/* ---- tiles: each row in pieces of at most 128 bytes, from pixel (0, 0) on */
+/* ---- tiles, from pixel (0, 0) on: of each row the whole pixels up to the end of a tile at once, and a pixel that lies in two tiles by its bytes */
 
 INLINE u8 *piece_of(struct plain_surface s, int tiles, u32 at, u32 y)
 {
     return tiles ? s.at + ((u64)(y / 32) * s.stride + at / 128) * 4096 + y % 32 * 128 + at % 128 : s.at + (u64)y * s.stride + at;
 }
 
-INLINE u32 piece_size(u32 at, u32 end)
+/* The whole pixels from byte column at on that lie in its tile, at most so many; none where the first lies in two. */
+INLINE u32 whole(int bytes, u32 at, u32 most)
 {
-    return end - at < 128 ? end - at : 128;
+    u32 many = (128 - at % 128) / bytes;
+    return many < most ? many : most;
 }
 
-INLINE u32 tiles_fill(int bytes, struct plain_surface to, u32 w, u32 h, u32 colour)
+INLINE struct plain_drawn tiles_fill(int bytes, struct plain_surface to, u32 w, u32 h, u32 colour)
 {
-    u8 row[128 * 3];
-    for (u32 i = 0; i < sizeof row; i++)
-        row[i] = colour >> i % bytes * 8;
+    u32 changed = 0;
     for (u32 j = 0; j < h; j++) {
-        for (u32 at = 0; at < w * bytes; at += 128) {
-            u8 *d = piece_of(to, 1, at, j);
-            u32 many = piece_size(at, w * bytes);
-            for (u32 i = 0; i < many; i++)
-                d[i] = row[at % bytes + i];
+        for (u32 i = 0, many; i < w; i += many ? many : 1) {
+            many = whole(bytes, i * bytes, w - i);
+            if (many) {
+                changed += fill_row(bytes, piece_of(to, 1, i * bytes, j), many, colour);
+                continue;
+            }
+            u32 differs = 0;
+            for (int k = 0; k < bytes; k++)
+                differs |= store(1, piece_of(to, 1, i * bytes + k, j), colour >> 8 * k & 255);
+            changed += differs;
         }
     }
-    return w * h;
+    return drawn(w * h, changed);
 }
 
-u32 plain_tiles_fill(int bytes, struct plain_surface to, u32 w, u32 h, u32 colour)
+struct plain_drawn plain_tiles_fill(int bytes, struct plain_surface to, u32 w, u32 h, u32 colour)
 {
     BY_BYTES(tiles_fill(1, to, w, h, colour), tiles_fill(2, to, w, h, colour), tiles_fill(3, to, w, h, colour), tiles_fill(4, to, w, h, colour))
 }
 
-INLINE u32 tiles_xor(int bytes, struct plain_surface to, u32 w, u32 h, const u8 *pattern)
+INLINE struct plain_drawn tiles_xor(int bytes, struct plain_surface to, u32 w, u32 h, const u8 *pattern)
 {
+    u32 changed = 0;
     for (u32 j = 0; j < h; j++) {
-        const u8 *row = pattern + j % 8 * 8 * bytes;
-        for (u32 at = 0; at < w * bytes; at += 128) {
-            u8 *d = piece_of(to, 1, at, j);
-            u32 many = piece_size(at, w * bytes);
-            for (u32 i = 0; i < many; i++)
-                d[i] ^= row[(at + i) % (8 * bytes)];
+        u32 row[8];
+        for (u32 k = 0; k < 8; k++)
+            row[k] = get(bytes, pattern + (j % 8 * 8 + k) * bytes);
+        for (u32 x = 0, many; x < w; x += many ? many : 1) {
+            many = whole(bytes, x * bytes, w - x);
+            if (many) {
+                u8 *d = piece_of(to, 1, x * bytes, j);
+                STORE_ROW(bytes, d, many, changed, get(bytes, d + (u64)i * bytes) ^ row[(x + i) % 8])
+                continue;
+            }
+            for (int k = 0; k < bytes; k++)
+                *piece_of(to, 1, x * bytes + k, j) ^= row[x % 8] >> 8 * k;
+            changed += row[x % 8] != 0;
         }
     }
-    return w * h;
+    return drawn(w * h, changed);
 }
 
-u32 plain_tiles_xor(int bytes, struct plain_surface to, u32 w, u32 h, const u8 *pattern)
+struct plain_drawn plain_tiles_xor(int bytes, struct plain_surface to, u32 w, u32 h, const u8 *pattern)
 {
     BY_BYTES(tiles_xor(1, to, w, h, pattern), tiles_xor(2, to, w, h, pattern), tiles_xor(3, to, w, h, pattern), tiles_xor(4, to, w, h, pattern))
 }
 
-u32 plain_tiles_copy(int bytes, struct plain_surface to, int to_tiles, struct plain_surface from, int from_tiles, u32 w, u32 h)
+INLINE struct plain_drawn tiles_copy(int bytes, struct plain_surface to, int to_tiles, struct plain_surface from, int from_tiles, u32 w, u32 h, int xor)
 {
+    u32 changed = 0;
     for (u32 j = 0; j < h; j++) {
-        for (u32 at = 0; at < w * bytes; at += 128) {
-            u8 *d = piece_of(to, to_tiles, at, j);
-            const u8 *s = piece_of(from, from_tiles, at, j);
-            u32 many = piece_size(at, w * bytes);
-            for (u32 i = 0; i < many; i++)
-                d[i] = s[i];
+        for (u32 i = 0, many; i < w; i += many ? many : 1) {
+            many = whole(bytes, i * bytes, w - i);
+            if (many) {
+                u8 *d = piece_of(to, to_tiles, i * bytes, j);
+                const u8 *s = piece_of(from, from_tiles, i * bytes, j);
+                changed += xor ? xor_row(bytes, d, s, many) : copy_row(bytes, d, s, many);
+                continue;
+            }
+            u32 differs = 0;
+            for (int k = 0; k < bytes; k++) {
+                u8 *d = piece_of(to, to_tiles, i * bytes + k, j);
+                differs |= store(1, d, *piece_of(from, from_tiles, i * bytes + k, j) ^ (xor ? *d : 0));
+            }
+            changed += differs;
         }
     }
-    return w * h;
+    return drawn(w * h, changed);
 }
 
-u32 plain_tiles_copy_xor(int bytes, struct plain_surface to, struct plain_surface from, u32 w, u32 h)
+struct plain_drawn plain_tiles_copy(int bytes, struct plain_surface to, int to_tiles, struct plain_surface from, int from_tiles, u32 w, u32 h)
 {
-    for (u32 j = 0; j < h; j++) {
-        for (u32 at = 0; at < w * bytes; at += 128) {
-            u8 *d = piece_of(to, 1, at, j);
-            const u8 *s = piece_of(from, 1, at, j);
-            u32 many = piece_size(at, w * bytes);
-            for (u32 i = 0; i < many; i++)
-                d[i] ^= s[i];
-        }
-    }
-    return w * h;
+    BY_BYTES(tiles_copy(1, to, to_tiles, from, from_tiles, w, h, 0), tiles_copy(2, to, to_tiles, from, from_tiles, w, h, 0),
+             tiles_copy(3, to, to_tiles, from, from_tiles, w, h, 0), tiles_copy(4, to, to_tiles, from, from_tiles, w, h, 0))
+}
+
+struct plain_drawn plain_tiles_copy_xor(int bytes, struct plain_surface to, struct plain_surface from, u32 w, u32 h)
+{
+    BY_BYTES(tiles_copy(1, to, 1, from, 1, w, h, 1), tiles_copy(2, to, 1, from, 1, w, h, 1), tiles_copy(3, to, 1, from, 1, w, h, 1),
+             tiles_copy(4, to, 1, from, 1, w, h, 1))
 }

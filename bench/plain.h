@@ -13,6 +13,11 @@ struct plain_surface {
     u32 stride;
 };
 
+/* What a drawing did: the pixels written, and those of them whose bytes changed. */
+struct plain_drawn {
+    u32 count, changed;
+};
+
 /* A host blit that waits for data: where the next pixel goes, and the bytes of it that have come. */
 struct plain_blit {
     struct plain_surface to;
@@ -33,26 +38,27 @@ struct plain_pen {
     int stippled;
 };
 
-u32 plain_fill(int bytes, struct plain_surface to, u32 x, u32 y, u32 w, u32 h, u32 colour);
-u32 plain_pattern_xor(int bytes, struct plain_surface to, u32 x, u32 y, u32 w, u32 h, const u8 *pattern);
-u32 plain_pattern_mono(int bytes, struct plain_surface to, u32 x, u32 y, u32 w, u32 h, const u8 *pattern, u32 fore);
-u32 plain_copy(int bytes, struct plain_surface to, struct plain_surface from, u32 x, u32 y, u32 w, u32 h);
-u32 plain_copy_over(int bytes, struct plain_surface s, u32 sx, u32 sy, u32 x, u32 y, u32 w, u32 h);
-u32 plain_copy_key(int bytes, struct plain_surface to, struct plain_surface from, u32 x, u32 y, u32 w, u32 h, u32 low, u32 high);
-u32 plain_copy_xor(int bytes, struct plain_surface to, struct plain_surface from, u32 x, u32 y, u32 w, u32 h);
-u32 plain_copy_into_key(int bytes, struct plain_surface to, struct plain_surface from, u32 x, u32 y, u32 w, u32 h, u32 low, u32 high);
-u32 plain_copy_16_32(struct plain_surface to, struct plain_surface from, u32 x, u32 y, u32 w, u32 h);
-u32 plain_stretch(int bytes, struct plain_surface to, struct plain_surface from, u32 w, u32 h, u32 sw, u32 sh);
-u32 plain_stretch_32_16(struct plain_surface to, struct plain_surface from, u32 w, u32 h, u32 sw, u32 sh);
-u32 plain_copy_mono(int bytes, struct plain_surface to, struct plain_surface from, u32 x, u32 y, u32 w, u32 h, u32 fore, u32 back);
-u32 plain_line(int bytes, struct plain_surface to, int x0, int y0, int x1, int y1, int right, int bottom, struct plain_pen *pen);
+struct plain_drawn plain_fill(int bytes, struct plain_surface to, u32 x, u32 y, u32 w, u32 h, u32 colour);
+struct plain_drawn plain_pattern_xor(int bytes, struct plain_surface to, u32 x, u32 y, u32 w, u32 h, const u8 *pattern);
+struct plain_drawn plain_pattern_mono(int bytes, struct plain_surface to, u32 x, u32 y, u32 w, u32 h, const u8 *pattern, u32 fore);
+struct plain_drawn plain_copy(int bytes, struct plain_surface to, struct plain_surface from, u32 x, u32 y, u32 w, u32 h);
+struct plain_drawn plain_smear(int bytes, struct plain_surface s, u32 w, u32 h);
+struct plain_drawn plain_copy_over(int bytes, struct plain_surface s, u32 sx, u32 sy, u32 x, u32 y, u32 w, u32 h);
+struct plain_drawn plain_copy_key(int bytes, struct plain_surface to, struct plain_surface from, u32 x, u32 y, u32 w, u32 h, u32 low, u32 high);
+struct plain_drawn plain_copy_xor(int bytes, struct plain_surface to, struct plain_surface from, u32 x, u32 y, u32 w, u32 h);
+struct plain_drawn plain_copy_into_key(int bytes, struct plain_surface to, struct plain_surface from, u32 x, u32 y, u32 w, u32 h, u32 low, u32 high);
+struct plain_drawn plain_copy_16_32(struct plain_surface to, struct plain_surface from, u32 x, u32 y, u32 w, u32 h);
+struct plain_drawn plain_stretch(int bytes, struct plain_surface to, struct plain_surface from, u32 w, u32 h, u32 sw, u32 sh);
+struct plain_drawn plain_stretch_32_16(struct plain_surface to, struct plain_surface from, u32 w, u32 h, u32 sw, u32 sh);
+struct plain_drawn plain_copy_mono(int bytes, struct plain_surface to, struct plain_surface from, u32 x, u32 y, u32 w, u32 h, u32 fore, u32 back);
+struct plain_drawn plain_line(int bytes, struct plain_surface to, int x0, int y0, int x1, int y1, int right, int bottom, struct plain_pen *pen);
 void plain_blit_open(struct plain_blit *b, int bytes, struct plain_surface to, u32 x, u32 y, u32 w, u32 h, u32 fore, u32 back);
-u32 plain_blit_word(struct plain_blit *b, u32 word);
-u32 plain_blit_mono(struct plain_blit *b, u32 word);
-u32 plain_tiles_fill(int bytes, struct plain_surface to, u32 w, u32 h, u32 colour);
-u32 plain_tiles_xor(int bytes, struct plain_surface to, u32 w, u32 h, const u8 *pattern);
-u32 plain_tiles_copy_xor(int bytes, struct plain_surface to, struct plain_surface from, u32 w, u32 h);
-u32 plain_tiles_copy(int bytes, struct plain_surface to, int to_tiles, struct plain_surface from, int from_tiles, u32 w, u32 h);
+struct plain_drawn plain_blit_word(struct plain_blit *b, u32 word);
+struct plain_drawn plain_blit_mono(struct plain_blit *b, u32 word);
+struct plain_drawn plain_tiles_fill(int bytes, struct plain_surface to, u32 w, u32 h, u32 colour);
+struct plain_drawn plain_tiles_xor(int bytes, struct plain_surface to, u32 w, u32 h, const u8 *pattern);
+struct plain_drawn plain_tiles_copy_xor(int bytes, struct plain_surface to, struct plain_surface from, u32 w, u32 h);
+struct plain_drawn plain_tiles_copy(int bytes, struct plain_surface to, int to_tiles, struct plain_surface from, int from_tiles, u32 w, u32 h);
 u32 plain_write(struct plain_regs *r, u32 offset, u32 word);
 
 #endif
