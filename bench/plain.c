@@ -5,12 +5,12 @@
 #define INLINE static inline __attribute__((always_inline))
 
 /* One function for each size of pixel, made from one body. */
-#define BY_BYTES(call1, call2, call3, call4) \
+#define BY_BYTES(call, ...) \
     switch (bytes) { \
-    case 1: return call1; \
-    case 2: return call2; \
-    case 3: return call3; \
-    default: return call4; \
+    case 1: return call(1, __VA_ARGS__); \
+    case 2: return call(2, __VA_ARGS__); \
+    case 3: return call(3, __VA_ARGS__); \
+    default: return call(4, __VA_ARGS__); \
     }
 
 INLINE u32 get(int bytes, const u8 *p)
@@ -113,7 +113,7 @@ INLINE struct plain_drawn fill(int bytes, struct plain_surface to, u32 x, u32 y,
 
 struct plain_drawn plain_fill(int bytes, struct plain_surface to, u32 x, u32 y, u32 w, u32 h, u32 colour)
 {
-    BY_BYTES(fill(1, to, x, y, w, h, colour), fill(2, to, x, y, w, h, colour), fill(3, to, x, y, w, h, colour), fill(4, to, x, y, w, h, colour))
+    BY_BYTES(fill, to, x, y, w, h, colour)
 }
 
 /* Raster operation 5A with the colour pattern: target xor pattern. */
@@ -132,8 +132,7 @@ INLINE struct plain_drawn pattern_xor(int bytes, struct plain_surface to, u32 x,
 
 struct plain_drawn plain_pattern_xor(int bytes, struct plain_surface to, u32 x, u32 y, u32 w, u32 h, const u8 *pattern)
 {
-    BY_BYTES(pattern_xor(1, to, x, y, w, h, pattern), pattern_xor(2, to, x, y, w, h, pattern), pattern_xor(3, to, x, y, w, h, pattern),
-             pattern_xor(4, to, x, y, w, h, pattern))
+    BY_BYTES(pattern_xor, to, x, y, w, h, pattern)
 }
 
 /* Raster operation F0 with the mono pattern, pixels of its clear bits left. */
@@ -155,8 +154,7 @@ INLINE struct plain_drawn pattern_mono(int bytes, struct plain_surface to, u32 x
 
 struct plain_drawn plain_pattern_mono(int bytes, struct plain_surface to, u32 x, u32 y, u32 w, u32 h, const u8 *pattern, u32 fore)
 {
-    BY_BYTES(pattern_mono(1, to, x, y, w, h, pattern, fore), pattern_mono(2, to, x, y, w, h, pattern, fore),
-             pattern_mono(3, to, x, y, w, h, pattern, fore), pattern_mono(4, to, x, y, w, h, pattern, fore))
+    BY_BYTES(pattern_mono, to, x, y, w, h, pattern, fore)
 }
 
 /* Three bytes by four, as in a fill. */
@@ -180,67 +178,6 @@ INLINE u32 copy_row(int bytes, u8 *d, const u8 *s, u32 w)
     return changed;
 }
 
-INLINE struct plain_drawn copy(int bytes, struct plain_surface to, struct plain_surface from, u32 x, u32 y, u32 w, u32 h)
-{
-    u32 changed = 0;
-    for (u32 j = 0; j < h; j++)
-        changed += copy_row(bytes, row_of(bytes, to, x, y + j), row_of(bytes, from, 0, j), w);
-    return drawn(w * h, changed);
-}
-
-struct plain_drawn plain_copy(int bytes, struct plain_surface to, struct plain_surface from, u32 x, u32 y, u32 w, u32 h)
-{
-    BY_BYTES(copy(1, to, from, x, y, w, h), copy(2, to, from, x, y, w, h), copy(3, to, from, x, y, w, h), copy(4, to, from, x, y, w, h))
-}
-
-/* Within one surface, each pixel onto its right-hand neighbour, from the left: the first column spreads. */
-INLINE struct plain_drawn smear(int bytes, struct plain_surface s, u32 w, u32 h)
-{
-    u32 changed = 0;
-    for (u32 j = 0; j < h; j++) {
-        u8 *d = row_of(bytes, s, 1, j);
-        for (u32 i = 0; i < w; i++)
-            changed += store(bytes, d + (u64)i * bytes, get(bytes, d + (u64)i * bytes - bytes));
-    }
-    return drawn(w * h, changed);
-}
-
-struct plain_drawn plain_smear(int bytes, struct plain_surface s, u32 w, u32 h)
-{
-    BY_BYTES(smear(1, s, w, h), smear(2, s, w, h), smear(3, s, w, h), smear(4, s, w, h))
-}
-
-/* Within one surface, to other rows further down: from the last row to the first. */
-INLINE struct plain_drawn copy_over(int bytes, struct plain_surface s, u32 sx, u32 sy, u32 x, u32 y, u32 w, u32 h)
-{
-    u32 changed = 0;
-    for (u32 j = h; j-- > 0;)
-        changed += copy_row(bytes, row_of(bytes, s, x, y + j), row_of(bytes, s, sx, sy + j), w);
-    return drawn(w * h, changed);
-}
-
-struct plain_drawn plain_copy_over(int bytes, struct plain_surface s, u32 sx, u32 sy, u32 x, u32 y, u32 w, u32 h)
-{
-    BY_BYTES(copy_over(1, s, sx, sy, x, y, w, h), copy_over(2, s, sx, sy, x, y, w, h), copy_over(3, s, sx, sy, x, y, w, h),
-             copy_over(4, s, sx, sy, x, y, w, h))
-}
-
-INLINE int between(u32 v, u32 low, u32 high, int shift, u32 mask)
-{
-    u32 a = v >> shift & mask;
-    return (low >> shift & mask) <= a && a <= (high >> shift & mask);
-}
-
-/* Whether every channel of v lies between those of low and high. */
-INLINE int matches(int bytes, u32 v, u32 low, u32 high)
-{
-    if (bytes == 1)
-        return between(v, low, high, 0, 255);
-    if (bytes == 2)
-        return between(v, low, high, 0, 31) && between(v, low, high, 5, 63) && between(v, low, high, 11, 31);
-    return between(v, low, high, 0, 255) && between(v, low, high, 8, 255) && between(v, low, high, 16, 255);
-}
-
 /* Raster operation 66: target xor source. Three bytes by four, as in a fill; what is not 0 changes the target. */
 INLINE u32 xor_row(int bytes, u8 *d, const u8 *s, u32 w)
 {
@@ -257,17 +194,72 @@ INLINE u32 xor_row(int bytes, u8 *d, const u8 *s, u32 w)
     return changed;
 }
 
-INLINE struct plain_drawn copy_xor(int bytes, struct plain_surface to, struct plain_surface from, u32 x, u32 y, u32 w, u32 h)
+INLINE struct plain_drawn copy(int bytes, struct plain_surface to, struct plain_surface from, u32 x, u32 y, u32 w, u32 h, int xor)
 {
     u32 changed = 0;
-    for (u32 j = 0; j < h; j++)
-        changed += xor_row(bytes, row_of(bytes, to, x, y + j), row_of(bytes, from, 0, j), w);
+    for (u32 j = 0; j < h; j++) {
+        u8 *d = row_of(bytes, to, x, y + j);
+        const u8 *s = row_of(bytes, from, 0, j);
+        changed += xor ? xor_row(bytes, d, s, w) : copy_row(bytes, d, s, w);
+    }
     return drawn(w * h, changed);
+}
+
+struct plain_drawn plain_copy(int bytes, struct plain_surface to, struct plain_surface from, u32 x, u32 y, u32 w, u32 h)
+{
+    BY_BYTES(copy, to, from, x, y, w, h, 0)
 }
 
 struct plain_drawn plain_copy_xor(int bytes, struct plain_surface to, struct plain_surface from, u32 x, u32 y, u32 w, u32 h)
 {
-    BY_BYTES(copy_xor(1, to, from, x, y, w, h), copy_xor(2, to, from, x, y, w, h), copy_xor(3, to, from, x, y, w, h), copy_xor(4, to, from, x, y, w, h))
+    BY_BYTES(copy, to, from, x, y, w, h, 1)
+}
+
+/* Within one surface, each pixel onto its right-hand neighbour, from the left: the first column spreads. */
+INLINE struct plain_drawn smear(int bytes, struct plain_surface s, u32 w, u32 h)
+{
+    u32 changed = 0;
+    for (u32 j = 0; j < h; j++) {
+        u8 *d = row_of(bytes, s, 1, j);
+        for (u32 i = 0; i < w; i++)
+            changed += store(bytes, d + (u64)i * bytes, get(bytes, d + (u64)i * bytes - bytes));
+    }
+    return drawn(w * h, changed);
+}
+
+struct plain_drawn plain_smear(int bytes, struct plain_surface s, u32 w, u32 h)
+{
+    BY_BYTES(smear, s, w, h)
+}
+
+/* Within one surface, to other rows further down: from the last row to the first. */
+INLINE struct plain_drawn copy_over(int bytes, struct plain_surface s, u32 sx, u32 sy, u32 x, u32 y, u32 w, u32 h)
+{
+    u32 changed = 0;
+    for (u32 j = h; j-- > 0;)
+        changed += copy_row(bytes, row_of(bytes, s, x, y + j), row_of(bytes, s, sx, sy + j), w);
+    return drawn(w * h, changed);
+}
+
+struct plain_drawn plain_copy_over(int bytes, struct plain_surface s, u32 sx, u32 sy, u32 x, u32 y, u32 w, u32 h)
+{
+    BY_BYTES(copy_over, s, sx, sy, x, y, w, h)
+}
+
+INLINE int between(u32 v, u32 low, u32 high, int shift, u32 mask)
+{
+    u32 a = v >> shift & mask;
+    return (low >> shift & mask) <= a && a <= (high >> shift & mask);
+}
+
+/* Whether every channel of v lies between those of low and high. */
+INLINE int matches(int bytes, u32 v, u32 low, u32 high)
+{
+    if (bytes == 1)
+        return between(v, low, high, 0, 255);
+    if (bytes == 2)
+        return between(v, low, high, 0, 31) && between(v, low, high, 5, 63) && between(v, low, high, 11, 31);
+    return between(v, low, high, 0, 255) && between(v, low, high, 8, 255) && between(v, low, high, 16, 255);
 }
 
 /* A pixel gets its source where the target matches the key. */
@@ -287,8 +279,7 @@ INLINE struct plain_drawn copy_into_key(int bytes, struct plain_surface to, stru
 
 struct plain_drawn plain_copy_into_key(int bytes, struct plain_surface to, struct plain_surface from, u32 x, u32 y, u32 w, u32 h, u32 low, u32 high)
 {
-    BY_BYTES(copy_into_key(1, to, from, x, y, w, h, low, high), copy_into_key(2, to, from, x, y, w, h, low, high),
-             copy_into_key(3, to, from, x, y, w, h, low, high), copy_into_key(4, to, from, x, y, w, h, low, high))
+    BY_BYTES(copy_into_key, to, from, x, y, w, h, low, high)
 }
 
 /* A pixel whose source matches the key keeps its target. */
@@ -306,8 +297,7 @@ INLINE struct plain_drawn copy_key(int bytes, struct plain_surface to, struct pl
 
 struct plain_drawn plain_copy_key(int bytes, struct plain_surface to, struct plain_surface from, u32 x, u32 y, u32 w, u32 h, u32 low, u32 high)
 {
-    BY_BYTES(copy_key(1, to, from, x, y, w, h, low, high), copy_key(2, to, from, x, y, w, h, low, high),
-             copy_key(3, to, from, x, y, w, h, low, high), copy_key(4, to, from, x, y, w, h, low, high))
+    BY_BYTES(copy_key, to, from, x, y, w, h, low, high)
 }
 
 struct plain_drawn plain_copy_16_32(struct plain_surface to, struct plain_surface from, u32 x, u32 y, u32 w, u32 h)
@@ -359,10 +349,15 @@ INLINE struct plain_drawn stretch(int bytes, int source, struct plain_surface to
     return drawn(w * h, changed);
 }
 
+/* Between surfaces of one format. */
+INLINE struct plain_drawn stretch_alike(int bytes, struct plain_surface to, struct plain_surface from, u32 w, u32 h, u32 sw, u32 sh)
+{
+    return stretch(bytes, bytes, to, from, w, h, sw, sh);
+}
+
 struct plain_drawn plain_stretch(int bytes, struct plain_surface to, struct plain_surface from, u32 w, u32 h, u32 sw, u32 sh)
 {
-    BY_BYTES(stretch(1, 1, to, from, w, h, sw, sh), stretch(2, 2, to, from, w, h, sw, sh), stretch(3, 3, to, from, w, h, sw, sh),
-             stretch(4, 4, to, from, w, h, sw, sh))
+    BY_BYTES(stretch_alike, to, from, w, h, sw, sh)
 }
 
 struct plain_drawn plain_stretch_32_16(struct plain_surface to, struct plain_surface from, u32 w, u32 h, u32 sw, u32 sh)
@@ -384,8 +379,7 @@ INLINE struct plain_drawn copy_mono(int bytes, struct plain_surface to, struct p
 
 struct plain_drawn plain_copy_mono(int bytes, struct plain_surface to, struct plain_surface from, u32 x, u32 y, u32 w, u32 h, u32 fore, u32 back)
 {
-    BY_BYTES(copy_mono(1, to, from, x, y, w, h, fore, back), copy_mono(2, to, from, x, y, w, h, fore, back),
-             copy_mono(3, to, from, x, y, w, h, fore, back), copy_mono(4, to, from, x, y, w, h, fore, back))
+    BY_BYTES(copy_mono, to, from, x, y, w, h, fore, back)
 }
 
 /* One step of the stipple: whether this point is of the fore colour. */
@@ -429,10 +423,8 @@ INLINE struct plain_drawn line(int bytes, struct plain_surface to, int x0, int y
 struct plain_drawn plain_line(int bytes, struct plain_surface to, int x0, int y0, int x1, int y1, int right, int bottom, struct plain_pen *pen)
 {
     if (pen->stippled)
-        BY_BYTES(line(1, to, x0, y0, x1, y1, right, bottom, pen, 1), line(2, to, x0, y0, x1, y1, right, bottom, pen, 1),
-                 line(3, to, x0, y0, x1, y1, right, bottom, pen, 1), line(4, to, x0, y0, x1, y1, right, bottom, pen, 1))
-    BY_BYTES(line(1, to, x0, y0, x1, y1, right, bottom, pen, 0), line(2, to, x0, y0, x1, y1, right, bottom, pen, 0),
-             line(3, to, x0, y0, x1, y1, right, bottom, pen, 0), line(4, to, x0, y0, x1, y1, right, bottom, pen, 0))
+        BY_BYTES(line, to, x0, y0, x1, y1, right, bottom, pen, 1)
+    BY_BYTES(line, to, x0, y0, x1, y1, right, bottom, pen, 0)
 }
 
 void plain_blit_open(struct plain_blit *b, int bytes, struct plain_surface to, u32 x, u32 y, u32 w, u32 h, u32 fore, u32 back)
@@ -472,7 +464,7 @@ INLINE struct plain_drawn blit_word(int bytes, struct plain_blit *b, u32 word)
 struct plain_drawn plain_blit_word(struct plain_blit *b, u32 word)
 {
     int bytes = b->bytes;
-    BY_BYTES(blit_word(1, b, word), blit_word(2, b, word), blit_word(3, b, word), blit_word(4, b, word))
+    BY_BYTES(blit_word, b, word)
 }
 
 /* The pixels of a word of mono data; each row starts at a byte. */
@@ -495,7 +487,7 @@ INLINE struct plain_drawn blit_mono(int bytes, struct plain_blit *b, u32 word)
 struct plain_drawn plain_blit_mono(struct plain_blit *b, u32 word)
 {
     int bytes = b->bytes;
-    BY_BYTES(blit_mono(1, b, word), blit_mono(2, b, word), blit_mono(3, b, word), blit_mono(4, b, word))
+    BY_BYTES(blit_mono, b, word)
 }
 
 u32 plain_write(struct plain_regs *r, u32 offset, u32 word)
@@ -553,7 +545,7 @@ INLINE struct plain_drawn tiles_fill(int bytes, struct plain_surface to, u32 w, 
 
 struct plain_drawn plain_tiles_fill(int bytes, struct plain_surface to, u32 w, u32 h, u32 colour)
 {
-    BY_BYTES(tiles_fill(1, to, w, h, colour), tiles_fill(2, to, w, h, colour), tiles_fill(3, to, w, h, colour), tiles_fill(4, to, w, h, colour))
+    BY_BYTES(tiles_fill, to, w, h, colour)
 }
 
 INLINE struct plain_drawn tiles_xor(int bytes, struct plain_surface to, u32 w, u32 h, const u8 *pattern)
@@ -580,7 +572,7 @@ INLINE struct plain_drawn tiles_xor(int bytes, struct plain_surface to, u32 w, u
 
 struct plain_drawn plain_tiles_xor(int bytes, struct plain_surface to, u32 w, u32 h, const u8 *pattern)
 {
-    BY_BYTES(tiles_xor(1, to, w, h, pattern), tiles_xor(2, to, w, h, pattern), tiles_xor(3, to, w, h, pattern), tiles_xor(4, to, w, h, pattern))
+    BY_BYTES(tiles_xor, to, w, h, pattern)
 }
 
 INLINE struct plain_drawn tiles_copy(int bytes, struct plain_surface to, int to_tiles, struct plain_surface from, int from_tiles, u32 w, u32 h, int xor)
@@ -608,12 +600,10 @@ INLINE struct plain_drawn tiles_copy(int bytes, struct plain_surface to, int to_
 
 struct plain_drawn plain_tiles_copy(int bytes, struct plain_surface to, int to_tiles, struct plain_surface from, int from_tiles, u32 w, u32 h)
 {
-    BY_BYTES(tiles_copy(1, to, to_tiles, from, from_tiles, w, h, 0), tiles_copy(2, to, to_tiles, from, from_tiles, w, h, 0),
-             tiles_copy(3, to, to_tiles, from, from_tiles, w, h, 0), tiles_copy(4, to, to_tiles, from, from_tiles, w, h, 0))
+    BY_BYTES(tiles_copy, to, to_tiles, from, from_tiles, w, h, 0)
 }
 
 struct plain_drawn plain_tiles_copy_xor(int bytes, struct plain_surface to, struct plain_surface from, u32 w, u32 h)
 {
-    BY_BYTES(tiles_copy(1, to, 1, from, 1, w, h, 1), tiles_copy(2, to, 1, from, 1, w, h, 1), tiles_copy(3, to, 1, from, 1, w, h, 1),
-             tiles_copy(4, to, 1, from, 1, w, h, 1))
+    BY_BYTES(tiles_copy, to, 1, from, 1, w, h, 1)
 }

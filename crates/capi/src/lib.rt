@@ -71,8 +71,8 @@ pub extern "C" fn rimebarrow_open(state: &mut [u8], size: usize) -> u32
     0
 }
 
-// One register write: the answer's number in the high 32 bits and the count in the low ones; how many pixels changed goes to its place. A word that draws nothing goes to its place in the state;
-// for any other the engine is taken out of its bytes and put back.
+// One register write: the answer's number in the high 32 bits and the count in the low ones; `changed` gets how many of the pixels changed. A word that
+// draws nothing goes to its place in the state; for any other the engine is taken out of its bytes and put back.
 #[no_mangle]
 pub extern "C" fn rimebarrow_write(
     state: &mut [u8],
