@@ -10,42 +10,26 @@ use lib.Dec.{eqb}
 use lib.ListN.{getD}
 use Rattle.surface.specs.declared.Surface.{Surface}
 use Rattle.surface.specs.Place.{byteAt, byteOf, readBytes, readPx, one}
-use Rattle.surface.specs.Asked.{Colour, OnColour}
 use Rattle.surface.specs.Pixels.{Px, px, across}
-use Rattle.surface.proofs.Bytes.{read-as, product-lt}
+use Rattle.surface.proofs.Bytes.{read-as}
 use Rattle.surface.proofs.OnLaws.{one-most}
 use Rattle.paint.specs.Paint.{summed}
 use Rattle.runs.specs.Runs.{unlikes, RowKept}
 use Rattle.runs.specs.Asked.{PixelsOn, RowHeld}
 use Rattle.runs.proofs.Runs.{run-inside}
-use Rattle.runs.proofs.Keeping.{buffer-on}
+use Rattle.runs.proofs.Keeping.{row-held, buffer-on}
 use Rattle.blocks.specs.Blocks.{others, othersDown}
 use Rattle.blocks.specs.Asked.{PartOn}
-use Rattle.blocks.proofs.Pixels.{byte-held}
 
 -- ---- rows that can be kept
-row-held : (s : Surface) (x y w len : ℕ) → Colour s → x + w ≤ 32768 → y < 32768 → ((i : ℕ) → i < w → OnColour s len (x + i) y) → RowHeld s (x * s .bytes) y (w * s .bytes) len
-row-held s x y w len colour right down on = record {
-  small = colour .small;
-  wide = omega (arith, add-mul x w (s .bytes), product-lt 16 3 {a = x + w} {b = s .bytes} (omega arith) (omega (arith, colour .small .bytes)));
-  high = omega arith;
-  held = λ i l. byte-held s (colour .some) x y w 1 there (px (x * s .bytes + i) y) (omega arith);
-}
-  where
-    there : (i j : ℕ) → x ≤ i → i < x + w → y ≤ j → j < y + 1 → OnColour s len i j
-    there i j a b c d =
-        let p : x + (i - x) ≡ i = omega arith in
-        let q : y ≡ j = omega arith in
-        subst (λ (n : ℕ). OnColour s len i n) q (subst (λ (n : ℕ). OnColour s len n y) p (on (i - x) (omega arith)))
-
 module _ {to from : Surface} {x y sx sy w len : ℕ} (on : PartOn to from x y sx sy w len) where
   pub part-held : RowHeld to (x * to .bytes) y (w * to .bytes) len
-  part-held = row-held to x y w len (on .target) (omega (arith, on .right)) (omega (arith, on .down)) (λ i l. record { colour = on .target; on = on .on i l })
+  part-held = row-held (on .target .some) x y w (on .target .small) (omega (arith, on .right)) (omega (arith, on .down)) (λ i l. record { colour = on .target; on = on .on i l })
 
   pub source-held : RowHeld from (sx * to .bytes) sy (w * to .bytes) len
   source-held =
       subst (λ (b : ℕ). RowHeld from (sx * b) sy (w * b) len) (on .format)
-      (row-held from sx sy w len (on .source) (omega (arith, on .sourceRight)) (omega (arith, on .sourceDown)) (λ i l. record { colour = on .source; on = on .sourceOn i l }))
+      (row-held (on .source .some) sx sy w (on .source .small) (on .sourceRight) (omega (arith, on .sourceDown)) (λ i l. record { colour = on .source; on = on .sourceOn i l }))
 
   -- as buffers hold them
   pub part-fits : w ≤ 256 → w * to .bytes ≤ 1024

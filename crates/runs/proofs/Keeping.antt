@@ -12,7 +12,7 @@ use lib.ListN.{length, getD, set, length-set}
 use lib.Seq.{getD-set-same, getD-set-other, ext-getD}
 use Rattle.surface.specs.declared.Surface.{Surface}
 use Rattle.surface.specs.Place.{byteAt, byteOf}
-use Rattle.surface.specs.Asked.{Small}
+use Rattle.surface.specs.Asked.{Small, OnColour}
 use Rattle.surface.proofs.Bytes.{product-lt}
 use Rattle.surface.proofs.OnLaws.{colour-byte}
 use Rattle.surface.proofs.Tiles.{tile-run}
@@ -58,18 +58,20 @@ row-kept-once {n = n} {a = a} {b} f g =
 -- ---- the pixels of a row, x and w of them as x * b and w * b bytes
 module _ {s : Surface} (some : 0 < s .bytes) (x y w : ℕ) where
   -- they are in memory
-  pub pixels-held : {len : ℕ} → Small s → RowOn s len x w y → y < 2 ^ 32 → RowHeld s (x * s .bytes) y (w * s .bytes) len
+  pub row-held : {len : ℕ} → Small s → x + w ≤ 2 ^ 15 → y < 2 ^ 32 → ((i : ℕ) → i < w → OnColour s len (x + i) y) → RowHeld s (x * s .bytes) y (w * s .bytes) len
   unfolding byteOf
-  pixels-held {len} small on high = record {
+  row-held {len} small right high on = record {
     small = small;
-    wide = omega (arith, product-lt 14 3 {a = x + w} {b = s .bytes} (omega (arith, on .wide)) (omega (arith, small .bytes)), add-mul x w (s .bytes));
+    wide = omega (arith, product-lt 16 3 {a = x + w} {b = s .bytes} (omega arith) (omega (arith, small .bytes)), add-mul x w (s .bytes));
     high = high;
     held = λ i l.
         let b = s .bytes in
-        let c : i / b < w = div-lt-iff-lt-mul some .1 l in
         let column : (x + i / b) * b + i % b ≡ x * b + i = omega (arith, add-mul x (i / b) b, div-add-mod' i b) in
-        subst (λ (n : ℕ). byteAt s n y < len) column (colour-byte (on .on (x + i / b) (omega arith) (omega arith)) (i % b) (mod-lt i some) .inside);
+        subst (λ (n : ℕ). byteAt s n y < len) column (colour-byte (on (i / b) (div-lt-iff-lt-mul some .1 l)) (i % b) (mod-lt i some) .inside);
   }
+
+  pub pixels-held : {len : ℕ} → Small s → RowOn s len x w y → y < 2 ^ 32 → RowHeld s (x * s .bytes) y (w * s .bytes) len
+  pixels-held small on high = row-held small (omega (arith, on .wide)) high (λ i l. on .on (x + i) (omega arith) (omega arith))
 
   -- and kept they are the buffer's, in turn
   pub pixels-kept : {m o out : List ℕ} → RowKept s m (x * s .bytes) y (w * s .bytes) o out → (c k : ℕ) → c < w → k < s .bytes
