@@ -1309,37 +1309,45 @@ def note_smear(tally: Counter, asked: Engine, corner: int, distance: int) -> Non
         tally["tiles smeared", f"across rows from corner {corner}{far}"] += rows[0] // 32 < rows[-1] // 32
 
 
-def build(k: int, tally: Counter) -> Maker:
-    """Stream k, by its number alone."""
+def planned(k: int, tally: Counter) -> Maker | None:
+    """Stream k where it has a plan of its own."""
     if SMEARS <= k < SMEARS + BY_DISTANCE:
         maker = Maker(k, 18_000, tally)
         maker.every_distance(k - SMEARS)
-        return maker
-    if TILES <= k < TILES + len(PLANNED):
+    elif TILES <= k < TILES + len(PLANNED):
         plan, which = PLANNED[k - TILES]
         maker = TileMaker(k, ROOM if plan == "whole" else 45_000, tally)
         getattr(maker, plan)(which)
-        return maker
-    if EQUALS <= k < EQUALS + len(EQUAL_PLANNED):
+    elif EQUALS <= k < EQUALS + len(EQUAL_PLANNED):
         plan, which = EQUAL_PLANNED[k - EQUALS]
         maker = EqualMaker(k, {"twice": 37_000, "wide": 45_000}.get(plan, 26_000), tally)
         getattr(maker, plan)(which)
-        return maker
+    else:
+        return None
+    return maker
+
+
+def begun(k: int, tally: Counter) -> tuple[Maker, tuple[str, ...]]:
+    """Stream k, not yet drawn on, and what is to be drawn most."""
     rng = random.Random(1000 + k)
     if k >= EQUALS:
-        size = rng.randint(9_000, 20_000) if k % 2 else rng.randint(1024, 6000)
-        theme = ON_TILES if k % 2 else EVERYTHING + ("smear",)
-        maker = EqualMaker(k, size, tally)
+        maker = EqualMaker(k, rng.randint(9_000, 20_000) if k % 2 else rng.randint(1024, 6000), tally)
         maker.on_tiles = k % 2 == 1
         maker.wash()
-    elif k < TILES:
-        size = TINY[k // 19 % 4] if k % 19 == 7 else rng.randint(1024, rng.choice((2048, 4096, 16384)))
-        theme = THEMES[k % len(THEMES)] if k < MIXED else STRETCHES if k < SMEARS else ("smear",)
-        maker = Maker(k, BIG.get(k, size), tally)
-    else:
+        return maker, ON_TILES if k % 2 else EVERYTHING + ("smear",)
+    if k >= TILES:
         size = ROOM if k % 2 else CUT[k // 12 % 4] if k % 12 == 0 else rng.randint(9_000, 45_000)
-        theme = ("block",) if k % 2 else ON_TILES
-        maker = TileMaker(k, size, tally)
+        return TileMaker(k, size, tally), ("block",) if k % 2 else ON_TILES
+    size = TINY[k // 19 % 4] if k % 19 == 7 else rng.randint(1024, rng.choice((2048, 4096, 16384)))
+    return Maker(k, BIG.get(k, size), tally), THEMES[k % len(THEMES)] if k < MIXED else STRETCHES if k < SMEARS else ("smear",)
+
+
+def build(k: int, tally: Counter) -> Maker:
+    """Stream k, by its number alone."""
+    maker = planned(k, tally)
+    if maker is not None:
+        return maker
+    maker, theme = begun(k, tally)
     patterned = theme == ("fill",) or MIXED <= k < TILES and k % 4 == 0 or TILES <= k < EQUALS and k % 8 < 2
     for offset in range(0x100, 0x200, 4) if patterned else ():
         maker.put(offset, maker.draw(32))
