@@ -4,7 +4,6 @@ use mathlib.Core.Path.{_≡_, refl, sym, ap, ap₂, subst⁻¹, _∙_}
 use mathlib.Core.Bool.{Bool, true, false}
 use mathlib.Core.List.{List, []}
 use Prim.Native.Nat.{ℕ, _<_}
-use native.Mathlib.Omega.{arith}
 use borrow.Author.Tests.{ne-eqb}
 use Rattle.surface.specs.Pixels.{rect}
 use Rattle.sweep.specs.declared.Task.{Task}
@@ -21,11 +20,11 @@ use Rattle.line.specs.declared.Line.{Line}
 use Rattle.line.specs.Asked.{Drawable}
 use Rattle.host.specs.declared.Feed.{Feed}
 use Rattle.bits.specs.declared.Plain.{Plain}
-use Rattle.host.specs.Host.{wordsOf, byWord}
-use Rattle.host.specs.Asked.{Sizes, Opened, Waits}
+use Rattle.host.specs.Host.{wordsOf, Pixel}
+use Rattle.host.specs.Asked.{Sizes, Opened}
 use Rattle.host.specs.Draw.{hostTouches, drawn}
 use Rattle.plain.specs.Plain.{plainInk}
-use Rattle.plain.proofs.PlainLaws.{plain-drawn, plain-waits}
+use Rattle.plain.proofs.PlainLaws.{plainly-drawn, plainly-opened}
 use Rattle.registers.specs.declared.Regs.{Regs}
 use Rattle.bank.specs.declared.Bank.{Bank}
 use Rattle.cuts.specs.declared.Cut.{Cut}
@@ -33,7 +32,7 @@ use Rattle.command.specs.Decode.{target, inkOf, plainBlit, plainOf, fillTask, c
 use Rattle.cuts.specs.Cut.{clipOf, fillCut, copyCut, coveredFrom, covered}
 use Rattle.table.specs.Table.{fillVerdict, copyVerdict, stretchVerdict, lineVerdict, hostVerdict}
 use Rattle.table.proofs.Stretches.{stretch-can}
-use Rattle.table.proofs.Verdicts.{fill-can, copy-can, copy-orderly, line-can, host-can, feed-sizes, words-few, plain-ink}
+use Rattle.table.proofs.Verdicts.{fill-can, copy-can, copy-orderly, line-can, host-can, feed-sizes, plain-ink}
 use Rattle.acts.specs.declared.Blit.{Blit}
 use Rattle.acts.specs.Deed.{Made, made, Deed, judged}
 
@@ -99,30 +98,27 @@ line-ready r len {i} {c} {l} e f g h z =
 pub feed-ready : (r : Regs) {f : Feed} → f ≡ feedOf r → Sizes f
 feed-ready r e = subst⁻¹ Sizes e (feed-sizes r)
 
-module _ (r : Regs) (len : ℕ) {c : Clip} {f : Feed} {taken : ℕ} (q : c ≡ clipOf r) (e : f ≡ feedOf r) (fine : hostVerdict r len ≡ 0) (more : taken < wordsOf (feedOf r)) where
-  pub word-ready : {i : Ink} → i ≡ inkOf r → Waits i c f len taken
-  word-ready {i} p =
-      let open′ = host-can r len fine (omega arith) in
-      record {
-        opened = subst⁻¹ (λ (i : Ink). Opened i c f len) p (subst⁻¹ (λ (c : Clip). Opened (inkOf r) c f len) q (subst⁻¹ (λ (f : Feed). Opened (inkOf r) (clipOf r) f len) e open′));
-        few = omega (arith, words-few r);
-      }
+module _ (r : Regs) (len : ℕ) {c : Clip} {f : Feed} (q : c ≡ clipOf r) (e : f ≡ feedOf r) (fine : hostVerdict r len ≡ 0) (some : 0 < wordsOf (feedOf r)) where
+  pub ink-opened : {i : Ink} → i ≡ inkOf r → Opened i c f len
+  ink-opened {i} p =
+      subst⁻¹ (λ (i : Ink). Opened i c f len) p
+      (subst⁻¹ (λ (c : Clip). Opened (inkOf r) c f len) q (subst⁻¹ (λ (f : Feed). Opened (inkOf r) (clipOf r) f len) e (host-can r len fine some)))
 
-  pub plain-ready : {b : Bool} {p : Plain} → b ≡ plainBlit r → b ≡ true → p ≡ plainOf r → Waits (plainInk p) c f len taken
-  plain-ready g t h = subst⁻¹ (λ (p : Plain). Waits (plainInk p) c f len taken) h (plain-waits (plain-ink r (sym g ∙ t)) (word-ready refl))
+  pub plain-opened : {b : Bool} {p : Plain} → b ≡ plainBlit r → b ≡ true → p ≡ plainOf r → Opened (plainInk p) c f len
+  plain-opened g t h = subst⁻¹ (λ (p : Plain). Opened (plainInk p) c f len) h (plainly-opened (plain-ink r (sym g ∙ t)) (ink-opened refl))
 
--- the pixels of a word, drawn by what was decoded
-module _ (r : Regs) (pattern m : List ℕ) {c : Clip} {f : Feed} (last word taken : ℕ) (st : State) (q : c ≡ clipOf r) (e : f ≡ feedOf r) where
-  pub word-drawn : {i : Ink} → i ≡ inkOf r → st ≡ drawn i pattern c f (byWord f last word taken) (state m 0 0)
-      → st ≡ paint (target r) (hostTouches (inkOf r) pattern (clipOf r) (feedOf r) (byWord (feedOf r) last word taken)) (state m 0 0)
+-- what some data finishes, drawn by what was decoded
+module _ (r : Regs) (pattern m : List ℕ) {c : Clip} {f : Feed} (pixels : Feed → List Pixel) (st : State) (q : c ≡ clipOf r) (e : f ≡ feedOf r) where
+  pub ink-drawn : {i : Ink} → i ≡ inkOf r → st ≡ drawn i pattern c f (pixels f) (state m 0 0)
+      → st ≡ paint (target r) (hostTouches (inkOf r) pattern (clipOf r) (feedOf r) (pixels (feedOf r))) (state m 0 0)
   unfolding inkOf
-  word-drawn p d =
-      d ∙ ap₂ (λ (i : Ink) (k : Clip). drawn i pattern k f (byWord f last word taken) (state m 0 0)) p q
-      ∙ ap (λ (f : Feed). drawn (inkOf r) pattern (clipOf r) f (byWord f last word taken) (state m 0 0)) e
+  ink-drawn p d =
+      d ∙ ap₂ (λ (i : Ink) (k : Clip). drawn i pattern k f (pixels f) (state m 0 0)) p q
+      ∙ ap (λ (f : Feed). drawn (inkOf r) pattern (clipOf r) f (pixels f) (state m 0 0)) e
 
-  pub plain-word-drawn : {b : Bool} {p : Plain} → b ≡ plainBlit r → b ≡ true → p ≡ plainOf r → st ≡ drawn (plainInk p) [] c f (byWord f last word taken) (state m 0 0)
-      → st ≡ paint (target r) (hostTouches (inkOf r) pattern (clipOf r) (feedOf r) (byWord (feedOf r) last word taken)) (state m 0 0)
-  plain-word-drawn g t h d =
-      word-drawn refl
-      (d ∙ ap (λ (p : Plain). drawn (plainInk p) [] c f (byWord f last word taken) (state m 0 0)) h
-      ∙ plain-drawn (inkOf r) (plainOf r) (plain-ink r (sym g ∙ t)) pattern c f (byWord f last word taken) (state m 0 0))
+  pub plain-drawn : {b : Bool} {p : Plain} → b ≡ plainBlit r → b ≡ true → p ≡ plainOf r → st ≡ drawn (plainInk p) [] c f (pixels f) (state m 0 0)
+      → st ≡ paint (target r) (hostTouches (inkOf r) pattern (clipOf r) (feedOf r) (pixels (feedOf r))) (state m 0 0)
+  plain-drawn g t h d =
+      ink-drawn refl
+      (d ∙ ap (λ (p : Plain). drawn (plainInk p) [] c f (pixels f) (state m 0 0)) h
+      ∙ plainly-drawn (inkOf r) (plainOf r) (plain-ink r (sym g ∙ t)) pattern c f (pixels f) (state m 0 0))

@@ -2,3 +2,4 @@ pub mod Laws
 pub mod Cases
 pub mod Numbers
 pub mod Order
+pub mod Feeding

@@ -2,10 +2,13 @@
 use bank::Bank;
 use paint::Tally;
 ghost use mathlib.Core.Path.{_≡_};
+ghost use Prim.Native.Nat.{_+_, _^_, _≤_, min};
 ghost use lib.ListN.{length};
 ghost use Rattle.paint.specs.Tally.{tally};
 ghost use Rattle.paint.specs.Paint.{tallied};
-ghost use Rattle.acts.specs.Deed.{noBlit, rectEnded, lineEnded, touchedByWord, paintedBy, deed, judged, filling, copying, stretching, lining, opening, feeding, carrying, aimed, starting};
+ghost use Rattle.host.specs.Host.{lastOf};
+ghost use Rattle.acts.specs.Deed.{noBlit, rectEnded, lineEnded, touchedByWord, touchedByWords, paintedBy, deed, judged, filling, copying, stretching, lining, opening, feeding, carrying, aimed, starting};
+ghost use Rattle.acts.specs.Fed.{blitAfter, feedEnded, fed, feedingRun};
 ghost use Rattle.acts.specs.Asked.{Feeds};
 
 // A host blit: how many words it has taken, the last of them, and whether it waits for more.
@@ -179,8 +182,31 @@ fn begin(bank: Bank, blit: Blit, mem: &[u8]) -> Act
 
 // The pixels that a word of data finishes; the tally of those written.
 fn paint_word(bank: Bank, blit: Blit, mem: &mut [u8], word: u32) -> Tally
-    requires { ⌜ Feeds bank blit (length (now mem)) ⌝ }
+    requires { ⌜ Feeds bank blit (length (now mem)) 1 ⌝ }
     ensures { λ r. ⌜ tallied (now (mem .exit)) r ≡ paintedBy bank (touchedByWord bank blit word) (now (mem .entry)) ⌝ }
+{
+    let regs = bank.regs;
+    let feed = command::decode_feed(regs);
+    let clip = cuts::decode_clip(regs);
+    let taken = blit.taken;
+    let last = blit.last;
+    let none = Tally {
+        count: 0,
+        changed: 0,
+    };
+    if command::is_plain(regs) {
+        let plain = command::decode_plain(regs);
+        return plain::plain_word(mem, plain, clip, feed, taken, last, word, none);
+    }
+    let ink = command::decode_ink(regs);
+    let pattern = bank.pattern;
+    host::host_word(mem, ink, pattern, clip, feed, taken, last, word, none)
+}
+
+// The pixels that some words of data finish.
+fn paint_words(bank: Bank, blit: Blit, mem: &mut [u8], words: &[u32]) -> Tally
+    requires { ⌜ Feeds bank blit (length (now mem)) (length (now words)) ⌝ }
+    ensures { λ r. ⌜ tallied (now (mem .exit)) r ≡ paintedBy bank (touchedByWords bank blit (now (words .entry))) (now (mem .entry)) ⌝ }
 {
     let regs = bank.regs;
     let feed = command::decode_feed(regs);
@@ -189,11 +215,11 @@ fn paint_word(bank: Bank, blit: Blit, mem: &mut [u8], word: u32) -> Tally
     let last = blit.last;
     if command::is_plain(regs) {
         let plain = command::decode_plain(regs);
-        return plain::plain_word(mem, plain, clip, feed, taken, last, word);
+        return plain::plain_words(mem, plain, clip, feed, taken, last, words);
     }
     let ink = command::decode_ink(regs);
     let pattern = bank.pattern;
-    host::host_word(mem, ink, pattern, clip, feed, taken, last, word)
+    host::host_words(mem, ink, pattern, clip, feed, taken, last, words)
 }
 
 // A word of data for the host blit that the registers hold, opened or not yet.
@@ -260,6 +286,14 @@ fn aim(bank: Bank, word: u32) -> Bank
     }
 }
 
+// The command started with a launch write's word. A host blit takes its words by `feed`.
+pub fn start(bank: Bank, blit: Blit, mem: &mut [u8], word: u32) -> Act
+    ensures { λ r. ⌜ deed r (now (mem .exit)) ≡ judged (carrying (aimed bank word) blit (now (mem .entry))) (aimed bank word) blit (now (mem .entry)) ⌝ }
+{
+    let next = aim(bank, word);
+    carry(next, blit, mem)
+}
+
 // A launch write: data for a host blit, or the command started with its word.
 pub fn launch(bank: Bank, blit: Blit, mem: &mut [u8], word: u32) -> Act
     ensures { λ r. ⌜ deed r (now (mem .exit)) ≡ judged (starting bank blit (now (mem .entry)) word) (aimed bank word) blit (now (mem .entry)) ⌝ }
@@ -268,6 +302,101 @@ pub fn launch(bank: Bank, blit: Blit, mem: &mut [u8], word: u32) -> Act
     if number == 3 {
         return feed(bank, blit, mem, word);
     }
-    let next = aim(bank, word);
-    carry(next, blit, mem)
+    start(bank, blit, mem, word)
+}
+
+// ---- several words of data at once
+
+// What became of words of data: the row that refuses them, or 0; the host blit after those that were used; their tally, and how many they are.
+pub struct Fed {
+    pub number: u32,
+    pub blit: Blit,
+    pub tally: Tally,
+    pub used: usize,
+}
+
+// How many of n words are used at once: no more than the blit still needs, and at most 65,536.
+fn reach(needs: u32, n: usize) -> usize
+    ensures { λ r. ⌜ r ≡ min (min needs (2 ^ 16)) n ⌝ }
+{
+    let most = surface::wide(surface::least(needs, 0x1_0000));
+    if most < n { most } else { n }
+}
+
+fn last_of(last: u32, words: &[u32]) -> u32
+    ensures { λ r. ⌜ r ≡ lastOf last (now (words .entry)) ⌝ }
+{
+    let n = words.len();
+    if n == 0 {
+        return last;
+    }
+    words[n - 1]
+}
+
+// The host blit after some of its words: it waits for more, or it has ended.
+fn blit_after(blit: Blit, words: &[u32], needed: u32) -> Blit
+    requires { ⌜ blit .taken + length (now words) ≤ needed ⌝ }
+    ensures { λ r. ⌜ r ≡ blitAfter blit (now (words .entry)) needed ⌝ }
+{
+    let taken = blit.taken + words.len() as u32;
+    if taken < needed {
+        return Blit {
+            waiting: true,
+            taken: taken,
+            last: last_of(blit.last, words),
+        };
+    }
+    no_blit()
+}
+
+// Words used without a pixel.
+fn undrawn(number: u32, blit: Blit, used: usize) -> Fed
+    ensures { λ r. ⌜ r ≡ record { number = number; blit = blit; tally = tally 0 0; used = used } ⌝ }
+{
+    Fed {
+        number: number,
+        blit: blit,
+        tally: Tally {
+            count: 0,
+            changed: 0,
+        },
+        used: used,
+    }
+}
+
+// Words of data for the host blit that the registers hold, opened or not yet: those up to its end, with one verdict for all of them. A blit that needs no
+// words uses up one.
+pub fn feed_run(bank: Bank, blit: Blit, mem: &mut [u8], words: &[u32]) -> Fed
+    ensures { λ r. ⌜ fed r (now (mem .exit)) ≡ feedingRun bank blit (now (mem .entry)) (now (words .entry)) ⌝ }
+{
+    let regs = bank.regs;
+    let verdict = table::host_verdict(mem.len(), regs);
+    if verdict != 0 {
+        return undrawn(verdict, blit, 0);
+    }
+    let feed = command::decode_feed(regs);
+    let needed = host::words_needed(feed);
+    let taken = blit.taken;
+    if needed <= taken {
+        return undrawn(0, no_blit(), 1);
+    }
+    let n = reach(needed - taken, words.len());
+    let part = &words[..n];
+    let tally = paint_words(bank, blit, mem, part);
+    Fed {
+        number: 0,
+        blit: blit_after(blit, part, needed),
+        tally: tally,
+        used: n,
+    }
+}
+
+// The registers once a host blit has had its words: stepped where it waits for no more.
+pub fn end_feed(bank: Bank, blit: Blit) -> Bank
+    ensures { λ r. ⌜ r ≡ feedEnded bank blit ⌝ }
+{
+    if blit.waiting {
+        return bank;
+    }
+    end_rect(bank)
 }

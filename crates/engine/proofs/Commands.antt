@@ -338,6 +338,26 @@ launched-carried e m d =
     (number (regs e)) (idle-carried (regs e) e m) (copied-carried e toSource m) (stretched-carried e toSource m) (fed-carried e m d) (filled-carried e toTarget m)
     (lined-carried e toTarget m) (unbuilt-carried (regs e) e m)
 
+-- its number is the verdict's
+pub launched-number : (e : Engine) (m : List ℕ) (d : ℕ) → numberOf (launched e m d .answer) ≡ starting (e .bank) (e .blit) m d .verdict
+unfolding launched starting copyVerdict stretchVerdict hostVerdict fillVerdict lineVerdict refusal
+launched-number e m d =
+    let toSource = stored (e .bank) 0x5c d in
+    let toTarget = stored (e .bank) 0x6c d in
+    let s = toSource .regs in
+    let r = regs e in
+    let t = toTarget .regs in
+    let len = length m in
+    by-tests
+    (λ a b c f g h. let started = pick a b c f g h (idling (e .bank) (e .blit) m) (copying toSource (e .blit) m) (stretching toSource (e .blit) m) (feeding (e .bank) (e .blit) m d)
+    (filling toTarget (e .blit) m) (lining toTarget (e .blit) m) (unbuilt (e .bank) (e .blit) m) in
+    numberOf (judging e e m started .answer) ≡ started .verdict)
+    (number r) (λ _. refl) (λ _. first-number (not (bothFine s)) false (not (allOn (target s) len (covered (copyCut s))) || copyOff s len) (copyMeets s len) e m _ refl)
+    (λ _. first-number (not (bothFine s)) (stretchFault s) (not (allOn (target s) len (covered (fillCut s))) || stretchOff s len) (stretchMeets s len) e m _ refl)
+    (λ _. first-number (not (hostFine r)) (hostFault r) (not (allOn (target r) len (covered (fillCut r)))) false e m _ refl)
+    (λ _. first-number (not (targetFine t)) false (not (allOn (target t) len (covered (fillCut t)))) false e m _ refl)
+    (λ _ _. first-number (not (targetFine t)) false (lineOff (target t) len (clipOf t) (points (lineOf t))) false e m _ refl) (λ _. refl)
+
 -- ---- any write: `two` and `three` say whether rows 2 and 3 apply
 abbrev pub PaintingOf : Option Regs → List Touch → List ℕ → Step → Type 0
 PaintingOf none ts m s = (s .memory ≡ m) × (countOf (s .answer) ≡ 0) × (changedOf (s .answer) ≡ 0)

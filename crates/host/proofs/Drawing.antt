@@ -22,7 +22,7 @@ use Rattle.paint.specs.Mix.{mixed}
 use Rattle.ink.specs.Pattern.{patternValue}
 use Rattle.paint.specs.Clip.{inClip, pixelAt}
 use Rattle.paint.specs.Asked.{Room}
-use Rattle.paint.proofs.Tallies.{room-first}
+use Rattle.paint.proofs.Tallies.{room-left}
 use Rattle.paint.proofs.Turns.{paint-append}
 use Rattle.paint.proofs.Loops.{Left, left-begins, left-takes, left-ended}
 use Rattle.host.specs.declared.Feed.{Feed}
@@ -120,7 +120,7 @@ module _ (feed : Feed) (last word : ℕ) where
       (λ l. rw (← byte-run o l refl refl, run-length) (omega (arith, whole-width feed (o % feed .step + 1))))
       (λ l. rw (byte-none o (omega arith)) (omega arith))
 
-  bytes-length : feed .width ≤ 2 ^ 13 → (o n : ℕ) → length (byBytes feed last word o n) ≤ 2 ^ 13 * n
+  pub bytes-length : feed .width ≤ 2 ^ 13 → (o n : ℕ) → length (byBytes feed last word o n) ≤ 2 ^ 13 * n
   unfolding byBytes
   bytes-length w o zero = omega arith
   bytes-length w o (suc n) = omega (arith, length-append (byByte feed last word o) (byBytes feed last word (o + 1) n), byte-length o, bytes-length w (o + 1) n)
@@ -135,28 +135,28 @@ module _ (feed : Feed) (last word : ℕ) where
       ∙ sym (append-assoc (byByte feed last word o) (byBytes feed last word (o + 1) m) (byBytes feed last word (o + 1 + m) n)))
 
 -- ---- the loop over the bytes of word number k: t of them are taken
-pub record WordLeft (ink : Ink) (pattern : List ℕ) (c : Clip) (feed : Feed) (last word k : ℕ) (m₀ : List ℕ) (t : ℕ) (m : List ℕ) (r : Tally) : Type 0 where
-  pub left : Left (ink .target) (hostTouches ink pattern c feed (byWord feed last word k)) m₀ (tally 0 0) (2 ^ 13 * t) (hostTouches ink pattern c feed (byBytes feed last word (4 * k + t) (4 - t))) m r
+pub record WordLeft (ink : Ink) (pattern : List ℕ) (c : Clip) (feed : Feed) (last word k : ℕ) (m₀ : List ℕ) (n : Tally) (t : ℕ) (m : List ℕ) (r : Tally) : Type 0 where
+  pub left : Left (ink .target) (hostTouches ink pattern c feed (byWord feed last word k)) m₀ n (2 ^ 13 * t) (hostTouches ink pattern c feed (byBytes feed last word (4 * k + t) (4 - t))) m r
 
-module _ {ink : Ink} {pattern : List ℕ} {c : Clip} {feed : Feed} {last word k : ℕ} {m₀ : List ℕ} where
-  pub word-begins : WordLeft ink pattern c feed last word k m₀ 0 m₀ (tally 0 0)
+module _ {ink : Ink} {pattern : List ℕ} {c : Clip} {feed : Feed} {last word k : ℕ} {m₀ : List ℕ} {n : Tally} where
+  pub word-begins : WordLeft ink pattern c feed last word k m₀ n 0 m₀ n
   unfolding byWord
   word-begins = record { left = left-begins (ap (λ (o : ℕ). hostTouches ink pattern c feed (byBytes feed last word o 4)) (add-zero (4 * k))) }
 
-  module _ {t : ℕ} {m : List ℕ} {r : Tally} (now : WordLeft ink pattern c feed last word k m₀ t m r) where
-    pub word-room : Sizes feed → t < 4 → Room r (feed .width)
-    word-room sizes more = room-first (now .left .upto) (omega (arith, sizes .width))
+  module _ {t : ℕ} {m : List ℕ} {r : Tally} (now : WordLeft ink pattern c feed last word k m₀ n t m r) where
+    pub word-room : Sizes feed → Room n (2 ^ 15) → t < 4 → Room r (feed .width)
+    word-room sizes room more = room-left room (now .left .upto) (omega (arith, sizes .width))
 
-    pub word-takes : Sizes feed → (n : ℕ) {m′ : List ℕ} {r′ : Tally} → t + n ≤ 4
-        → tallied m′ r′ ≡ drawn ink pattern c feed (byBytes feed last word (4 * k + t) n) (tallied m r) → WordLeft ink pattern c feed last word k m₀ (t + n) m′ r′
-    word-takes sizes n fits put =
-        let e : 4 - t ≡ n + (4 - (t + n)) = omega arith in
-        let a : 4 * k + (t + n) ≡ 4 * k + t + n = omega arith in
+    pub word-takes : Sizes feed → (i : ℕ) {m′ : List ℕ} {r′ : Tally} → t + i ≤ 4
+        → tallied m′ r′ ≡ drawn ink pattern c feed (byBytes feed last word (4 * k + t) i) (tallied m r) → WordLeft ink pattern c feed last word k m₀ n (t + i) m′ r′
+    word-takes sizes i fits put =
+        let e : 4 - t ≡ i + (4 - (t + i)) = omega arith in
+        let a : 4 * k + (t + i) ≡ 4 * k + t + i = omega arith in
         record {
-          left = draw-takes ink pattern c feed (byBytes feed last word (4 * k + t) (4 - t)) (byBytes feed last word (4 * k + t) n) _ (now .left) (rw (e, a) (bytes-append feed last word (4 * k + t) n (4 - (t + n))))
-              (omega (arith, bytes-length feed last word (omega (arith, sizes .width)) (4 * k + t) n)) put;
+          left = draw-takes ink pattern c feed (byBytes feed last word (4 * k + t) (4 - t)) (byBytes feed last word (4 * k + t) i) _ (now .left) (rw (e, a) (bytes-append feed last word (4 * k + t) i (4 - (t + i))))
+              (omega (arith, bytes-length feed last word (omega (arith, sizes .width)) (4 * k + t) i)) put;
         }
 
-    pub word-ended : 4 ≤ t → tallied m r ≡ drawn ink pattern c feed (byWord feed last word k) (state m₀ 0 0)
+    pub word-ended : 4 ≤ t → tallied m r ≡ drawn ink pattern c feed (byWord feed last word k) (tallied m₀ n)
     unfolding byBytes
     word-ended all = let e : 4 - t ≡ 0 = omega arith in draw-ended ink pattern c feed {rest = byBytes feed last word (4 * k + t) (4 - t)} (rw e) (now .left)

@@ -2,6 +2,7 @@ pub mod Places
 pub mod Finished
 pub mod Needed
 pub mod Drawing
+pub mod Runs
 pub mod Touched
 pub mod Once
 pub mod Values

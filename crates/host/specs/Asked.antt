@@ -43,3 +43,9 @@ pub record Opened (ink : Ink) (clip : Clip) (feed : Feed) (len : ℕ) : Type 0 w
 pub record Waits (ink : Ink) (clip : Clip) (feed : Feed) (len taken : ℕ) : Type 0 where
   pub opened : Opened ink clip feed len
   pub few : taken < 2 ^ 29
+
+-- the same, where n words come after these, so few that 32 bits count their pixels
+pub record WaitsFor (ink : Ink) (clip : Clip) (feed : Feed) (len taken n : ℕ) : Type 0 where
+  pub opened : Opened ink clip feed len
+  pub few : taken + n < 2 ^ 29
+  pub short : n ≤ 2 ^ 16

@@ -70,3 +70,13 @@ byBytes f last word o (suc n) = byByte f last word o ++ byBytes f last word (o +
 -- by word number k; `last` is the word before it
 unfoldable pub byWord : Feed → ℕ → ℕ → ℕ → List Pixel
 byWord f last word k = byBytes f last word (4 * k) 4
+
+-- by words from number k on; `last` is the word before them
+unfoldable pub byRun : Feed → ℕ → List ℕ → ℕ → List Pixel
+byRun f last [] k = []
+byRun f last (w ∷ ws) k = byWord f last w k ++ byRun f w ws (k + 1)
+
+-- the last word of a run, or the one before it where it has none
+unfoldable pub lastOf : ℕ → List ℕ → ℕ
+lastOf last [] = last
+lastOf last (w ∷ ws) = lastOf w ws

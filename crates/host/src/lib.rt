@@ -8,11 +8,11 @@ ghost use mathlib.Core.List.{[], _∷_};
 ghost use Prim.Native.Nat.{_+_, _-_, _*_, _/_, _%_, _^_, _<_};
 ghost use lib.ListN.{length};
 ghost use Rattle.formats.specs.Step.{bitsPer, dataWords};
-ghost use Rattle.paint.specs.Paint.{state, tallied, paint};
+ghost use Rattle.paint.specs.Paint.{state, tallied};
 ghost use Rattle.paint.specs.Asked.{Room};
-ghost use Rattle.host.specs.Host.{pixel, valueOf, whole, byByte, byWord};
-ghost use Rattle.host.specs.Asked.{Sizes, Opened, Waits};
-ghost use Rattle.host.specs.Draw.{hostSource, hostTouches, drawn};
+ghost use Rattle.host.specs.Host.{pixel, valueOf, whole, byByte, byWord, byRun};
+ghost use Rattle.host.specs.Asked.{Sizes, Opened, Waits, WaitsFor};
+ghost use Rattle.host.specs.Draw.{hostSource, drawn};
 
 // The source (its step, its size in pixels, its bytes per pixel with 0 for mono), and the target position of its upper left pixel, counted from
 // 16384.
@@ -169,7 +169,7 @@ fn host_byte(
     r
 }
 
-// The pixels that word number `taken` finishes; `last` is the word before it. The tally of those written.
+// The pixels that word number `taken` finishes, after those that n tells of; `last` is the word before it.
 pub fn host_word(
     mem: &mut [u8],
     ink: Ink,
@@ -179,18 +179,45 @@ pub fn host_word(
     taken: u32,
     last: u32,
     word: u32,
+    n: Tally,
 ) -> Tally
-    requires { ⌜ Waits ink c feed (length (now mem)) taken ⌝ }
-    ensures { λ r. ⌜ tallied (now (mem .exit)) r ≡ paint (ink .target) (hostTouches ink pattern c feed (byWord feed last word taken)) (state (now (mem .entry)) 0 0) ⌝ }
+    requires { ⌜ Waits ink c feed (length (now mem)) taken × Room n (2 ^ 15) ⌝ }
+    ensures { λ r. ⌜ tallied (now (mem .exit)) r ≡ drawn ink pattern c feed (byWord feed last word taken) (tallied (now (mem .entry)) n) ⌝ }
+{
+    let mut r = n;
+    let mut t = 0;
+    while t < 4 {
+        r = host_byte(mem, ink, pattern, c, feed, last, word, 4 * taken + t, r);
+        t += 1;
+    }
+    r
+}
+
+// Those that some words finish, the first of them number `taken`; `last` is the word before them. The tally of those written.
+pub fn host_words(
+    mem: &mut [u8],
+    ink: Ink,
+    pattern: [u8; 256],
+    c: Clip,
+    feed: Feed,
+    taken: u32,
+    last: u32,
+    words: &[u32],
+) -> Tally
+    requires { ⌜ WaitsFor ink c feed (length (now mem)) taken (length (now words)) ⌝ }
+    ensures { λ r. ⌜ tallied (now (mem .exit)) r ≡ drawn ink pattern c feed (byRun feed last (now (words .entry)) taken) (state (now (mem .entry)) 0 0) ⌝ }
 {
     let mut n = Tally {
         count: 0,
         changed: 0,
     };
-    let mut t = 0;
-    while t < 4 {
-        n = host_byte(mem, ink, pattern, c, feed, last, word, 4 * taken + t, n);
-        t += 1;
+    let mut before = last;
+    let mut i = 0;
+    while i < words.len() {
+        let word = words[i];
+        n = host_word(mem, ink, pattern, c, feed, taken + i as u32, before, word, n);
+        before = word;
+        i += 1;
     }
     n
 }

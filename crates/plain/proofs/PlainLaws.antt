@@ -20,7 +20,7 @@ use Rattle.host.specs.declared.Feed.{Feed}
 use Rattle.bits.specs.declared.Plain.{Plain}
 use Rattle.host.specs.Host.{Pixel, pixel}
 use Rattle.host.specs.Draw.{hostSource, hostTouches, drawn}
-use Rattle.host.specs.Asked.{Waits}
+use Rattle.host.specs.Asked.{Opened}
 use Rattle.plain.specs.Plain.{plainInk, Plainly}
 
 -- ---- the plain ink
@@ -64,31 +64,27 @@ module _ (ink : Ink) (p : Plain) (same : Plainly ink p) where
   unfolding plainInk
   target-same = sym (same .target)
 
-  pub plain-drawn : (pattern : List ℕ) (c : Clip) (feed : Feed) (ps : List Pixel) (st : State)
+  pub plainly-drawn : (pattern : List ℕ) (c : Clip) (feed : Feed) (ps : List Pixel) (st : State)
       → drawn (plainInk p) [] c feed ps st ≡ drawn ink pattern c feed ps st
   unfolding hostTouches paint
-  plain-drawn pattern c feed [] st = refl
-  plain-drawn pattern c feed (q ∷ ps) st =
+  plainly-drawn pattern c feed [] st = refl
+  plainly-drawn pattern c feed (q ∷ ps) st =
       again (plainInk p .target) (ink .target) (inClip c (feed .x + q .i) (feed .y + q .j)) (pixelAt (feed .x + q .i) (feed .y + q .j)) _ _
       (hostTouches (plainInk p) [] c feed ps) (hostTouches ink pattern c feed ps) target-same (λ m. gives-same feed (q .value) _ _ _ _)
-      (plain-drawn pattern c feed ps) st
+      (plainly-drawn pattern c feed ps) st
 
 -- a blit that was opened with it was opened with the plain one
-pub plain-waits : {ink : Ink} {p : Plain} {c : Clip} {feed : Feed} {len taken : ℕ} → Plainly ink p → Waits ink c feed len taken → Waits (plainInk p) c feed len taken
+pub plainly-opened : {ink : Ink} {p : Plain} {c : Clip} {feed : Feed} {len : ℕ} → Plainly ink p → Opened ink c feed len → Opened (plainInk p) c feed len
 unfolding plainInk
-plain-waits {ink} {p} {c} {feed} {len} same w = record {
-  opened = record {
-    colour = subst Colour (same .target) (w .opened .colour);
-    bits12 = w .opened .bits12;
-    rows = w .opened .rows;
-    x = w .opened .x;
-    y = w .opened .y;
-    covered = record {
-      on = λ i j a b e.
-          subst (λ (s : Surface). OnColour s len (feed .x + i - origin) (feed .y + j - origin)) (same .target) (w .opened .covered .on i j a b e);
-    };
+plainly-opened {ink} {p} {c} {feed} {len} same o = record {
+  colour = subst Colour (same .target) (o .colour);
+  bits12 = o .bits12;
+  rows = o .rows;
+  x = o .x;
+  y = o .y;
+  covered = record {
+    on = λ i j a b e. subst (λ (s : Surface). OnColour s len (feed .x + i - origin) (feed .y + j - origin)) (same .target) (o .covered .on i j a b e);
   };
-  few = w .few;
 }
 
 -- ---- one pixel

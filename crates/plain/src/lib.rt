@@ -12,9 +12,9 @@ ghost use lib.ListN.{length};
 ghost use Rattle.paint.specs.Paint.{state, tallied};
 ghost use Rattle.paint.specs.Mix.{source};
 ghost use Rattle.paint.specs.Asked.{Room};
-ghost use Rattle.host.specs.Host.{lastColumn, pixel, byBytes, byWord};
+ghost use Rattle.host.specs.Host.{lastColumn, pixel, byBytes, byWord, byRun};
 ghost use Rattle.host.specs.Draw.{hostSource, drawn};
-ghost use Rattle.host.specs.Asked.{Opened, Waits};
+ghost use Rattle.host.specs.Asked.{Opened, Waits, WaitsFor};
 ghost use Rattle.plain.specs.Plain.{plainInk, stretch};
 ghost use Rattle.plain.specs.Asked.{Part, Within};
 
@@ -234,27 +234,53 @@ pub fn plain_word(
     taken: u32,
     last: u32,
     word: u32,
+    n: Tally,
 ) -> Tally
-    requires { ⌜ Waits (plainInk p) c feed (length (now mem)) taken ⌝ }
-    ensures { λ r. ⌜ tallied (now (mem .exit)) r ≡ drawn (plainInk p) [] c feed (byWord feed last word taken) (state (now (mem .entry)) 0 0) ⌝ }
+    requires { ⌜ Waits (plainInk p) c feed (length (now mem)) taken × Room n (2 ^ 15) ⌝ }
+    ensures { λ r. ⌜ tallied (now (mem .exit)) r ≡ drawn (plainInk p) [] c feed (byWord feed last word taken) (tallied (now (mem .entry)) n) ⌝ }
 {
     let step = feed.step;
     let mut j = 4 * taken / step;
     let mut column = 4 * taken % step;
+    let mut r = n;
+    let mut t = 0;
+    while t < 4 {
+        if feed.height <= j {
+            return r;
+        }
+        let m = surface::least(step - column, 4 - t);
+        r = plain_row(mem, p, c, feed, last, word, t, j, column, m, r);
+        column = 0;
+        j += 1;
+        t += m;
+    }
+    r
+}
+
+// What host_words does.
+pub fn plain_words(
+    mem: &mut [u8],
+    p: Plain,
+    c: Clip,
+    feed: Feed,
+    taken: u32,
+    last: u32,
+    words: &[u32],
+) -> Tally
+    requires { ⌜ WaitsFor (plainInk p) c feed (length (now mem)) taken (length (now words)) ⌝ }
+    ensures { λ r. ⌜ tallied (now (mem .exit)) r ≡ drawn (plainInk p) [] c feed (byRun feed last (now (words .entry)) taken) (state (now (mem .entry)) 0 0) ⌝ }
+{
     let mut n = Tally {
         count: 0,
         changed: 0,
     };
-    let mut t = 0;
-    while t < 4 {
-        if feed.height <= j {
-            return n;
-        }
-        let m = surface::least(step - column, 4 - t);
-        n = plain_row(mem, p, c, feed, last, word, t, j, column, m, n);
-        column = 0;
-        j += 1;
-        t += m;
+    let mut before = last;
+    let mut i = 0;
+    while i < words.len() {
+        let word = words[i];
+        n = plain_word(mem, p, c, feed, taken + i as u32, before, word, n);
+        before = word;
+        i += 1;
     }
     n
 }

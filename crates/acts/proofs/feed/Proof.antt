@@ -50,6 +50,8 @@ paint-word-requires c κs =
     record {
       fine = sym (c .before .before .before .before .before .host-verdict .ensures) ∙ (c .before .before .before .before .if1 .left);
       more = omega (arith, (c .before .before .words-needed .ensures) ∙ ap wordsOf (c .before .before .before .decode-feed .ensures), (c .before .if2 .left));
+      all = omega (arith, (c .before .before .words-needed .ensures) ∙ ap wordsOf (c .before .before .before .decode-feed .ensures), (c .before .if2 .left));
+      short = omega arith;
     }
 
 add-if3 : tie.Need-add-if3

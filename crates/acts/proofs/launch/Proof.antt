@@ -2,8 +2,7 @@
 -- Assumes nothing.
 use borrow.Author.Needs.{needs}
 use mathlib.Core.Path.{ap, _∙_}
-use Rattle.bank.specs.declared.Bank.{Bank}
-use Rattle.acts.specs.Deed.{Deed, judged, carrying, aimed, starting}
+use Rattle.acts.specs.Deed.{Deed, judged, aimed, starting}
 use Rattle.acts.proofs.Numbers.{aimed-starts}
 use Rattle.acts.proofs.launch.Statement.{statement}
 use Rattle.acts.proofs.launch.Tie as tie
@@ -18,29 +17,17 @@ returns : tie.Need-returns
 unfolding starting aimed
 returns c = rw (c .before .before .before .before .if1 .taken) (c .before .before .feed .ensures)
 
-aim-requires : tie.Need-aim-requires
-aim-requires c κs = search needs
-
-carry-requires : tie.Need-carry-requires
-carry-requires c κs = search needs
+start-requires : tie.Need-start-requires
+start-requires c κs = search needs
 
 same-length-2 : tie.Need-same-length-2
 same-length-2 c = search needs
 
 returns-2 : tie.Need-returns-2
 returns-2 c =
-    let a = (c .before .before .before .before .before .before .before .before .args) in
-    (c .before .before .carry .ensures) ∙ ap (λ (b : Bank). judged (carrying b (a .blit) (a .mem .now)) b (a .blit) (a .mem .now)) (c .before .before .before .before .aim .ensures)
-    ∙ ap (λ (d : Deed). judged d (aimed (a .bank) (a .word)) (a .blit) (a .mem .now)) (aimed-starts (a .bank) (a .blit) (a .mem .now) (a .word) (c .before .before .before .before .before .if1 .left))
+    let a = c .before .before .before .before .before .before .before .args in
+    c .before .before .start .ensures
+    ∙ ap (λ (d : Deed). judged d (aimed (a .bank) (a .word)) (a .blit) (a .mem .now)) (aimed-starts (a .bank) (a .blit) (a .mem .now) (a .word) (c .before .before .before .before .if1 .left))
 
 pub launch-spec : {M : Type 1} → statement M
-launch-spec =
-    tie.close
-    (tie.spec
-    feed-requires
-    same-length
-    returns
-    aim-requires
-    carry-requires
-    same-length-2
-    returns-2)
+launch-spec = tie.close (tie.spec feed-requires same-length returns start-requires same-length-2 returns-2)

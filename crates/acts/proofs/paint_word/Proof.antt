@@ -2,7 +2,10 @@
 -- Assumes nothing.
 use borrow.Author.Needs.{needs}
 use lib.ListN.{length}
-use Rattle.acts.proofs.Laws.{word-ready, plain-ready, word-drawn, plain-word-drawn}
+use native.Mathlib.Omega.{arith}
+use Rattle.host.specs.Host.{byWord}
+use Rattle.table.proofs.Verdicts.{words-few}
+use Rattle.acts.proofs.Laws.{ink-opened, plain-opened, ink-drawn, plain-drawn}
 use Rattle.acts.proofs.paint_word.Statement.{statement}
 use Rattle.acts.proofs.paint_word.Tie as tie
 
@@ -22,8 +25,9 @@ plain-word-requires : tie.Need-plain-word-requires
 plain-word-requires c κs =
     let k = c .before .before .before .before in
     let b = k .before .before .before .before in
-    plain-ready (b .args .bank .regs) (length (b .args .mem .now)) (k .decode-clip .ensures) (k .before .decode-feed .ensures) (b .pre .fine) (b .pre .more)
-    (c .before .before .before .is-plain .ensures) (c .before .before .if1 .taken) (c .before .decode-plain .ensures)
+    let o = plain-opened (b .args .bank .regs) (length (b .args .mem .now)) (k .decode-clip .ensures) (k .before .decode-feed .ensures) (b .pre .fine) (omega (arith, b .pre .more))
+    (c .before .before .before .is-plain .ensures) (c .before .before .if1 .taken) (c .before .decode-plain .ensures) in
+    (record { opened = o; few = omega (arith, words-few (b .args .bank .regs), b .pre .more) }, omega arith)
 
 same-length : tie.Need-same-length
 same-length c = search needs
@@ -32,7 +36,7 @@ returns : tie.Need-returns
 returns c =
     let k = c .before .before .before .before .before .before .before in
     let a = k .before .before .before .before .args in
-    plain-word-drawn (a .bank .regs) (a .bank .pattern) (a .mem .now) (a .blit .last) (a .word) (a .blit .taken) _ (k .decode-clip .ensures) (k .before .decode-feed .ensures)
+    plain-drawn (a .bank .regs) (a .bank .pattern) (a .mem .now) (λ f. byWord f (a .blit .last) (a .word) (a .blit .taken)) _ (k .decode-clip .ensures) (k .before .decode-feed .ensures)
     (c .before .before .before .before .before .before .is-plain .ensures) (c .before .before .before .before .before .if1 .taken) (c .before .before .before .before .decode-plain .ensures)
     (c .before .before .plain-word .ensures)
 
@@ -43,8 +47,9 @@ host-word-requires : tie.Need-host-word-requires
 host-word-requires c κs =
     let k = c .before .before .before .before .before in
     let b = k .before .before .before .before in
-    word-ready (b .args .bank .regs) (length (b .args .mem .now)) (k .decode-clip .ensures) (k .before .decode-feed .ensures) (b .pre .fine) (b .pre .more)
-    (c .before .before .decode-ink .ensures)
+    let o = ink-opened (b .args .bank .regs) (length (b .args .mem .now)) (k .decode-clip .ensures) (k .before .decode-feed .ensures) (b .pre .fine) (omega (arith, b .pre .more))
+    (c .before .before .decode-ink .ensures) in
+    (record { opened = o; few = omega (arith, words-few (b .args .bank .regs), b .pre .more) }, omega arith)
 
 same-length-2 : tie.Need-same-length-2
 same-length-2 c = search needs
@@ -53,7 +58,7 @@ returns-2 : tie.Need-returns-2
 returns-2 c =
     let k = c .before .before .before .before .before .before .before .before in
     let a = k .before .before .before .before .args in
-    word-drawn (a .bank .regs) (a .bank .pattern) (a .mem .now) (a .blit .last) (a .word) (a .blit .taken) _ (k .decode-clip .ensures) (k .before .decode-feed .ensures)
+    ink-drawn (a .bank .regs) (a .bank .pattern) (a .mem .now) (λ f. byWord f (a .blit .last) (a .word) (a .blit .taken)) _ (k .decode-clip .ensures) (k .before .decode-feed .ensures)
     (c .before .before .before .before .before .decode-ink .ensures) (c .before .before .host-word .ensures)
 
 pub paint-word-spec : {M : Type 1} → statement M

@@ -14,28 +14,28 @@ use Rattle.plain.proofs.plain_word.Statement.{statement}
 use Rattle.plain.proofs.plain_word.Tie as tie
 
 abbrev Inv-loop : tie.InvT-loop
-Inv-loop mem₀ p c feed taken last word step j₀ column₀ n₀ t₀ mem j column n t =
-    WordLeft (plainInk p) [] c feed last word taken mem₀ t mem n × (t < 4 → (4 * taken + t ≡ j * feed .step + column) × (column < feed .step))
+Inv-loop mem₀ p c feed taken last word step j₀ column₀ r₀ t₀ mem j column r t =
+    WordLeft (plainInk p) [] c feed last word taken mem₀ r₀ t mem r × (t < 4 → (4 * taken + t ≡ j * feed .step + column) × (column < feed .step))
 
 abbrev μ-loop : tie.MeasureT-loop
-μ-loop mem₀ p c feed taken last word step j₀ column₀ n₀ t₀ mem j column n t = 4 - t
+μ-loop mem₀ p c feed taken last word step j₀ column₀ r₀ t₀ mem j column r t = 4 - t
 
 mul-j : tie.Need-mul-j Inv-loop μ-loop
-mul-j c = omega (arith, c .before .pre .few)
+mul-j c = omega (arith, c .before .pre .0 .few)
 
 div-j : tie.Need-div-j Inv-loop μ-loop
-div-j c = step-some (c .before .args .feed) (c .before .pre .opened .rows)
+div-j c = step-some (c .before .args .feed) (c .before .pre .0 .opened .rows)
 
 mul-column : tie.Need-mul-column Inv-loop μ-loop
-mul-column c = omega (arith, c .before .pre .few)
+mul-column c = omega (arith, c .before .pre .0 .few)
 
 rem-column : tie.Need-rem-column Inv-loop μ-loop
-rem-column c = step-some (c .before .args .feed) (c .before .pre .opened .rows)
+rem-column c = step-some (c .before .args .feed) (c .before .pre .0 .opened .rows)
 
 loop-holds : tie.Need-loop-holds Inv-loop μ-loop
 loop-holds c =
     let a = c .before .args in
-    (word-begins, λ l. (omega (arith, div-add-mod' (4 * a .taken) (a .feed .step)), mod-lt (4 * a .taken) (step-some (a .feed) (c .before .pre .opened .rows))))
+    (word-begins, λ l. (omega (arith, div-add-mod' (4 * a .taken) (a .feed .step)), mod-lt (4 * a .taken) (step-some (a .feed) (c .before .pre .0 .opened .rows))))
 
 same-length : tie.Need-same-length Inv-loop μ-loop
 same-length c = c .before .before .before .loop .inv .0 .left .long
@@ -47,7 +47,7 @@ returns c =
     let a = b .args in
     let at = k .inv .1 (c .before .before .loop-test .taken) in
     draw-ended (plainInk (a .p)) [] (a .c) (a .feed)
-    (past-none (a .feed) (a .last) (a .word) (step-some (a .feed) (b .pre .opened .rows)) _ _ (omega (arith, at .0, mul-le-mul-right (a .feed .step) (c .if1 .taken)))) (k .inv .0 .left)
+    (past-none (a .feed) (a .last) (a .word) (step-some (a .feed) (b .pre .0 .opened .rows)) _ _ (omega (arith, at .0, mul-le-mul-right (a .feed .step) (c .if1 .taken)))) (k .inv .0 .left)
 
 sub-least : tie.Need-sub-least Inv-loop μ-loop
 sub-least c = omega (arith, c .before .before .before .loop .inv .1 (c .before .before .loop-test .taken) .1)
@@ -66,7 +66,7 @@ plain-row-requires c κs =
     let at = k .inv .1 taken in
     let m = c .before .least .ensures in
     rw (k .inv .0 .left .long) (
-      b .pre .opened,
+      b .pre .0 .opened,
       (
         record {
           place = omega (arith, at .0, taken);
@@ -74,12 +74,12 @@ plain-row-requires c κs =
           held = omega (arith, m, at .1);
           row = c .before .before .if1 .left;
         },
-        word-room (k .inv .0) (b .pre .opened .rows .sizes) taken,
+        word-room (k .inv .0) (b .pre .0 .opened .rows .sizes) (b .pre .1) taken,
       ),
     )
 
 add-j : tie.Need-add-j Inv-loop μ-loop
-add-j c = omega (arith, c .before .before .before .before .before .if1 .left, c .before .before .before .before .before .before .before .before .before .before .pre .opened .rows .sizes .height)
+add-j c = omega (arith, c .before .before .before .before .before .if1 .left, c .before .before .before .before .before .before .before .before .before .before .pre .0 .opened .rows .sizes .height)
 
 add-t : tie.Need-add-t Inv-loop μ-loop
 add-t c = omega (arith, c .before .before .before .before .least .ensures)
@@ -99,8 +99,8 @@ loop-again c =
     let taken = l .loop-test .taken in
     let at = k .inv .1 taken in
     let m = c .before .before .before .before .least in (
-      word-takes (k .inv .0) (b .pre .opened .rows .sizes) (m .result) (omega (arith, m .ensures, taken)) (rw (at .0) (c .before .before .plain-row .ensures)),
-      λ more. (omega (arith, m .ensures, taken, at .0, at .1, add-mul (k .j) 1 (a .feed .step)), step-some (a .feed) (b .pre .opened .rows)),
+      word-takes (k .inv .0) (b .pre .0 .opened .rows .sizes) (m .result) (omega (arith, m .ensures, taken)) (rw (at .0) (c .before .before .plain-row .ensures)),
+      λ more. (omega (arith, m .ensures, taken, at .0, at .1, add-mul (k .j) 1 (a .feed .step)), step-some (a .feed) (b .pre .0 .opened .rows)),
     )
 
 same-length-2 : tie.Need-same-length-2 Inv-loop μ-loop
