@@ -37,7 +37,7 @@ in-front true t ts us vs e = ap (λ (l : List Touch). t ∷ l) e
 in-front false t ts us vs e = e
 
 module _ (ink : Ink) (pattern : List ℕ) (c : Clip) (feed : Feed) where
-  touches-append : (ps qs : List Pixel)
+  pub touches-append : (ps qs : List Pixel)
       → hostTouches ink pattern c feed (ps ++ qs) ≡ hostTouches ink pattern c feed ps ++ hostTouches ink pattern c feed qs
   unfolding hostTouches
   touches-append [] qs = refl

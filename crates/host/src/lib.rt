@@ -215,7 +215,17 @@ pub fn host_words(
     let mut i = 0;
     while i < words.len() {
         let word = words[i];
-        n = host_word(mem, ink, pattern, c, feed, taken + i as u32, before, word, n);
+        n = host_word(
+            mem,
+            ink,
+            pattern,
+            c,
+            feed,
+            taken + i as u32,
+            before,
+            word,
+            n,
+        );
         before = word;
         i += 1;
     }

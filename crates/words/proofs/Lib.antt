@@ -1,0 +1,3 @@
+pub mod Laws
+pub mod Feeds
+pub mod Promises

@@ -1,0 +1,3 @@
+pub mod Words
+pub mod Asked
+pub mod Promises
