@@ -70,10 +70,10 @@ slot-other e o d a n = rw (get-other o (kept o d) a (e .bank .regs) n)
 
 -- ---- the ways an engine changes
 
-like-same : {os : List ℕ} (e : Engine) → Like os e e
+pub like-same : {os : List ℕ} (e : Engine) → Like os e e
 like-same e = record { pattern = refl; slots = λ o f. refl }
 
-like-then : {os : List ℕ} {a b c : Engine} → Like os a b → Like os b c → Like os a c
+pub like-then : {os : List ℕ} {a b c : Engine} → Like os a b → Like os b c → Like os a c
 like-then h k = record { pattern = h .pattern ∙ k .pattern; slots = λ o f. h .slots o f ∙ k .slots o f }
 
 pub like-stored : (os : List ℕ) (e : Engine) (o d : ℕ) → oneOf o os ≡ true → Like os e (storedIn e o d)

@@ -4,3 +4,4 @@ pub mod Writes
 pub mod ReadOpen
 pub mod Views
 pub mod One
+pub mod Runs

@@ -2,8 +2,8 @@
 -- Assumes nothing.
 use Rattle.engine.proofs.One.{settled}
 use Rattle.state.specs.Layout.{stateSize}
-use Rattle.capi.specs.Calls.{writtenTo, openedTo, readOf, partOf}
-use Rattle.capi.specs.Promises.{OneSize, OneOpening, OneCall, OneReading, OnePart}
+use Rattle.capi.specs.Calls.{writtenTo, ranTo, openedTo, readOf, partOf}
+use Rattle.capi.specs.Promises.{OneSize, OneOpening, OneCall, OneRunCall, OneReading, OnePart}
 
 pub one-size : OneSize
 one-size x y = settled stateSize x y
@@ -13,6 +13,9 @@ one-opening s len x y = settled (openedTo s len) x y
 
 pub one-call : OneCall
 one-call s m o d x y = settled (writtenTo s m o d) x y
+
+pub one-run-call : OneRunCall
+one-run-call s m ws x y = settled (ranTo s m ws) x y
 
 pub one-reading : OneReading
 one-reading s o x y = settled (readOf s o) x y

@@ -39,7 +39,7 @@ not-written s m o d t = rw t
 
 -- ---- a write to command, a launch write, or one to no register
 
-command-words : Each Word commandSlots
+pub command-words : Each Word commandSlots
 command-words = ((refl, omega arith), ((refl, omega arith), ((refl, omega arith), ((refl, omega arith), ((refl, omega arith), ((refl, omega arith), ((refl, omega arith), tt)))))))
 
 saved : (s m : List ℕ) (o d : ℕ) → Opened s → Draws o → withSlots s (written (decoded s) m o d .engine) commandSlots ≡ encoded (written (decoded s) m o d .engine)

@@ -10,6 +10,7 @@ use Rattle.bank.specs.declared.Reading.{Reading}
 use Rattle.bank.specs.Bank.{readNumber, readValue}
 use Rattle.engine.specs.declared.Answer.{Answer}
 use Rattle.engine.specs.Step.{Step, numberOf, countOf, changedOf, freshEngine, written, readFrom}
+use Rattle.words.specs.Words.{Ran, ran}
 use Rattle.state.specs.Layout.{stateSize, wordAt, withWord, encoded, decoded, openedIn, isState}
 
 -- the number of a state that open did not make
@@ -38,6 +39,24 @@ called t = call (encoded (t .engine)) (t .memory) (packedAnswer (t .answer)) (ch
 
 unfoldable pub writtenTo : List ℕ → List ℕ → ℕ → ℕ → Call
 writtenTo s m o d = cond (isState s) (called (written (decoded s) m o d)) (call s m (packed notState 0) 0)
+
+-- ---- run: the state, the memory, the answer, how many words were taken, and the sums of their counts and of what changed, after a call
+pub record RunCall : Type 0 where
+  pub state : List ℕ
+  pub memory : List ℕ
+  pub answer : ℕ
+  pub taken : ℕ
+  pub count : ℕ
+  pub changed : ℕ
+
+abbrev pub runCall : List ℕ → List ℕ → ℕ → ℕ → ℕ → ℕ → RunCall
+runCall s m a n c d = record { state = s; memory = m; answer = a; taken = n; count = c; changed = d }
+
+abbrev pub runCalled : Ran → RunCall
+runCalled r = runCall (encoded (r .engine)) (r .memory) (r .number) (r .taken) (r .count) (r .changed)
+
+unfoldable pub ranTo : List ℕ → List ℕ → List ℕ → RunCall
+ranTo s m ws = cond (isState s) (runCalled (ran (decoded s) m ws)) (runCall s m notState 0 0 0)
 
 -- ---- open: the state and the answer
 pub record Opening : Type 0 where

@@ -10,7 +10,7 @@ use Rattle.registers.specs.Regs.{getReg}
 use Rattle.views.specs.View.{viewAnswer, viewStart, viewed}
 use Rattle.engine.specs.declared.Engine.{Engine}
 use Rattle.state.specs.Layout.{stateSize, encoded, decoded, isState, Bytes}
-use Rattle.capi.specs.Calls.{Call, writtenTo, Opening, openedTo, readOf, Part, partOf}
+use Rattle.capi.specs.Calls.{Call, writtenTo, RunCall, ranTo, Opening, openedTo, readOf, Part, partOf}
 
 -- ---- Back. What was decoded is encoded as it was, and what was encoded is decoded as it was
 
@@ -49,6 +49,9 @@ OneOpening = (s : List ℕ) (len : ℕ) (x y : Opening) → x ≡ openedTo s len
 
 abbrev pub OneCall : Type 0
 OneCall = (s m : List ℕ) (o d : ℕ) (x y : Call) → x ≡ writtenTo s m o d → y ≡ writtenTo s m o d → x ≡ y
+
+abbrev pub OneRunCall : Type 0
+OneRunCall = (s m ws : List ℕ) (x y : RunCall) → x ≡ ranTo s m ws → y ≡ ranTo s m ws → x ≡ y
 
 abbrev pub OneReading : Type 0
 OneReading = (s : List ℕ) (o x y : ℕ) → x ≡ readOf s o → y ≡ readOf s o → x ≡ y

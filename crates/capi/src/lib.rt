@@ -6,7 +6,7 @@ ghost use mathlib.Core.Bool.{true};
 ghost use Prim.Native.Nat.{_+_, _<_, _≤_};
 ghost use lib.ListN.{length};
 ghost use Rattle.state.specs.Layout.{stateSize, isState, Bytes};
-ghost use Rattle.capi.specs.Calls.{packedAnswer, call, opening, writtenTo, openedTo, readOf, part, partOf, plainly};
+ghost use Rattle.capi.specs.Calls.{packedAnswer, call, opening, writtenTo, runCall, ranTo, openedTo, readOf, part, partOf, plainly};
 ghost use Rattle.capi.specs.Asked.{Draws};
 
 // An answer's number in the high 32 bits, its count in the low 32.
@@ -104,6 +104,35 @@ pub extern "C" fn rimebarrow_write(
         Place::Launch => run(state, memory, offset, word, changed),
         Place::Nowhere => run(state, memory, offset, word, changed),
     }
+}
+
+// A run of words for the launch area, each a launch write: the number of the answer that stopped it, or 0. The other numbers get how many words were taken, and
+// the sums of their counts and of what changed.
+#[no_mangle]
+pub extern "C" fn rimebarrow_run(
+    state: &mut [u8],
+    memory: &mut [u8],
+    run: &[u32],
+    taken: &mut usize,
+    count: &mut u64,
+    changed: &mut u64,
+) -> u32
+    ensures { λ r. ⌜ runCall (now (state .exit)) (now (memory .exit)) r (now (taken .exit)) (now (count .exit)) (now (changed .exit)) ≡ ranTo (now (state .entry)) (now (memory .entry)) (now (run .entry)) ⌝ }
+{
+    *taken = 0;
+    *count = 0;
+    *changed = 0;
+    if !state::is_state(state) {
+        return 255;
+    }
+    let e = state::decode(state);
+    let out = words::take_run(e, memory, run);
+    let next = out.engine;
+    state::save(state, next);
+    *taken = out.taken;
+    *count = out.count;
+    *changed = out.changed;
+    out.number
 }
 
 // What a register holds: the number in the high 32 bits, and the word in the low ones.

@@ -14,6 +14,7 @@ use Rattle.engine.specs.declared.Engine.{Engine}
 use Rattle.engine.specs.Step.{numberOf, regs, written}
 use Rattle.engine.specs.Writes.{Run, played, counted, changes}
 use Rattle.engine.proofs.Count.{no-more-changed}
+use Rattle.engine.proofs.One.{settled}
 use Rattle.engine.proofs.Most.{count-fits}
 use Rattle.words.specs.Words.{Ran, started, launching, isTaken, further, stopped, ranFrom, ran}
 use Rattle.words.specs.Promises.{OneRun, EmptyRun, AnyLaunch, RunPlayed, SumsWhole, RunStops, joined, RunSplit, RestOfBlit}
@@ -21,7 +22,7 @@ use Rattle.words.proofs.Laws.{launch-80, sum-joins}
 use Rattle.words.proofs.Feeds.{Ready, all-feed}
 
 pub one-run : OneRun
-one-run e m ws x y p q = p ∙ sym q
+one-run e m ws x y = settled (ran e m ws) x y
 
 pub empty-run : EmptyRun
 unfolding ranFrom
