@@ -1,10 +1,11 @@
 """A plain model of the 2D engine, written from the scope paper and change requests One, Two,
-Three and Six, with the readings of docs/DECISIONS.md where these leave a choice; to be read
+Three, Four and Six, with the readings of docs/DECISIONS.md where these leave a choice; to be read
 beside them and compared with other programs. It is not meant to be fast.
 
 Names in quotes in the comments are sections of the paper; "Thumbnails" is request One, "What
-really changed" request Two, "The smear" request Three and "Tiles" request Six. A name after the
-word DECISIONS is an entry there. Run as a program it plays a stream from its input.
+really changed" request Two, "The smear" request Three, "Whole glyph rows" request Four and
+"Tiles" request Six. A name after the word DECISIONS is an entry there. Run as a program it plays
+a stream from its input.
 """
 
 import copy
@@ -15,6 +16,7 @@ from typing import Iterable, Iterator
 Pixel = tuple[int, int]  # (x, y), signed integers (DECISIONS, "Positions do not wrap within a command")
 Drawn = tuple[int, int]  # pixels written, and those of them that changed ("What really changed")
 Answer = tuple[int, int, int]  # the number, and what was drawn; a refusal has 0 and 0
+Ran = tuple[int, int, int, int]  # of a run of words: the number, how many were taken, and what those drew
 
 LIMIT = 16_777_216  # "What a write answers", row 1
 PROGRAM_MEMORY = 65_536  # "The program"
@@ -221,6 +223,16 @@ class Engine:
         if answer[0] != 0:  # the very register write is undone too
             self.registers, self.pattern, self.waiting = before
         return answer
+
+    def write_run(self, mem: bytearray, words: Iterable[int]) -> Ran:
+        """By "Whole glyph rows": launch writes of these words in order, up to the first refused one."""
+        parts: list[Drawn] = []
+        for word in words:
+            number, count, changed = self.write(mem, 0x80, word)
+            if number != 0:
+                return number, len(parts), *sum_of(parts)
+            parts.append((count, changed))
+        return 0, len(parts), *sum_of(parts)
 
     def read(self, offset: int) -> tuple[int, int]:
         """A register read back; row 2 also for the launch area; a refused read gives 0."""

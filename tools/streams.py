@@ -4,14 +4,19 @@
   python3 streams.py compare FILE DIR   names the first difference from DIR/expected.txt
 
 streams.bin, little-endian words: for each stream the length M that the engine is opened for, the
-number of writes N and a seed byte, then N times offset, word and kind. The memory has M bytes, or
-65,536 where M is more, so that row 1 answers every write of such a stream (test_model.py has the
-real limit); byte i is (7 i i + 13 i + seed byte) mod 256 at the start. Kind 1: the memory is passed
-without its last byte, if it has one.
-expected.txt: for each stream its head, a line `number count changed` for each write, and checksums
-(FNV-1a) of registers 08 to 70, pattern and one byte for a waiting host blit, and of memory.
+number N of writes and runs together and a seed byte, then N records of three words. The memory has
+M bytes, or 65,536 where M is more, so that row 1 answers every write of such a stream
+(test_model.py has the real limit); byte i is (7 i i + 13 i + seed byte) mod 256 at the start. The
+third word of a record is its kind. Kinds 0 and 1, a write: offset and word; with kind 1 the memory
+is passed without its last byte, if it has one. Kind 2, a run of words for the launch area: how many
+they are, at most 1,023, and 1 where the memory is passed as with kind 1, else 0; the words follow,
+filled up with 0 to a multiple of three, and N does not count them.
+expected.txt: for each stream its head, a line `number count changed` for each write and a line
+`run number taken count changed` for each run, and checksums (FNV-1a) of registers 08 to 70, pattern
+and one byte for a waiting host blit, and of memory.
 """
 
+import copy
 import itertools
 import random
 import struct
@@ -21,19 +26,23 @@ from collections import Counter
 from pathlib import Path
 
 from model import (BUILT, COMMAND, COPY, FILL, FROM_MEMORY, HOST, KEPT, LIMIT, LINE, NOP, OFFSETS, POLYLINE, SOURCE_BITS,
-                   STRETCH, Answer, Engine, Pixel, Surface, allowed, bits, halves, is_launch, row_bytes)
+                   STRETCH, Answer, Engine, Pixel, Ran, Surface, allowed, bits, halves, is_launch, row_bytes)
 
 MIXED, STRETCHED, SMEARED, TILED = 336, 64, 96, 96  # streams of all commands, then of stretched copies, of smears, of tiles
 SMEARS = MIXED + STRETCHED  # the first of smears
 TILES = SMEARS + SMEARED  # and of tiles
 EQUALS, EQUALLED = TILES + TILED, 84  # and of pixels that get what they have, with their number
-STREAMS, LENGTH = EQUALS + EQUALLED, 72  # streams, and the least number of writes of an ordinary one
+RUNS, RAN = EQUALS + EQUALLED, 56  # and of runs of words, with their number
+STREAMS, LENGTH = RUNS + RAN, 72  # streams, and the least number of records of an ordinary one
 SWEEPS = 4  # so many streams of each of the first two begin with one
 BY_DISTANCE = 64  # so many of smears are one: a format, a corner and a kind of copy at every distance
 PLANS = {"each": 4, "whole": 8, "corners": 16, "ends": 4, "beyond": 4, "one_place": 4, "refused": 2, "pairs": 2}
 PLANNED = [(name, which) for name, count in PLANS.items() for which in range(count)]  # the first of tiles, each by a plan
 EQUAL_PLANS = {"twice": 16, "overlaps": 16, "equal": 8, "one_byte": 8, "keyed": 8, "wide": 4}
 EQUAL_PLANNED = [(name, which) for name, count in EQUAL_PLANS.items() for which in range(count)]  # the first of equal pixels
+RUN_PLANS = {"cuts": 8, "whole_rows": 8, "glyphs": 8, "positions": 8, "mixed": 8, "no_words": 4, "lengths": 4}
+RUN_PLANNED = [(name, which) for name, count in RUN_PLANS.items() for which in range(count)]  # the first of runs
+LONGEST = 1023  # words of a run
 TINY = (0, 1, 3, 64)  # lengths of memory
 ROOM = 65_536  # the longest memory there is
 BIG = {MIXED - 5: ROOM, MIXED - 3: LIMIT, MIXED - 2: LIMIT + 1, MIXED - 1: ROOM, SMEARS - 2: ROOM, SMEARS - 1: ROOM}
@@ -54,6 +63,15 @@ STROKES = (  # command, raster operation, other bits, keys and source; to do one
     (COPY, 0xCC, 0, 3, OTHER), (STRETCH, 0xCC, 0, 0, OWN), (STRETCH, 0x33, 0, 1, OTHER), (STRETCH, 0xCC, 0, 2, MONO),
     (HOST, 0xCC, 0, 0, MONO), (HOST, 0xCC, 0, 1, OWN), (LINE, 0xCC, 0, 0, OWN), (LINE, 0xF0, STIPPLED, 2, OWN),
     (POLYLINE, 0xCC, STIPPLED | TRANSPARENT, 0, OWN))
+OTHER_CLIP = 1 << 23  # of a command
+HOST_STYLES = ((0xCC, 0, 0), (0x66, 0, 0), (0xCC, TRANSPARENT, 0), (0xCC, 0, 1), (0xCC, 0, 2), (0xE2, MONO_PATTERN, 0),
+               (0xCC, 0, 3), (0xB8, 5 << 17, 0), (0xCC, OTHER_CLIP, 0))  # raster operation, other bits and keys of host blits
+PLAIN, XOR, GLASS, KEYED = HOST_STYLES[:4]
+LEFT, RIGHT, TOP, BOTTOM = 1, 2, 4, 8  # sides that a clip takes something off
+WIDE_ROWS = (  # source, packing, clipped sides and style of wide host blits
+    (OWN, 0, 0, PLAIN), (OWN, 1, LEFT, PLAIN), (OWN, 2, RIGHT, PLAIN), (OWN, 3, LEFT | RIGHT, PLAIN), (OWN, 1, TOP, XOR),
+    (OWN, 3, LEFT | BOTTOM, KEYED), (MONO, 0, LEFT | RIGHT, PLAIN), (MONO, 1, LEFT, PLAIN), (MONO, 2, RIGHT, GLASS),
+    (MONO, 3, 0, PLAIN), (MONO, 1, TOP, XOR), (MONO, 3, LEFT | RIGHT, GLASS), (OTHER, 0, LEFT | RIGHT, PLAIN), (OTHER, 3, 0, PLAIN))
 OPERATIONS = (0xCC, 0xF0, 0x00, 0xFF, 0x55, 0xAA, 0x66, 0x5A, 0x88, 0xEE, 0xA0, 0xFA, 0x33, 0x0F, 0x3C, 0xE2)
 NAMES = {NOP: "nop", COPY: "copy", STRETCH: "stretch", HOST: "host", FILL: "fill", LINE: "line", POLYLINE: "polyline"}
 NOT_BUILT = [number for number in range(16) if number not in BUILT]
@@ -99,8 +117,9 @@ class Maker:
         self.seed_byte = self.rng.randrange(256)
         self.mem, self.engine = filled(min(size, ROOM), self.seed_byte), Engine(size)
         self.slips = self.pick((0.003, 0.003, 0.01, 0.05))  # how often a faulty write comes between
-        self.records: list[tuple[int, int, int]] = []
-        self.answers: list[Answer] = []
+        self.records: list[tuple[int, int, int]] = []  # with the words of runs, three by three
+        self.answers: list[Answer | Ran] = []
+        self.by_run = False  # what came last to the launch area was a run
 
     def chance(self, share: float) -> bool:
         return self.rng.random() < share
@@ -116,6 +135,25 @@ class Maker:
         self.records.append((offset, word, kind))
         self.answers.append(answer)
         note(self.tally, before, waited, offset, word, answer, self.engine)
+        if is_launch(offset) and number == 0:
+            self.tally["runs of data", "then a single write"] += waited and self.by_run
+            self.by_run = False
+
+    def send_run(self, words: list[int], short: int = 0) -> int:
+        """A run; gives how many words were taken."""
+        assert len(words) <= LONGEST
+        before, mem = copy.deepcopy(self.engine), self.mem[:]
+        lent = self.mem[:-1] if short else self.mem
+        ran = self.engine.write_run(lent, words)
+        number, taken, count, changed = ran
+        assert changed <= count and (changed > 0 or self.mem == mem), "with none changed the memory is what it was"
+        filled_up = [*words, *[0] * (-len(words) % 3)]
+        self.records += [(len(words), short, 2), *zip(*[iter(filled_up)] * 3)]
+        self.answers.append(ran)
+        self.tally["runs of data", "after a single write"] += taken > 0 and before.waiting is not None and not self.by_run
+        note_run(self.tally, before, mem, words, ran, len(lent))
+        self.by_run = self.by_run or taken > 0
+        return taken
 
     def put(self, offset: int, word: int) -> None:
         if self.chance(self.slips):
@@ -195,8 +233,11 @@ class Maker:
             self.set(**{register: places.pop(0)})
             word |= 0x100
         self.put(COMMAND, word)
-        for place in places:
-            self.launch(place)
+        self.launches(places)
+
+    def launches(self, words: list[int]) -> None:
+        for word in words:
+            self.launch(word)
 
     def sides(self, most: int = 20) -> tuple[int, int]:
         if self.chance(0.06):
@@ -1098,6 +1139,239 @@ class EqualMaker(TileMaker):
                     self.send(0x80, xy(self.near(0, width - 1), self.near(0, 2)))
 
 
+class RunMaker(EqualMaker):
+    """A stream with runs of words for the launch area."""
+
+    def launch(self, word: int) -> None:
+        if self.chance(0.5):
+            return super().launch(word)
+        self.launches([word])
+
+    def launches(self, words: list[int]) -> None:
+        """In one run or in several, now and then first on a memory of another length."""
+        for part in self.parted(words, self.pick((1, 1, 2, 3))):
+            if self.chance(self.slips):
+                self.send_run(part, 1)
+            self.send_run(part)
+
+    def settle(self) -> None:
+        """Feeds a waiting blit by runs, at times not to its end or past it."""
+        if self.engine.waiting is not None:
+            needed = -(-(self.engine.host_bytes() - len(self.engine.waiting)) // 4)
+            self.launches(self.data(min(60, self.pick((needed, needed + 2, self.near(0, needed))))))
+        if self.chance(0.5):
+            super().settle()
+
+    def parted(self, words: list[int], count: int) -> list[list[int]]:
+        """The words in so many parts, cut anywhere; some may be empty."""
+        ends = sorted(self.near(0, len(words)) for _ in range(count - 1))
+        return [words[low:past] for low, past in zip([0, *ends], [*ends, len(words)])]
+
+    def data(self, count: int) -> list[int]:
+        """So many words, mostly a few or any."""
+        draw = self.pick((self.draw, self.rng.getrandbits))
+        return [draw(32) for _ in range(count)]
+
+    def sources(self) -> list[int]:
+        """The formats that go to the target."""
+        return [depth for depth in FORMAT if allowed(depth, self.depth)]
+
+    def stage(self, which: int) -> None:
+        """A target of one format in rows, or with 4 added on tiles, and its colours."""
+        self.lay(which, which // 4 == 1)
+        self.set(colorFore=self.rng.getrandbits(32), colorBack=self.rng.getrandbits(32), clip1Min=xy(3, 2),
+                 clip1Max=xy(self.columns * 2 // 3, self.rows // 2))
+        for offset in range(0x100, 0x100 + 8 * self.depth, 16):
+            self.send(offset, self.rng.getrandbits(32))
+
+    def somewhere(self, width: int, height: int) -> Pixel:
+        """A place on the target for a rectangle, on tiles where they meet."""
+        if self.base & TILE_BIT:
+            return self.across_edge(width, height)
+        return self.near(0, self.columns - width), self.near(0, self.rows - height)
+
+    def framed(self, width: int, height: int, sides: int) -> Pixel:
+        """A place for a rectangle, and a clip that takes something off these sides of it; at times the target ends there."""
+        x, y = self.somewhere(width, height)
+        left, right = (self.near(1, width // 3 + 1) for _ in range(2))
+        top, bottom = (self.near(1, height // 3) for _ in range(2))
+        if self.chance(0.5):
+            x = -left if sides & LEFT else self.columns - width + right if sides & RIGHT else x
+            y = -top if sides & TOP else self.rows - height + bottom if sides & BOTTOM else y
+        self.hold(clip0Min=xy(x + left if sides & LEFT else 0, y + top if sides & TOP else 0),
+                  clip0Max=xy(x + width - right if sides & RIGHT else self.columns,
+                              y + height - bottom if sides & BOTTOM else self.rows))
+        return x, y
+
+    def form(self, depth: int, width: int, packing: int) -> int:
+        """srcFormat of host data. Packed, its stride is of no effect; else a row may have some bytes more than it needs."""
+        stride = self.rng.getrandbits(14) if packing else row_bytes(width, depth) + self.near(0, 5)
+        return packing << 22 | FORMAT[depth] << 16 | stride
+
+    def blit(self, place: Pixel, size: Pixel, form: int, style: tuple[int, int, int], steps: int = 0) -> int:
+        """The registers and the command of a host blit; gives the number of words that it needs."""
+        operation, more, extra = style
+        self.keys_by(extra, operation)
+        self.hold(srcFormat=form, srcXY=0, srcBaseAddr=0, dstSize=xy(*size), dstXY=xy(*place))
+        self.send(COMMAND, operation << 24 | more | steps << 10 | HOST)
+        return -(-self.engine.host_bytes() // 4)
+
+    def cuts(self, which: int) -> None:
+        """Host blits from each format and packing, in every style, at times clipped: cut before each word in turn and after
+        the last, and once more anywhere past that."""
+        self.stage(which)
+        for number, (depth, packing) in enumerate(itertools.product(self.sources(), range(4))):
+            width, height = self.near(*{1: (9, 20), 8: (6, 12)}.get(depth, (3, 5))), self.near(2, 3)
+            form, style = self.form(depth, width, packing), HOST_STYLES[(2 * number + number // 4 + which) % len(HOST_STYLES)]
+            place = self.framed(width, height, self.pick((0, 0, LEFT, RIGHT, LEFT | RIGHT, self.near(0, 15))))
+            cut = needed = 0
+            while cut <= needed:
+                needed = self.blit(place, (width, height), form, style)
+                words = self.data(needed)
+                for part in (words[:cut], *self.parted(words[cut:], 2)):
+                    self.send_run(part)
+                cut += 1
+
+    def whole_rows(self, which: int) -> None:
+        """Wide host blits, packed and not, clipped at either end of their rows and not: in one run, or in a few."""
+        self.stage(which)
+        others = {8: (8, 8), 16: (24, 32), 24: (32, 16), 32: (16, 24)}[self.depth]
+        for number, (of, packing, sides, style) in enumerate(WIDE_ROWS):
+            depth = {OWN: self.depth, MONO: 1, OTHER: others[(number + which // 4) % 2]}[of]
+            width, height = self.near(36, min(110, self.columns) if of == MONO else 44), self.near(5, 12)
+            place = self.framed(width, height, sides)
+            words = self.data(self.blit(place, (width, height), self.form(depth, width, packing), style))
+            for part in self.parted(words, 1 if number % 3 else 3):
+                self.send_run(part)
+
+    def glyphs(self, which: int) -> None:
+        """Five glyphs to the right, downwards, both or in one place, by one run and by several. Then a run whose blit of one
+        number, or its first, is off the surface: it stops there, and the words from that on are a run in another place."""
+        self.stage(which)
+        for number, (depth, steps) in enumerate(itertools.product(self.sources(), range(4))):
+            width, height = (self.pick((5, 8, 11)), self.near(3, 7)) if depth == 1 else (self.near(2, 4), self.near(1, 3))
+            form = self.form(depth, width, (number + number // 4) % 4)
+            style, x, y = HOST_STYLES[(number + which) % len(HOST_STYLES)], self.near(0, 3), self.near(0, 9)
+            self.hold(clip0Max=0x0FFF0FFF)
+            for count in (1, 4):
+                words = self.data(5 * self.blit((x, y), (width, height), form, style, steps))
+                for part in self.parted(words, count):
+                    self.send_run(part)
+            fit = number % 3 if steps else 0  # so many are on the surface
+            if steps & 1:
+                x = self.columns - fit * width - self.near(0, width - 1)
+            else:
+                on = self.engine.target()
+                below = next(y for y in itertools.count() if not on.has(x + width - 1, y, self.size))
+                y = below - fit * height - self.near(0, height - 1)
+            words = self.data(4 * self.blit((x, y), (width, height), form, style, steps))
+            if fit and number % 2:
+                self.send(0x80, words.pop(0))
+            words = words[self.send_run(words):]
+            self.hold(dstXY=xy(3, 3))
+            self.send_run(words)
+        self.framed(1, 1, 0)
+        self.send_run(self.data(5 * self.blit((4095 - 2 * width, -1 - height), (width, height), form, PLAIN, 3)))  # it wraps
+        if which in (0, 7):  # the longest run
+            self.blit((0, 0), (12, 6), 1 << 22, PLAIN, 1)
+            self.send_run(self.data(LONGEST))
+
+    def positions(self, which: int) -> None:
+        """Runs of positions for each command that takes them: all of them do, or one is off the surface or meets the target;
+        past that one they go on. Then runs that are refused at their first word, and on nop."""
+        self.stage(which)
+        self.hold(clip0Max=0x0FFF0FFF, lineStipple=self.rng.getrandbits(32), lineStyle=11 << 8 | 1)
+        form, width, height = FORMAT[self.depth] << 16 | self.stride, 4, 3
+        for number, more, extra in ((FILL, 0xCC << 24, 0), (FILL, 0x5A << 24 | 1 << 10, 2), (COPY, 0xCC << 24 | 1 << 10, 0),
+                                    (COPY, 0x66 << 24 | 1 << 11, 1), (STRETCH, 0xCC << 24 | 1 << 10, 0),
+                                    (STRETCH, 0x66 << 24, 1), (LINE, 0xCC << 24, 0),
+                                    (LINE, 0xCC << 24 | STIPPLED, 0), (POLYLINE, 0x66 << 24, 2),
+                                    (POLYLINE, 0xCC << 24 | STIPPLED | TRANSPARENT, 0)):
+            self.keys_by(extra)
+            for bad, meets in ((None, False), (0, False), (2, False), (5, False), (0, True), (3, True)):
+                self.hold(srcBaseAddr=self.base, srcFormat=form, srcXY=xy(1, 1), srcSize=xy(5, 2), dstSize=xy(width, height),
+                          dstXY=xy(2, 3))
+                self.send(COMMAND, more | number)
+                off = self.pick((xy(-1, 40), xy(self.columns - 1, 40), xy(3, -1)))
+                if number in (LINE, POLYLINE):
+                    off = self.pick((xy(-2, 40), xy(self.columns + 1, 40), xy(3, -2)))
+                if meets and number in FROM_MEMORY:  # onto bytes that are another surface's, or a stretched copy's own
+                    self.hold(srcBaseAddr=self.base + (number == COPY))
+                    off = xy(3, 3)
+                places = [xy(self.near(0, self.columns - 6), self.near(36, 60)) for _ in range(6)]
+                if bad is not None:
+                    places[bad] = off
+                taken = self.send_run(places)
+                self.send_run(places[taken + 1:])
+        self.keys_by(0)
+        self.send(COMMAND, 0xCC000000 | NOP)
+        self.send_run(self.data(9))
+        for number in NOT_BUILT:
+            self.send(COMMAND, 0xCC000000 | number)
+            self.send_run(self.data(3))
+        usual = dict(dstFormat=form, dstXY=xy(2, 3), srcXY=0, srcBaseAddr=0, srcFormat=1 << 22 | form, srcSize=xy(5, 2))
+        for number, fault in ((FILL, dict(dstFormat=2 << 16)), (COPY, dict(srcFormat=2 << 16)), (STRETCH, dict(srcFormat=2 << 16)),
+                              (LINE, dict(dstFormat=0)), (POLYLINE, dict(dstFormat=0)), (HOST, dict(srcBaseAddr=TILE_BIT)),
+                              (STRETCH, dict(srcSize=0)), (HOST, dict(srcXY=1)), (HOST, dict(srcFormat=form & ~0x3FFF)),
+                              (HOST | 1 << 14, dict(srcXY=0)), (HOST, dict(dstXY=xy(self.columns - 1, 3)))):
+            self.hold(**{**usual, **fault})
+            self.send(COMMAND, 0xCC000000 | number)
+            self.send_run(self.data(4))
+
+    def mixed(self, which: int) -> None:
+        """Host blits, and a little of the next one, of which some words are single writes and others runs; with writes and
+        runs between that are refused."""
+        self.stage(which)
+        for number, depth in enumerate(12 // len(self.sources()) * self.sources()):
+            width, height = self.near(33, 60) if depth == 1 else self.near(6, 11), self.near(2, 4)
+            operation, more, extra = HOST_STYLES[(number + which) % len(HOST_STYLES)]
+            place, style = self.framed(width, height, self.pick((0, LEFT, RIGHT))), (operation, more | number % 2 << 8, extra)
+            needed = self.blit(place, (width, height), self.form(depth, width, number % 4), style, number % 3)
+            words = self.data(needed + self.pick((0, 1, 2)))
+            while words:
+                if self.chance(0.4):
+                    self.send(0x80 + 4 * self.near(0, 31), words.pop(0))
+                else:
+                    words = words[self.send_run(words[:self.near(0, 6)]):]
+                if self.engine.waiting is not None and self.chance(0.2):
+                    self.pick((lambda: self.send_run(words[:3], 1), lambda: self.send(OFFSETS["colorFore"], 0),
+                               lambda: self.send(0x74, 0), lambda: self.send(COMMAND, 0xCC000104)))()
+            if self.engine.waiting is not None:
+                self.send(COMMAND, 0xCC000000 | self.pick((NOP, FILL, HOST)))
+                self.send_run([xy(*self.somewhere(width, height))] * 2)
+                self.send(COMMAND, NOP)
+
+    def no_words(self, which: int) -> None:
+        """Host blits of no width or no height, each of which takes one word and may step; then one that has both, where the
+        steps led."""
+        self.stage(which)
+        for number, (packing, size) in enumerate(itertools.product(range(4), ((0, 0), (0, 3), (3, 0)))):
+            depth = self.pick(self.sources())
+            self.blit((self.near(0, 9), self.near(0, 9)), size, self.form(depth, 3, packing), PLAIN, number % 4)
+            self.send_run(self.data(self.near(2, 5)))
+            self.hold(dstSize=xy(3, 2))
+            self.send_run(self.data(-(-self.engine.host_bytes() // 4)))
+        self.blit((0, 0), (3, 0), FORMAT[self.depth] << 16, PLAIN)
+        self.send_run(self.data(2))  # its rows are longer than its stride
+
+    def lengths(self, which: int) -> None:
+        """Empty runs and others, on a memory of the length that the engine was opened for and on one without its last byte:
+        for each command, and while a blit waits. On memories of no bytes, of a few, and of too many."""
+        stride = 1 if self.size < 9 else 64
+        self.set(dstFormat=FORMAT[8] << 16 | stride, clip0Max=0x0FFF0FFF, dstSize=xy(1, 1), srcSize=xy(1, 1),
+                 srcFormat=FORMAT[8] << 16 | 1 << 22 | stride, srcBaseAddr=max(0, self.size - 9) & 0xFFFF, colorFore=0x5B)
+        places = [xy(0, y) for y in (0, 2, 1, 3, 0)]
+        for number in (*BUILT, NOT_BUILT[0]):
+            self.set(srcXY=0, dstXY=0)
+            self.send(COMMAND, 0xCC000000 | number)
+            for words, short in itertools.product(([], places, places[:1]), (1, 0)):
+                self.send_run(words, short)
+        self.set(dstSize=xy(9, 1) if self.size > 9 else xy(1, 9), srcXY=0, dstXY=0, clip0Max=xy(4, 3))
+        self.send(COMMAND, 0xCC000000 | HOST)
+        for words, short in (([1], 0), ([2], 1), ([], 1), ([], 0), ([3, 4], 1), ([5, 6], 0), ([], 1)):
+            self.send_run(words, short)
+
+
 def note(tally: Counter, before: dict[str, int], waited: bool, offset: int, word: int, answer: Answer,
          after: Engine) -> None:
     """Counts what a write tried, for the table of coverage."""
@@ -1309,6 +1583,69 @@ def note_smear(tally: Counter, asked: Engine, corner: int, distance: int) -> Non
         tally["tiles smeared", f"across rows from corner {corner}{far}"] += rows[0] // 32 < rows[-1] // 32
 
 
+def note_run(tally: Counter, asked: Engine, mem: bytearray, words: list[int], ran: Ran, length: int) -> None:
+    """Counts how a run ended, by its command. The engine and the memory are those before it; they are used up."""
+    number, taken, count, changed = ran
+    kind, depth = asked.number(), asked.target().depth if asked.target() else 0
+    name = NAMES.get(kind, "not built") + " that waits" * (asked.waiting is not None)
+    ended = "empty" if not words else "taken whole" if not number else f"{number} at {'a later word' if taken else 'word 0'}"
+    tally["runs", f"{name}: {ended}" + ", on another length" * (length != asked.length)] += 1
+    if count:
+        share = "none" if not changed else "all" if changed == count else "some"
+        tally["runs changed", f"{NAMES[kind]} at {depth}: {share}"] += 1
+    if taken and kind == HOST:
+        note_data(tally, asked, mem, words[:taken], count)
+
+
+def note_data(tally: Counter, asked: Engine, mem: bytearray, words: list[int], count: int) -> None:
+    """Counts the host words that a run gave: where in a blit they begin and end, over how many, and what they painted."""
+    source, target, packing = asked.source(), asked.target(), bits(asked.registers["srcFormat"], 23, 22)
+    needed, first, waited = asked.host_bytes(), len(asked.waiting or b""), asked.waiting is not None
+    width, _ = halves(asked.registers["dstSize"])
+    pair, sides = f"{source.depth}-{target.depth}", clipped(asked)
+    tally["runs of data", f"no words needed, packing {packing}"] += needed == 0
+    if needed == 0:
+        return
+    x, _ = asked.place("dstXY")
+    tally["runs painted", how_painted(asked)] += count > 0
+    tally["runs painted", "from the left of the target"] += count > 0 and not waited and x < 0
+    tally["runs painted", "to the right of the target"] += count > 0 and not waited and x + width > target.columns()
+    tally["runs painted", f"{pair} packing {packing}" + " on tiles" * target.tiled] += count > 0
+    finished = 0
+    for word in words:
+        asked.write(mem, 0x80, word)
+        finished += asked.waiting is None
+    begun = finished + (asked.waiting is not None)
+    tally["runs of data", f"over {begun if begun < 4 else 'more'} blits, steps {bits(asked.registers['command'], 11, 10)}"] += 1
+    tally["runs of data", "bytes left over"] += finished > 0 and needed % 4 > 0
+    came = len(asked.waiting or b"")
+    along, row = came % source.step, row_bytes(width, source.depth)
+    end = ("between blits" if not came else "between rows" if not along else "in the padding" if along >= row else
+           "inside a pixel" if along % source.size() else "between pixels")
+    tally["runs cut", f"at {source.depth} {end}, " + ("gone on" if waited else "begun")] += 1
+    if begun == 1:
+        past, step = came or needed, source.step
+        whole = sum(first <= at and at + row <= past for at in range(0, needed, step))
+        tally["whole rows", f"{pair} packing {packing}"] += whole > 1 and width > 32
+        tally["whole rows", f"{'mono' if source.depth == 1 else 'colour'} clipped: {sides}"] += whole > 1 and width > 32
+
+
+def clipped(asked: Engine) -> str:
+    """The ends of a rectangle's rows of which the clip takes something."""
+    (left, _, right, _), (first, _, past, _) = asked.clip(), asked.rectangle()
+    return " ".join(side for side, cut in (("left", first < left), ("right", past > right)) if cut) or "neither"
+
+
+def how_painted(asked: Engine) -> str:
+    """In which way a host blit paints."""
+    source, target = asked.source(), asked.target()
+    kind = "mono" if source.depth == 1 else "own" if source.depth == target.depth else "converted"
+    keys, operation = asked.registers["commandExtra"] & 3, bits(asked.registers["command"], 31, 24)
+    if kind == "mono" and asked.flag(16):
+        return "mono transparent"
+    return f"{kind} keys {keys}" if keys else f"{kind} plain" if operation == 0xCC else f"{kind} by another operation"
+
+
 def planned(k: int, tally: Counter) -> Maker | None:
     """Stream k where it has a plan of its own."""
     if SMEARS <= k < SMEARS + BY_DISTANCE:
@@ -1322,6 +1659,10 @@ def planned(k: int, tally: Counter) -> Maker | None:
         plan, which = EQUAL_PLANNED[k - EQUALS]
         maker = EqualMaker(k, {"twice": 37_000, "wide": 45_000}.get(plan, 26_000), tally)
         getattr(maker, plan)(which)
+    elif RUNS <= k < RUNS + len(RUN_PLANNED):
+        plan, which = RUN_PLANNED[k - RUNS]
+        maker = RunMaker(k, (26_000, 0, 3, LIMIT + 1)[which] if plan == "lengths" else 18_000, tally)
+        getattr(maker, plan)(which)
     else:
         return None
     return maker
@@ -1331,7 +1672,8 @@ def begun(k: int, tally: Counter) -> tuple[Maker, tuple[str, ...]]:
     """Stream k, not yet drawn on, and what is to be drawn most."""
     rng = random.Random(1000 + k)
     if k >= EQUALS:
-        maker = EqualMaker(k, rng.randint(9_000, 20_000) if k % 2 else rng.randint(1024, 6000), tally)
+        size = rng.randint(9_000, 20_000) if k % 2 else rng.randint(1024, 6000)
+        maker = RunMaker(k, size, tally) if k >= RUNS else EqualMaker(k, size, tally)
         maker.on_tiles = k % 2 == 1
         maker.wash()
         return maker, ON_TILES if k % 2 else EVERYTHING + ("smear",)
@@ -1356,7 +1698,7 @@ def build(k: int, tally: Counter) -> Maker:
         maker.sweep()
     if MIXED <= k < MIXED + SWEEPS:
         maker.stretch_sweep()
-    length = len(maker.records) + LENGTH
+    length = len(maker.records) + (3 * LENGTH if k >= RUNS else LENGTH)
     while len(maker.records) < length:
         if maker.chance(0.12):
             maker.scene()
@@ -1368,20 +1710,30 @@ def build(k: int, tally: Counter) -> Maker:
     return maker
 
 
+def binary_of(maker: Maker) -> bytes:
+    head = maker.size, len(maker.answers), maker.seed_byte
+    return b"".join(struct.pack("<III", *record) for record in [head, *maker.records])
+
+
+def line_of(answer: Answer | Ran) -> str:
+    return "run " * (len(answer) == 4) + " ".join(str(number) for number in answer)
+
+
 def make(folder: Path) -> None:
     tally: Counter = Counter()
-    binary, text = bytearray(), []
+    binary, text, writes, runs, taken = bytearray(), [], 0, 0, 0
     for k in range(STREAMS):
         maker = build(k, tally)
-        binary += struct.pack("<III", maker.size, len(maker.records), maker.seed_byte)
-        binary += b"".join(struct.pack("<III", *record) for record in maker.records)
+        binary += binary_of(maker)
         text.append(f"stream {k}: {maker.size} bytes")
-        text += [f"{number} {count} {changed}" for number, count, changed in maker.answers]
+        text += [line_of(answer) for answer in maker.answers]
         text.append(f"registers {checksum(register_bytes(maker.engine))} memory {checksum(maker.mem)}")
+        ran = [answer for answer in maker.answers if len(answer) == 4]
+        writes, runs, taken = writes + len(maker.answers) - len(ran), runs + len(ran), taken + sum(words for _, words, _, _ in ran)
     folder.mkdir(parents=True, exist_ok=True)
     (folder / "streams.bin").write_bytes(binary)
     (folder / "expected.txt").write_text("\n".join(text) + "\n")
-    print(f"{STREAMS} streams, {len(text) - 2 * STREAMS} writes, streams.bin {len(binary)} bytes")
+    print(f"{STREAMS} streams, {writes} writes, {runs} runs with {taken} words taken, streams.bin {len(binary)} bytes")
     for group in sorted({group for group, _ in tally}):
         row = sorted((str(label), n) for (g, label), n in tally.items() if g == group and n)
         print(textwrap.fill(f"{group}: " + "; ".join(f"{label}: {n}" for label, n in row), 150, subsequent_indent="  "))
@@ -1392,11 +1744,14 @@ def compare(file: Path, folder: Path) -> bool:
     found, expected = file.read_text().splitlines(), (folder / "expected.txt").read_text().splitlines()
     triples = struct.iter_unpack("<III", (folder / "streams.bin").read_bytes())
     names = []  # what each expected line speaks of
-    for k, (_, writes, _) in enumerate(triples):
+    for k, (_, records, _) in enumerate(triples):
         names.append(f"stream {k}, its head")
-        for i in range(writes):
-            offset, word, kind = next(triples)
-            names.append(f"stream {k}, write {i} (offset {offset:X}, word {word:08X}, kind {kind})")
+        for i in range(records):
+            first, second, kind = next(triples)
+            names.append(f"stream {k}, record {i} (" + (f"a run of {first} words, {'a byte less' if second else 'all'} of the memory)"
+                                                       if kind == 2 else f"offset {first:X}, word {second:08X}, kind {kind})"))
+            for _ in range(-(-first // 3) if kind == 2 else 0):
+                next(triples)
         names.append(f"stream {k}, the checksums at its end")
     for number, (name, line, here) in enumerate(zip(names, expected, found), 1):
         if line != here:

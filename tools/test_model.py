@@ -2,15 +2,22 @@
 document 000, host blit example 1, the line example, both stipple examples, the pattern's origin,
 the strides of packed sources and the order of mono pixels, at the lines that the comments give;
 points that the papers leave open, by the readings of docs/DECISIONS.md; and of the change
-requests the stretched copy, what really changed, the smear and tiles, mostly worked out by hand,
-tiles also by the map that source document 002 prints. Names in quotes in the comments are entries of docs/DECISIONS.md,
-with the section they stand under where two have one heading. Run: python3 test_model.py"""
+requests the stretched copy, what really changed, the smear, runs of words and tiles, mostly worked
+out by hand, tiles also by the map that source document 002 prints. Then that the recorded streams hold every kind of run.
+Names in quotes in the comments are entries of docs/DECISIONS.md, with the section they stand under where two have one
+heading. Run: python3 test_model.py"""
 
+import contextlib
+import io
 import itertools
 import struct
+import tempfile
 import unittest
+from collections import Counter
+from pathlib import Path
 
 import model
+import streams
 from model import OFFSETS, Engine, Surface, line_points, play, row_view
 
 TO8 = "0C=FFF0FFF 14=10020 60=1 64=2 "  # 8 bpp, stride 32, back 1, fore 2
@@ -740,6 +747,155 @@ class Changed(unittest.TestCase):
             card = Card(TO8 + f"54=10020 68=30003 5C={place[0]:X} 6C={place[1]:X}", start=start)
             found = card.engine.write(card.mem, 0x70, 0xCC000101 | turn << 14)
             self.assertEqual(found, (0, 9, sum(old != new for old, new in zip(start, card.mem))))
+
+
+def ran(text, words, length=4096, lent=None, start=b""):
+    """A card after the writes and a run, with the run's answer."""
+    card = Card(text, length, start)
+    return card, card.engine.write_run(card.mem if lent is None else bytearray(lent), words)
+
+
+GLYPH = TO8 + "54=400000 68=20008 "  # mono data, packed: a glyph of 8 by 2 is one word and two bytes of it are left
+
+
+class Runs(unittest.TestCase):
+    def test_glyphs_in_one_run(self):  # each blit steps, and the next word opens the next
+        card, answer = ran(GLYPH + "70=CC000403", [0xFFFF00FF, 0x0FF0, 0xAAAA])
+        self.assertEqual((answer, card.get("dstXY"), card.engine.waiting), ((0, 3, 48, 48), 24, None))
+        self.assertEqual(card.mem[:25].hex(), "02" * 12 + "01" * 4 + "0201" * 4 + "00")
+        self.assertEqual(card.mem[32:57].hex(), "01" * 12 + "02" * 4 + "0201" * 4 + "00")
+        self.assertEqual(ran(GLYPH + "70=CC000803", [0, 0])[0].get("dstXY"), 0x40000)
+
+    def test_one_blit(self):  # begun, gone on with and ended by runs; a pixel is drawn once its last byte is there
+        card, answer = ran(OPEN + "14=40030 54=440000 68=10004 70=CC000003", [0x01020304])
+        self.assertEqual((answer, bytes(card.engine.waiting)), ((0, 1, 1, 1), b"\4\3\2\1"))
+        self.assertEqual(card.engine.write_run(card.mem, [0x05060708]), (0, 1, 1, 1))
+        self.assertEqual(card.mem[:7].hex(), "04030201080700")
+        self.assertEqual(card.engine.write_run(card.mem, [0, 0]), (0, 2, 2 + 1, 1 + 1))  # it ends, and the next has begun
+        self.assertEqual((card.mem[:13].hex(), len(card.engine.waiting)), ("00" * 3 + "0108070605" + "00" * 5, 4))
+
+    def test_sums(self):  # of both numbers, over the words taken
+        host = TO8 + "54=410000 68=10004 70=CC000003"
+        self.assertEqual(ran(host, [0x04030201] * 3)[1], (0, 3, 12, 4))
+        self.assertEqual(ran(host, [0x04030201, 0x04030200, 0x04030201])[1], (0, 3, 12, 6))
+        self.assertEqual(ran(GLYPH + "70=CC010003", [0x8001, 0x8001, 0])[1], (0, 3, 4, 2))  # what is left out is in neither
+
+    def test_stops(self):  # at the first refused word, which does nothing, nor do those after it
+        card, answer = ran(DOT + "70=CC000005", [0, 1, 32, 2])
+        self.assertEqual((answer, card.mem[:4].hex(), card.get("dstXY")), ((7, 2, 2, 2), "02020000", 1))
+        self.assertEqual(ran(DOT + "70=CC000005", [32, 0])[1], (7, 0, 0, 0))
+        card, answer = ran(TO8 + "54=410000 68=10004 6C=19 70=CC000403", [0x01010101] * 4)  # columns 25 to 28, then 29 to 32
+        self.assertEqual((answer, card.get("dstXY"), card.engine.waiting), ((7, 1, 4, 4), 29, None))
+        card, answer = ran(FROM8 + "10=800 34=400 68=10004 70=CC000001", [0, 0x1F0000, 0x200000, 0])  # onto the target: 8
+        self.assertEqual((answer, card.get("srcXY")), ((8, 2, 8, 0), 0x1F0000))
+        self.assertEqual(ran(TO8 + "70=CC000008", [0, 0])[1], (4, 0, 0, 0))
+        self.assertEqual(ran("70=CC000005", [0, 0])[1], (5, 0, 0, 0))
+        self.assertEqual(ran(TO8 + "5C=1 54=400000 70=CC000003", [0, 0])[1], (6, 0, 0, 0))
+
+    def test_positions(self):  # each word is one, for a copy of the source
+        card, answer = ran(FROM8 + "68=10001 70=CC000401", [2, 0, 1], start=bytes(0x800) + b"abc")
+        self.assertEqual((answer, card.mem[:4], card.get("srcXY")), ((0, 3, 3, 3), b"cab\0", 1))
+        card, answer = ran(FROM8 + sizes((2, 1), (4, 1)) + "70=CC000402", [1, 0], start=bytes(0x800) + b"abc")
+        self.assertEqual((answer, card.mem[:9]), ((0, 2, 8, 8), b"bbccaabb\0"))
+        card, answer = ran(TO8 + "70=CC000007", [3, 0x20003, 0])  # three sides
+        self.assertEqual((answer, painted(card)), ((0, 3, 3 + 2 + 3, 8), [0, 1, 2, 3, 33, 34, 35, 67]))
+        card, answer = ran(TO8 + "70=CC000006", [3, 0x20003, 32])
+        self.assertEqual((answer, card.get("srcXY")), ((7, 2, 4 + 3, 6), 0x20003))
+
+    def test_taken_for_nothing(self):  # nop, and blits that need no words
+        self.assertEqual(ran(TO8 + "70=CC000000", [1, 2, 3])[1], (0, 3, 0, 0))
+        card, answer = ran(TO8 + "54=400000 68=8 6C=3 70=CC000403", [1, 2, 3])
+        self.assertEqual((answer, card.get("dstXY"), card.engine.waiting), ((0, 3, 0, 0), 27, None))
+
+    def test_empty(self):  # 0, whatever the memory's length
+        for text in ("", DOT + "70=CC000005", GLYPH + "68=20020 70=CC000103", TO8 + "70=CC00000F"):
+            for lent in (None, 4095, 0, model.LIMIT + 1):
+                card, answer = ran(text, [], lent=lent)
+                other = Card(text)
+                self.assertEqual((answer, card.mem), ((0, 0, 0, 0), other.mem))
+                self.assertEqual(vars(card.engine), vars(other.engine))
+        self.assertEqual(Engine(model.LIMIT + 1).write_run(bytearray(7), []), (0, 0, 0, 0))
+
+    def test_length(self):  # the first word is refused, and a waiting blit waits on
+        for lent in (4095, 4097, 0, model.LIMIT + 1):
+            card, answer = ran(GLYPH + "68=20020 70=CC000003 80=0+32", [0, 0], lent=lent)
+            self.assertEqual((answer, len(card.engine.waiting)), ((1, 0, 0, 0), 4))
+        self.assertEqual(Engine(model.LIMIT + 1).write_run(bytearray(model.LIMIT + 1), [0]), (1, 0, 0, 0))
+
+
+COMMANDS = ("copy", "stretch", "host", "fill", "line", "polyline")
+PAIRS = [(source, target) for target in streams.DEPTHS for source in streams.FORMAT if model.allowed(source, target)]
+
+
+def kinds_of_runs():
+    """What the recorded streams must hold, by the names in their tally."""
+    for name in ("nop", *COMMANDS, "host that waits", "not built"):
+        yield from (("runs", f"{name}: {how}") for how in ("empty", "empty, on another length", "1 at word 0, on another length"))
+        yield "runs", f"{name}: " + ("4 at word 0" if name == "not built" else "taken whole")
+    for number, names in ((5, COMMANDS), (6, ("stretch", "host")), (7, COMMANDS), (8, ("copy", "stretch"))):
+        for name in names:
+            yield "runs", f"{name}: {number} at word 0"
+            if number > 6:
+                yield "runs", f"{name}: {number} at a later word"
+    yield "runs", "host that waits: 7 at a later word"
+    for share, depth in itertools.product(("none", "some", "all"), streams.DEPTHS):
+        yield "runs changed", f"host at {depth}: {share}"
+        if share == "some":
+            yield from (("runs changed", f"{name} at {depth}: some") for name in COMMANDS)
+    for number in range(4):
+        yield "runs of data", f"no words needed, packing {number}"
+        yield from (("runs of data", f"over {blits} blits, steps {number}") for blits in (1, 2, 3, "more"))
+    yield from (("runs of data", label) for label in ("bytes left over", "after a single write", "then a single write"))
+    for depth, begun in itertools.product(streams.FORMAT, ("begun", "gone on")):
+        for end in ("between blits", "between rows", "in the padding", "between pixels", "inside a pixel")[:5 if depth > 8 else 4]:
+            yield "runs cut", f"at {depth} {end}, {begun}"
+    for (source, target), packing in itertools.product(PAIRS, range(4)):
+        yield from (("runs painted", f"{source}-{target} packing {packing}{tiles}") for tiles in ("", " on tiles"))
+        if source in (1, target) or packing in (0, 3):
+            yield "whole rows", f"{source}-{target} packing {packing}"
+    for kind in ("mono", "own", "converted"):
+        yield from (("runs painted", f"{kind} {how}") for how in ("plain", "by another operation", "keys 1", "keys 2", "keys 3"))
+    yield from (("runs painted", label) for label in ("mono transparent", "from the left of the target", "to the right of the target"))
+    for kind, sides in itertools.product(("mono", "colour"), ("neither", "left", "right", "left right")):
+        yield "whole rows", f"{kind} clipped: {sides}"
+
+
+class RecordedRuns(unittest.TestCase):
+    def test_every_kind(self):
+        tally = Counter()
+        for k in range(streams.RUNS, streams.STREAMS):
+            streams.build(k, tally)
+        self.assertEqual([kind for kind in kinds_of_runs() if tally[kind] == 0], [])
+
+    def test_records(self):  # a run is one, and its words are filled up to three by three
+        maker = streams.RunMaker(0, 64, Counter())
+        maker.send(0x70, 0)
+        for count in range(5):
+            maker.send_run([*range(1, count + 1)], count % 2)
+        maker.send(0x80, 9, 1)
+        seed = maker.seed_byte
+        self.assertEqual(streams.binary_of(maker), struct.pack("<39I", 64, 7, seed, 0x70, 0, 0, 0, 0, 2, 1, 1, 2, 1, 0, 0, 2, 0, 2,
+                                                               1, 2, 0, 3, 1, 2, 1, 2, 3, 4, 0, 2, 1, 2, 3, 4, 0, 0, 0x80, 9, 1))
+        self.assertEqual([streams.line_of(answer) for answer in maker.answers],
+                         ["0 0 0", "run 0 0 0 0", "run 1 0 0 0", "run 0 2 0 0", "run 1 0 0 0", "run 0 4 0 0", "1 0 0"])
+
+    def test_compare(self):  # each line is named by its record, past the words of runs
+        maker = streams.RunMaker(0, 64, Counter())
+        maker.send_run([1, 2, 3, 4])
+        maker.send(0x64, 5)
+        lines = ["head", *(streams.line_of(answer) for answer in maker.answers), "sums"]
+        with tempfile.TemporaryDirectory() as name, contextlib.redirect_stdout(io.StringIO()) as said:
+            folder, found = Path(name), Path(name, "found")
+            (folder / "streams.bin").write_bytes(2 * streams.binary_of(maker))
+            (folder / "expected.txt").write_text("\n".join(2 * lines))
+            for wrong in (None, 1, 2, 5, 6, 7):
+                found.write_text("\n".join("?" if i == wrong else line for i, line in enumerate(2 * lines)))
+                self.assertEqual(streams.compare(found, folder), wrong is None)
+        self.assertEqual([line.split(":")[0] for line in said.getvalue().splitlines()], [
+            "No difference in 8 lines.", "Line 2, stream 0, record 0 (a run of 4 words, all of the memory)",
+            "Line 3, stream 0, record 1 (offset 64, word 00000005, kind 0)",
+            "Line 6, stream 1, record 0 (a run of 4 words, all of the memory)",
+            "Line 7, stream 1, record 1 (offset 64, word 00000005, kind 0)", "Line 8, stream 1, the checksums at its end"])
 
 
 if __name__ == "__main__":

@@ -1,7 +1,8 @@
 // Recorded streams of register writes, replayed on the engine. Standard input holds little-endian words: for each stream the length that the
-// engine is opened for, the number of writes and a seed for the memory's bytes, then offset, word and kind of each write (kind 1: the memory is
-// lent without its last byte). For each stream it prints a head, a line `number count changed` for each answer, and checksums of registers and
-// memory.
+// engine is opened for, the number of its records and a seed for the memory's bytes, then the records. One of kind 0 or 1 is a write: offset, word and
+// kind (kind 1: the memory is lent without its last byte). One of kind 2 is a run of words for the launch area: how many they are, at most 1023,
+// whether the memory is lent as for kind 1, and kind; then the words, filled up to a multiple of three. For each stream it prints a head, a line
+// `number count changed` for each write, `run number taken count changed` for each run, and checksums of registers and memory.
 use bank::Reading;
 use engine::Engine;
 use libc::STDIN_FILENO;
@@ -135,14 +136,24 @@ fn lent(len: usize, kind: u32) -> usize
     len - 1
 }
 
-fn play_write(e: Engine, mem: &mut [u8]) -> Turn {
-    let r = read_record();
-    if r.came < 12 {
-        return Turn {
-            engine: e,
-            more: false,
-        };
+fn say_inside() {
+    say(b"the input ends inside a stream\n");
+}
+
+fn no_more(e: Engine) -> Turn {
+    Turn {
+        engine: e,
+        more: false,
     }
+}
+
+fn least(a: usize, b: usize) -> usize
+    ensures { λ r. ⌜ r ≤ b ⌝ }
+{
+    if a < b { a } else { b }
+}
+
+fn play_write(e: Engine, mem: &mut [u8], r: Record) -> Turn {
     let len = lent(mem.len(), r.third);
     let out = e.write(&mut mem[..len], r.first, r.second);
     let next = out.engine;
@@ -156,6 +167,72 @@ fn play_write(e: Engine, mem: &mut [u8]) -> Turn {
     }
 }
 
+// The n words of a run, three to a record; whether they were there.
+fn read_words(run: &mut [u32; 1026], n: usize) -> bool
+    requires { ⌜ n ≤ 1023 ⌝ }
+{
+    let mut i = 0;
+    while i < n {
+        let r = read_record();
+        if r.came < 12 {
+            return false;
+        }
+        run[i] = r.first;
+        run[i + 1] = r.second;
+        run[i + 2] = r.third;
+        i += 3;
+    }
+    true
+}
+
+// The first n words of a run.
+fn play_words(e: Engine, mem: &mut [u8], run: &[u32], n: usize) -> Turn {
+    let many = least(n, run.len());
+    let out = words::take_run(e, mem, &run[..many]);
+    let next = out.engine;
+    say(b"run ");
+    say_number(out.number as u64, b" ");
+    say_number(out.taken as u64, b" ");
+    say_number(out.count, b" ");
+    say_number(out.changed, b"\n");
+    Turn {
+        engine: next,
+        more: true,
+    }
+}
+
+// The same, in the array that holds them.
+fn play_held(e: Engine, mem: &mut [u8], run: &[u32; 1026], n: usize) -> Turn {
+    play_words(e, mem, run, n)
+}
+
+fn play_run(e: Engine, mem: &mut [u8], r: Record) -> Turn {
+    let n = r.first as usize;
+    if 1023 < n {
+        say(b"a run has more than 1023 words\n");
+        return no_more(e);
+    }
+    let mut run = [0u32; 1026];
+    if !read_words(&mut run, n) {
+        say_inside();
+        return no_more(e);
+    }
+    let len = lent(mem.len(), r.second);
+    play_held(e, &mut mem[..len], &run, n)
+}
+
+fn play_record(e: Engine, mem: &mut [u8]) -> Turn {
+    let r = read_record();
+    if r.came < 12 {
+        say_inside();
+        return no_more(e);
+    }
+    if r.third == 2 {
+        return play_run(e, mem, r);
+    }
+    play_write(e, mem, r)
+}
+
 fn say_sums(e: Engine, mem: &[u8]) {
     say(b"registers ");
     io::print_hex(STDOUT_FILENO, sum_registers(e), 8);
@@ -164,19 +241,14 @@ fn say_sums(e: Engine, mem: &[u8]) {
     say(b"\n");
 }
 
-fn end_inside() -> bool {
-    say(b"the input ends inside a stream\n");
-    false
-}
-
-// The writes of a stream on an engine opened for a length; whether all of them were there.
-fn play(mem: &mut [u8], opened: usize, writes: u32) -> bool {
+// The records of a stream on an engine opened for a length; whether all of them were there.
+fn play(mem: &mut [u8], opened: usize, records: u32) -> bool {
     let mut e = Engine::open(opened);
     let mut done: u32 = 0;
-    while done < writes {
-        let t = play_write(e, mem);
+    while done < records {
+        let t = play_record(e, mem);
         if !t.more {
-            return end_inside();
+            return false;
         }
         let next = t.engine;
         e = next;
@@ -186,12 +258,6 @@ fn play(mem: &mut [u8], opened: usize, writes: u32) -> bool {
     true
 }
 
-fn least(a: usize, b: usize) -> usize
-    ensures { λ r. ⌜ r ≤ b ⌝ }
-{
-    if a < b { a } else { b }
-}
-
 // Stream k; whether it was there whole. One for a longer memory than there is gets all there is.
 fn play_stream(mem: &mut [u8], k: u64) -> bool {
     let head = read_record();
@@ -199,7 +265,8 @@ fn play_stream(mem: &mut [u8], k: u64) -> bool {
         return false;
     }
     if head.came < 12 {
-        return end_inside();
+        say_inside();
+        return false;
     }
     let opened = head.first as usize;
     say(b"stream ");

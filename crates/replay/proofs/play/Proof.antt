@@ -1,4 +1,4 @@
--- `replay::play` is safe and ends: the measure is the number of writes to come.
+-- `replay::play` is safe and ends: the measure is the number of records to come.
 -- Assumes nothing.
 use Prim.Native.Nat.{_-_}
 use mathlib.Core.Path.{_≡_}
@@ -8,10 +8,10 @@ use Rattle.replay.proofs.play.Statement.{statement}
 use Rattle.replay.proofs.play.Tie as tie
 
 abbrev Inv-loop : tie.InvT-loop
-Inv-loop mem₀ opened writes e₀ done₀ mem e done = length mem ≡ length mem₀
+Inv-loop mem₀ opened records e₀ done₀ mem e done = length mem ≡ length mem₀
 
 abbrev μ-loop : tie.MeasureT-loop
-μ-loop mem₀ opened writes e₀ done₀ mem e done = writes - done
+μ-loop mem₀ opened records e₀ done₀ mem e done = records - done
 
 open-requires : tie.Need-open-requires Inv-loop μ-loop
 open-requires c κs = search needs
@@ -19,11 +19,8 @@ open-requires c κs = search needs
 loop-holds : tie.Need-loop-holds Inv-loop μ-loop
 loop-holds c = search needs
 
-play-write-requires : tie.Need-play-write-requires Inv-loop μ-loop
-play-write-requires c κs = search needs
-
-end-inside-requires : tie.Need-end-inside-requires Inv-loop μ-loop
-end-inside-requires c κs = search needs
+play-record-requires : tie.Need-play-record-requires Inv-loop μ-loop
+play-record-requires c κs = search needs
 
 same-length : tie.Need-same-length Inv-loop μ-loop
 same-length c = search needs
@@ -57,8 +54,7 @@ play-spec =
     μ-loop
     open-requires
     loop-holds
-    play-write-requires
-    end-inside-requires
+    play-record-requires
     same-length
     returns
     add-done

@@ -13,8 +13,8 @@ read-record-requires c κs = search needs
 returns : tie.Need-returns
 returns c = search needs
 
-end-inside-requires : tie.Need-end-inside-requires
-end-inside-requires c κs = search needs
+say-inside-requires : tie.Need-say-inside-requires
+say-inside-requires c κs = search needs
 
 returns-2 : tie.Need-returns-2
 returns-2 c = search needs
@@ -76,7 +76,7 @@ play-stream-spec =
     (tie.spec
     read-record-requires
     returns
-    end-inside-requires
+    say-inside-requires
     returns-2
     cast-opened
     slice-aggregate-say

@@ -7,12 +7,6 @@ use native.Mathlib.Omega.{arith}
 use Rattle.replay.proofs.play_write.Statement.{statement}
 use Rattle.replay.proofs.play_write.Tie as tie
 
-read-record-requires : tie.Need-read-record-requires
-read-record-requires c κs = search needs
-
-returns : tie.Need-returns
-returns c = search needs
-
 lent-requires : tie.Need-lent-requires
 lent-requires c κs = search needs
 
@@ -64,15 +58,13 @@ say-number-requires-3 c κs = search needs
 same-length : tie.Need-same-length
 same-length c = search needs
 
-returns-2 : tie.Need-returns-2
-returns-2 c = search needs
+returns : tie.Need-returns
+returns c = search needs
 
 pub play-write-spec : {M : Type 1} → statement M
 play-write-spec =
     tie.close
     (tie.spec
-    read-record-requires
-    returns
     lent-requires
     slice-relend-prefix-write
     slice-aggregate-write
@@ -90,4 +82,4 @@ play-write-spec =
     slice-aggregate-say-number-3
     say-number-requires-3
     same-length
-    returns-2)
+    returns)
