@@ -51,7 +51,7 @@ module _ (ws : ℕ → ℕ) (f : Feed) (d : Data ws f) where
   its-prior : (k : ℕ) → Prior ws k (before ws k)
   its-prior k = record { word = before-prior ws k; small = before-small ws (d .words) k }
 
-  right : (i j k last : ℕ) → Prior ws k last → lastByteOf f i j / 4 ≡ k → valueOf f last (ws k) (lastByteOf f i j % 4) i ≡ valueAt ws f i j
+  pub right : (i j k last : ℕ) → Prior ws k last → lastByteOf f i j / 4 ≡ k → valueOf f last (ws k) (lastByteOf f i j % 4) i ≡ valueAt ws f i j
   right i j k last p e = value-right ws f i j k last e (p .word) (p .small) (d .held .sizes .bytes)
 
   -- each pixel that a word finishes has the value that the data says
@@ -69,7 +69,7 @@ module _ (ws : ℕ → ℕ) (f : Feed) (d : Data ws f) where
       ap (λ (m : ℕ). valueOf f last (ws k) (m % 4) i) (sym q) ∙ right i (o / f .step) k last p (ap (λ (m : ℕ). m / 4) q ∙ e) in
       ap₂ (λ (u : ℕ) (t : List Pixel). pixel i (o / f .step) u ∷ t) v (run-row o k last (i + 1) n p e (λ a l u. h a (omega arith) (omega arith)))
 
-  row-append : (j i m n : ℕ) → rowFrom ws f j i m ++ rowFrom ws f j (i + m) n ≡ rowFrom ws f j i (m + n)
+  pub row-append : (j i m n : ℕ) → rowFrom ws f j i m ++ rowFrom ws f j (i + m) n ≡ rowFrom ws f j i (m + n)
   unfolding rowFrom
   row-append j i zero n = rw (add-zero i, zero-add n)
   row-append j i (suc m) n =

@@ -2,3 +2,4 @@ pub mod Stretch
 pub mod Parts
 pub mod PlainLaws
 pub mod Bits
+pub mod Straight

@@ -1,9 +1,13 @@
 -- What functions of this crate ask for. No promise rests on it.
 -- Assumes nothing.
 use mathlib.Core.Path.{_≡_}
-use Prim.Native.Nat.{ℕ, _+_, _-_, _*_, _%_, _<_, _≤_}
+use mathlib.Core.Bool.{true, false}
+use Prim.Native.Nat.{ℕ, _+_, _-_, _*_, _/_, _%_, _<_, _≤_}
+use Rattle.paint.specs.declared.Clip.{Clip}
 use Rattle.paint.specs.declared.Tally.{Tally}
+use Rattle.paint.specs.Clip.{inClip}
 use Rattle.paint.specs.Asked.{Room}
+use Rattle.bits.specs.declared.Plain.{Plain}
 use Rattle.host.specs.declared.Feed.{Feed}
 use Rattle.host.specs.Host.{lastColumn, lastByteOf}
 
@@ -26,3 +30,17 @@ pub record Within (f : Feed) (t j column start end : ℕ) (n : Tally) : Type 0 w
   pub past : end ≤ f .width
   pub room : Room n (end - start)
   pub here : (i : ℕ) → start ≤ i → i < end → Here f t j column i
+
+-- of `left` words from number k on, the first w are whole pixels of one row, of the target's own format and all inside the clip, and the target is in rows
+pub record Straight (p : Plain) (c : Clip) (f : Feed) (k left w : ℕ) : Type 0 where
+  pub some : 0 < w
+  pub fits : w ≤ left
+  pub colour : 0 < f .bytes
+  pub same : f .bytes ≡ p .target .bytes
+  pub flat : p .target .tiled ≡ false
+  pub row : 4 * k / f .step < f .height
+  pub begins : 4 * k % f .step % f .bytes ≡ 0
+  pub whole : f .bytes ≡ 3 → w % 3 ≡ 0
+  pub past : 4 * k % f .step / f .bytes + 4 * w / f .bytes ≤ f .width
+  pub first : inClip c (f .x + 4 * k % f .step / f .bytes) (f .y + 4 * k / f .step) ≡ true
+  pub last : inClip c (f .x + 4 * k % f .step / f .bytes + (4 * w / f .bytes - 1)) (f .y + 4 * k / f .step) ≡ true

@@ -8,15 +8,21 @@ ghost use mathlib.Core.Path.{_≡_};
 ghost use mathlib.Core.Bool.{false};
 ghost use mathlib.Core.List.{[], _∷_};
 ghost use Prim.Native.Nat.{_+_, _-_, _*_, _/_, _%_, _^_, _<_, _≤_};
-ghost use lib.ListN.{length};
+ghost use lib.ListN.{length, take};
 ghost use Rattle.paint.specs.Paint.{state, tallied};
 ghost use Rattle.paint.specs.Mix.{source};
-ghost use Rattle.paint.specs.Asked.{Room};
+ghost use Rattle.paint.specs.Asked.{Bits12, Room};
 ghost use Rattle.host.specs.Host.{lastColumn, pixel, byBytes, byWord, byRun};
 ghost use Rattle.host.specs.Draw.{hostSource, drawn};
-ghost use Rattle.host.specs.Asked.{Opened, Waits, WaitsFor};
+ghost use Rattle.host.specs.Asked.{Rows, Opened, Waits, WaitsFor};
 ghost use Rattle.plain.specs.Plain.{plainInk, stretch};
-ghost use Rattle.plain.specs.Asked.{Part, Within};
+ghost use Rattle.plain.specs.Asked.{Part, Within, Straight};
+
+// What a turn over the words of a run did: how many it took, and the tally after them.
+struct Turn {
+    taken: usize,
+    n: Tally,
+}
 
 fn plain_bit(p: Plain, feed: Feed, v: u32) -> Source
     requires { ⌜ feed .bytes ≡ 0 ⌝ }
@@ -257,6 +263,78 @@ pub fn plain_word(
     r
 }
 
+// Of so many words, as many as are whole pixels.
+fn whole_words(bytes: u32, n: u32) -> u32
+    ensures { λ r. ⌜ (r ≤ n) × (bytes ≡ 3 → r % 3 ≡ 0) ⌝ }
+{
+    if bytes == 3 {
+        return n / 3 * 3;
+    }
+    n
+}
+
+// Of so many words of data from number k on, how many are whole pixels of one row, all inside the clip, that go into memory as they are; 0 where the next is none.
+fn straight_words(p: Plain, c: Clip, feed: Feed, k: u32, left: u32) -> u32
+    requires { ⌜ Rows feed × (Bits12 c × ((feed .x < 2 ^ 15) × ((feed .y < 2 ^ 15) × (k < 2 ^ 29)))) ⌝ }
+    ensures { λ r. ⌜ ((r ≡ 0 → ⊥) → Straight p c feed k left r) ⌝ }
+{
+    let bytes = feed.bytes;
+    if (bytes == 0) | (bytes != p.target.bytes) | p.target.tiled {
+        return 0;
+    }
+    let step = feed.step;
+    let j = 4 * k / step;
+    let column = 4 * k % step;
+    if feed.height <= j {
+        return 0;
+    }
+    let i = column / bytes;
+    if (column % bytes != 0) | (feed.width <= i) {
+        return 0;
+    }
+    let w = whole_words(bytes, surface::least((feed.width - i) * bytes / 4, left));
+    if w == 0 {
+        return 0;
+    }
+    let x = feed.x + i;
+    let y = feed.y + j;
+    if paint::covers(c, x, y) {
+        if paint::covers(c, x + (4 * w / bytes - 1), y) {
+            return w;
+        }
+    }
+    0
+}
+
+// The first words of a run, number k the first: as many as go into memory as they are, or else one.
+fn take_some(
+    mem: &mut [u8],
+    p: Plain,
+    c: Clip,
+    feed: Feed,
+    k: u32,
+    last: u32,
+    words: &[u32],
+    n: Tally,
+) -> Turn
+    requires { ⌜ WaitsFor (plainInk p) c feed (length (now mem)) k (length (now words)) × ((0 < length (now words)) × Room n (2 ^ 15 * length (now words))) ⌝ }
+    ensures { λ r. ⌜ (0 < r .taken) × ((r .taken ≤ length (now (words .entry))) × (tallied (now (mem .exit)) (r .n) ≡ drawn (plainInk p) [] c feed (byRun feed last (take (r .taken) (now (words .entry))) k) (tallied (now (mem .entry)) n))) ⌝ }
+{
+    let w = straight_words(p, c, feed, k, words.len() as u32);
+    if w == 0 {
+        let r = plain_word(mem, p, c, feed, k, last, words[0], n);
+        return Turn { taken: 1, n: r };
+    }
+    let e = w as usize;
+    let bytes = feed.bytes;
+    let x = feed.x + 4 * k % feed.step / bytes - 16384;
+    let y = feed.y + 4 * k / feed.step - 16384;
+    let at = surface::place_in_rows(p.target, x, y);
+    let changed = pours::put_words(mem, at, bytes, &words[..e]);
+    let r = paint::note(n, 4 * w / bytes, changed);
+    Turn { taken: e, n: r }
+}
+
 // What host_words does.
 pub fn plain_words(
     mem: &mut [u8],
@@ -277,10 +355,10 @@ pub fn plain_words(
     let mut before = last;
     let mut i = 0;
     while i < words.len() {
-        let word = words[i];
-        n = plain_word(mem, p, c, feed, taken + i as u32, before, word, n);
-        before = word;
-        i += 1;
+        let t = take_some(mem, p, c, feed, taken + i as u32, before, &words[i..], n);
+        n = t.n;
+        i += t.taken;
+        before = words[i - 1];
     }
     n
 }
