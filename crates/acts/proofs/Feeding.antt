@@ -13,8 +13,8 @@ use Rattle.bank.specs.declared.Bank.{Bank}
 use Rattle.command.specs.Decode.{feedOf}
 use Rattle.table.specs.Table.{hostVerdict}
 use Rattle.acts.specs.declared.Blit.{Blit}
-use Rattle.acts.specs.Deed.{noBlit, touchedByWords, paintedBy}
-use Rattle.acts.specs.Fed.{blitAfter, reach, feedingRun}
+use Rattle.acts.specs.Deed.{noBlit, paintedBy}
+use Rattle.acts.specs.Fed.{touchedByWords, blitAfter, reach, feedingRun}
 use Rattle.acts.specs.Asked.{Feeds}
 
 module _ (b : Bank) (k : Blit) (m ws : List ℕ) where

@@ -11,7 +11,7 @@ use Rattle.scale.specs.Stretch.{stretched}
 use Rattle.line.specs.Line.{points, pointCount}
 use Rattle.line.specs.Stipple.{styleAfter}
 use Rattle.line.specs.Draw.{lineTouches}
-use Rattle.host.specs.Host.{byWord, byRun, wordsOf}
+use Rattle.host.specs.Host.{byWord, wordsOf}
 use Rattle.host.specs.Draw.{hostTouches}
 use Rattle.bank.specs.declared.Bank.{Bank}
 use Rattle.bank.specs.Bank.{stored}
@@ -52,11 +52,6 @@ touchedByLine b = lineTouches (inkOf (b .regs)) (b .pattern) (clipOf (b .regs)) 
 abbrev pub touchedByWord : Bank → Blit → ℕ → List Touch
 touchedByWord b k word =
     hostTouches (inkOf (b .regs)) (b .pattern) (clipOf (b .regs)) (feedOf (b .regs)) (byWord (feedOf (b .regs)) (k .last) word (k .taken))
-
--- those that several words finish
-abbrev pub touchedByWords : Bank → Blit → List ℕ → List Touch
-touchedByWords b k ws =
-    hostTouches (inkOf (b .regs)) (b .pattern) (clipOf (b .regs)) (feedOf (b .regs)) (byRun (feedOf (b .regs)) (k .last) ws (k .taken))
 
 abbrev pub paintedBy : Bank → List Touch → List ℕ → State
 paintedBy b ts m = paint (target (b .regs)) ts (state m 0 0)

@@ -5,14 +5,21 @@ use mathlib.Core.List.{List}
 use Prim.Native.Nat.{ℕ, _+_, _-_, _^_, min}
 use lib.Dec.{eqb, ltb}
 use lib.ListN.{length, take}
-use Rattle.paint.specs.Paint.{State, tallied, state}
-use Rattle.host.specs.Host.{wordsOf, lastOf}
+use Rattle.paint.specs.Paint.{State, tallied, state, Touch}
+use Rattle.host.specs.Host.{wordsOf, byRun, lastOf}
+use Rattle.host.specs.Draw.{hostTouches}
 use Rattle.bank.specs.declared.Bank.{Bank}
-use Rattle.command.specs.Decode.{feedOf}
+use Rattle.command.specs.Decode.{inkOf, feedOf}
+use Rattle.cuts.specs.Cut.{clipOf}
 use Rattle.table.specs.Table.{hostVerdict}
 use Rattle.acts.specs.declared.Blit.{Blit}
 use Rattle.acts.specs.declared.Fed.{Fed}
-use Rattle.acts.specs.Deed.{noBlit, rectEnded, touchedByWords, paintedBy}
+use Rattle.acts.specs.Deed.{noBlit, rectEnded, paintedBy}
+
+-- the pixels that they finish
+abbrev pub touchedByWords : Bank → Blit → List ℕ → List Touch
+touchedByWords b k ws =
+    hostTouches (inkOf (b .regs)) (b .pattern) (clipOf (b .regs)) (feedOf (b .regs)) (byRun (feedOf (b .regs)) (k .last) ws (k .taken))
 
 -- the number of the row that refuses them, or 0, the host blit after those that were used, what they painted, and how many they are
 pub record Feeding : Type 0 where

@@ -7,8 +7,8 @@ ghost use lib.ListN.{length};
 ghost use Rattle.paint.specs.Tally.{tally};
 ghost use Rattle.paint.specs.Paint.{tallied};
 ghost use Rattle.host.specs.Host.{lastOf};
-ghost use Rattle.acts.specs.Deed.{noBlit, rectEnded, lineEnded, touchedByWord, touchedByWords, paintedBy, deed, judged, filling, copying, stretching, lining, opening, feeding, carrying, aimed, starting};
-ghost use Rattle.acts.specs.Fed.{blitAfter, feedEnded, fed, feedingRun};
+ghost use Rattle.acts.specs.Deed.{noBlit, rectEnded, lineEnded, touchedByWord, paintedBy, deed, judged, filling, copying, stretching, lining, opening, feeding, carrying, aimed, starting};
+ghost use Rattle.acts.specs.Fed.{touchedByWords, blitAfter, feedEnded, fed, feedingRun};
 ghost use Rattle.acts.specs.Asked.{Feeds};
 
 // A host blit: how many words it has taken, the last of them, and whether it waits for more.

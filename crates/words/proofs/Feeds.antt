@@ -22,8 +22,8 @@ use Rattle.command.specs.Decode.{target, inkOf, feedOf}
 use Rattle.cuts.specs.Cut.{clipOf, number}
 use Rattle.table.specs.Table.{hostVerdict}
 use Rattle.acts.specs.declared.Blit.{Blit}
-use Rattle.acts.specs.Deed.{noBlit, rectEnded, made, starting, touchedByWord, touchedByWords, paintedBy}
-use Rattle.acts.specs.Fed.{Feeding, blitAfter, feedEnded, reach, feedingWords, feedingRun}
+use Rattle.acts.specs.Deed.{noBlit, rectEnded, made, starting, touchedByWord, paintedBy}
+use Rattle.acts.specs.Fed.{Feeding, touchedByWords, blitAfter, feedEnded, reach, feedingWords, feedingRun}
 use Rattle.acts.proofs.Cases.{picked}
 use Rattle.engine.specs.Step.{Step, making, regs, launched}
 use Rattle.words.specs.Words.{Ran, launching, isTaken, further, stopped, ranFrom}
