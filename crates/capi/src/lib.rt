@@ -115,13 +115,13 @@ pub extern "C" fn rimebarrow_run(
     run: &[u32],
     taken: &mut usize,
     count: &mut u64,
-    changed: &mut u64,
+    changes: &mut u64,
 ) -> u32
-    ensures { λ r. ⌜ runCall (now (state .exit)) (now (memory .exit)) r (now (taken .exit)) (now (count .exit)) (now (changed .exit)) ≡ ranTo (now (state .entry)) (now (memory .entry)) (now (run .entry)) ⌝ }
+    ensures { λ r. ⌜ runCall (now (state .exit)) (now (memory .exit)) r (now (taken .exit)) (now (count .exit)) (now (changes .exit)) ≡ ranTo (now (state .entry)) (now (memory .entry)) (now (run .entry)) ⌝ }
 {
     *taken = 0;
     *count = 0;
-    *changed = 0;
+    *changes = 0;
     if !state::is_state(state) {
         return 255;
     }
@@ -131,7 +131,7 @@ pub extern "C" fn rimebarrow_run(
     state::save(state, next);
     *taken = out.taken;
     *count = out.count;
-    *changed = out.changed;
+    *changes = out.changed;
     out.number
 }
 
