@@ -129,9 +129,9 @@ pub extern "C" fn rimebarrow_run(
     let out = words::take_run(e, memory, run);
     let next = out.engine;
     state::save(state, next);
-    *taken = out.taken;
-    *count = out.count;
-    *changes = out.changed;
+    *taken = out.sums.taken;
+    *count = out.sums.count;
+    *changes = out.sums.changed;
     out.number
 }
 

@@ -192,9 +192,9 @@ fn play_words(e: Engine, mem: &mut [u8], run: &[u32], n: usize) -> Turn {
     let next = out.engine;
     say(b"run ");
     say_number(out.number as u64, b" ");
-    say_number(out.taken as u64, b" ");
-    say_number(out.count, b" ");
-    say_number(out.changed, b"\n");
+    say_number(out.sums.taken as u64, b" ");
+    say_number(out.sums.count, b" ");
+    say_number(out.sums.changed, b"\n");
     Turn {
         engine: next,
         more: true,

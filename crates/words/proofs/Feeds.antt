@@ -27,8 +27,7 @@ use Rattle.acts.specs.Fed.{Feeding, touchedByWords, blitAfter, feedEnded, reach
 use Rattle.acts.proofs.Cases.{picked}
 use Rattle.engine.specs.Step.{Step, making, regs, launched}
 use Rattle.words.specs.Words.{Ran, launching, isTaken, further, stopped, ranFrom}
-use Rattle.words.specs.Asked.{Fits, worded, Went}
-use Rattle.words.proofs.Laws.{sum-joins, fits-launched, verdict-stops, went-word}
+use Rattle.words.proofs.Laws.{Fits, worded, Went, sum-joins, fits-launched, verdict-stops, went-word}
 
 -- the run after some words of a blit
 abbrev pub fedTo : Ran → Feeding → Ran

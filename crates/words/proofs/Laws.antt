@@ -25,7 +25,21 @@ use Rattle.engine.specs.declared.Answer.the-variants.{Memory}
 use Rattle.engine.specs.Step.{Step, step, making, judging, numberOf, regs, launched, written}
 use Rattle.engine.proofs.Commands.{launched-number}
 use Rattle.words.specs.Words.{Ran, launching, isTaken, further, halted, stopped, ranFrom}
-use Rattle.words.specs.Asked.{Fits, worded, Went}
+
+-- row 1 refuses no word
+pub record Fits (t : Ran) : Type 0 where
+  pub limit : length (t .memory) ≤ 2 ^ 24
+  pub opened : length (t .memory) ≡ t .engine .opened
+
+-- one word
+unfoldable pub worded : Ran → ℕ → Ran
+worded t w = cond (isTaken (launching t w)) (further t (launching t w)) (stopped t (launching t w))
+
+-- from s to s′ some words of the run were taken, and the words after them give what was left to give; or it is stopped
+pub record Went (ws : List ℕ) (s s′ : Ran) : Type 0 where
+  pub more : s′ .number ≡ 0 → s .taken < s′ .taken
+  pub goes : s′ .number ≡ 0 → ranFrom s′ (drop (s′ .taken) ws) ≡ ranFrom s (drop (s .taken) ws)
+  pub stops : (s′ .number ≡ 0 → ⊥) → s′ ≡ ranFrom s (drop (s .taken) ws)
 
 -- the offset that stands for them all
 pub launch-80 : placeOf 0x80 ≡ Launch

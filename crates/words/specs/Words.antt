@@ -6,6 +6,7 @@ use Prim.Native.Nat.{ℕ, _+_, _%_, _^_}
 use lib.Dec.{eqb}
 use Rattle.engine.specs.declared.Engine.{Engine}
 use Rattle.engine.specs.Step.{Step, written, numberOf, countOf, changedOf}
+use Rattle.words.specs.declared.Run.{Run}
 
 -- the engine and the memory after the words taken, the number of the answer that stopped the run, or 0, how many words were taken, and the sums of their counts
 -- and of what changed, each kept in 64 bits
@@ -52,3 +53,7 @@ ranFrom t (w ∷ ws) = cond (isTaken (launching t w)) (ranFrom (further t (launc
 
 abbrev pub ran : Engine → List ℕ → List ℕ → Ran
 ran e m ws = ranFrom (started e m) ws
+
+-- what a function of this crate left
+abbrev pub ranOf : Run → List ℕ → Ran
+ranOf r m = record { engine = r .engine; memory = m; number = r .number; taken = r .sums .taken; count = r .sums .count; changed = r .sums .changed }

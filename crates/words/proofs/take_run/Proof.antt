@@ -1,49 +1,163 @@
--- `words::take_run` meets its contract: what the words that are left give from the state now is what all give from the start.
+-- `words::take_run` meets its contract: what the words that are left give from where it stands is what all give from the start.
 -- Assumes nothing.
 use borrow.Author.Needs.{needs}
 use native.Mathlib.Omega.{arith}
-use mathlib.Core.Path.{_≡_, refl, _∙_}
-use Prim.Native.Nat.{_-_}
-use lib.ListN.{length, drop}
-use Rattle.words.specs.Words.{ranFrom}
-use Rattle.words.specs.Asked.{ranOf}
-use Rattle.words.proofs.Laws.{ran-ends}
+use mathlib.Core.Path.{_≡_, refl, ap, subst⁻¹, _∙_}
+use mathlib.Core.List.{List}
+use Prim.Native.Nat.{ℕ, _-_, _<_}
+use lib.ListN.{length, drop, getD}
+use Rattle.bank.specs.declared.Bank.{Bank}
+use Rattle.acts.specs.declared.Blit.{Blit}
+use Rattle.acts.specs.Fed.{fed, feedingRun}
+use Rattle.words.specs.declared.Sums.{Sums}
+use Rattle.words.specs.Words.{Ran, ranFrom}
+use Rattle.words.proofs.Laws.{Fits, part-rest, long-stops, other-stops, start-stops, start-goes, went-word, ran-ends}
+use Rattle.words.proofs.Feeds.{Turned, turned}
 use Rattle.words.proofs.take_run.Statement.{statement}
 use Rattle.words.proofs.take_run.Tie as tie
 
+-- the run between two turns
+abbrev sofar : ℕ → List ℕ → Bank → Blit → Sums → Ran
+sofar opened m b k t = record { engine = record { bank = b; blit = k; opened = opened }; memory = m; number = 0; taken = t .taken; count = t .count; changed = t .changed }
+
 abbrev Inv-loop : tie.InvT-loop
-Inv-loop mem₀ words t₀ mem t = (ranFrom (ranOf t mem) (drop (t .taken) words) ≡ ranFrom (ranOf t₀ mem₀) (drop (t₀ .taken) words)) × (length mem ≡ length mem₀)
+Inv-loop mem₀ words opened bank₀ blit₀ sums₀ mem bank blit sums =
+    (ranFrom (sofar opened mem bank blit sums) (drop (sums .taken) words) ≡ ranFrom (sofar opened mem₀ bank₀ blit₀ sums₀) (drop (sums₀ .taken) words)) × (length mem ≡ length mem₀)
 
 abbrev μ-loop : tie.MeasureT-loop
-μ-loop mem₀ words t₀ mem t = length words - t .taken
+μ-loop mem₀ words opened bank₀ blit₀ sums₀ mem bank blit sums = length words - sums .taken
+
+-- the words of the run, and what was done of it when a turn begins
+abbrev W : tie.At-loop Inv-loop μ-loop → List ℕ
+W c = c .before .before .before .before .before .args .words .now
+
+abbrev S : tie.At-loop Inv-loop μ-loop → Ran
+S c = sofar (c .before .before .before .before .before .args .e .opened) (c .loop .mem) (c .loop .bank) (c .loop .blit) (c .loop .sums)
 
 loop-holds : tie.Need-loop-holds Inv-loop μ-loop
 loop-holds c = (refl, refl)
 
-advance-requires : tie.Need-advance-requires Inv-loop μ-loop
-advance-requires c κs = search needs
+mul-word : tie.Need-mul-word Inv-loop μ-loop
+mul-word c = search needs
+
+shared-slice-read-word : tie.Need-shared-slice-read-word Inv-loop μ-loop
+shared-slice-read-word c = search needs
+
+ended-requires : tie.Need-ended-requires Inv-loop μ-loop
+ended-requires c κs = search needs
 
 same-length : tie.Need-same-length Inv-loop μ-loop
-same-length c = search needs
+same-length c = c .before .before .before .before .before .loop .inv .1
 
 returns : tie.Need-returns Inv-loop μ-loop
-returns c = c .before .before .before .before .advance .ensures .stops (c .if2 .taken) ∙ c .before .before .before .before .before .before .before .before .loop .inv .0
+returns c =
+    let l = c .before .before .before .before .before in
+    rw (c .ended .ensures) (went-word (W l) (S l) (c .before .before .before .if1 .taken) (long-stops (S l) (getD (W l) (l .loop .sums .taken) 0) (c .before .if2 .taken)) .stops (λ z. omega arith) ∙ l .loop .inv .0)
 
-loop-less : tie.Need-loop-less Inv-loop μ-loop
-loop-less c = omega (arith, c .before .before .before .before .advance .ensures .more (c .if2 .left), c .before .before .before .before .before .before .if1 .taken)
-
-loop-again : tie.Need-loop-again Inv-loop μ-loop
-loop-again c =
-    let k = c .before .before .before .before .before .before .before .before .loop in
-    (c .before .before .before .before .advance .ensures .goes (c .if2 .left) ∙ k .inv .0, c .before .before .before .before .advance .kept .1 .0 ∙ k .inv .1)
+ended-requires-2 : tie.Need-ended-requires-2 Inv-loop μ-loop
+ended-requires-2 c κs = search needs
 
 same-length-2 : tie.Need-same-length-2 Inv-loop μ-loop
-same-length-2 c = search needs
+same-length-2 c = c .before .before .before .before .before .before .loop .inv .1
 
 returns-2 : tie.Need-returns-2 Inv-loop μ-loop
 returns-2 c =
-    let k = c .before .before .loop in
-    ran-ends (c .before .before .before .before .before .args .words .now) (ranOf (k .t) (k .mem)) (c .if1 .left) ∙ k .inv .0
+    let l = c .before .before .before .before .before .before in
+    rw (c .ended2 .ensures)
+    (went-word (W l) (S l) (c .before .before .before .before .if1 .taken) (other-stops (S l) (getD (W l) (l .loop .sums .taken) 0) (c .before .before .if2 .left) (c .before .if3 .taken)) .stops (λ z. omega arith) ∙ l .loop .inv .0)
+
+-- past the first tests row 1 refuses no word
+fits : (c : tie.Else3 Inv-loop μ-loop) → Fits (S (c .before .before .before .before .before))
+fits c = record { limit = c .before .if2 .left; opened = c .if3 .left }
+
+mul-feed-run : tie.Need-mul-feed-run Inv-loop μ-loop
+mul-feed-run c = search needs
+
+sub-feed-run : tie.Need-sub-feed-run Inv-loop μ-loop
+sub-feed-run c = search needs
+
+part-feed-run-start : tie.Need-part-feed-run-start Inv-loop μ-loop
+part-feed-run-start c = search needs
+
+part-feed-run-end : tie.Need-part-feed-run-end Inv-loop μ-loop
+part-feed-run-end c = search needs
+
+feed-run-requires : tie.Need-feed-run-requires Inv-loop μ-loop
+feed-run-requires c κs = search needs
+
+-- what was fed of the words that are left
+was-fed : (c : tie.After-feed-run Inv-loop μ-loop) → let l = c .before .before .before .before .before .before .before .before .before .before in Turned (W l) (S l) (fed (c .feed-run .result) (c .feed-run .last .1 .1 .0))
+was-fed c =
+    let l = c .before .before .before .before .before .before .before .before .before .before in
+    subst⁻¹ (Turned (W l) (S l)) (c .feed-run .ensures ∙ ap (feedingRun (l .loop .bank) (l .loop .blit) (l .loop .mem)) (part-rest (W l) (l .loop .sums .taken)))
+    (turned (W l) (S l) (fits (c .before .before .before .before .before)) (c .before .before .before .if4 .taken) (c .before .before .before .before .before .before .before .before .if1 .taken))
+
+ended-requires-3 : tie.Need-ended-requires-3 Inv-loop μ-loop
+ended-requires-3 c κs = search needs
+
+same-length-3 : tie.Need-same-length-3 Inv-loop μ-loop
+same-length-3 c = c .before .before .before .before .before .feed-run .kept .1 .1 .0 ∙ c .before .before .before .before .before .before .before .before .before .before .before .before .before .before .before .loop .inv .1
+
+returns-3 : tie.Need-returns-3 Inv-loop μ-loop
+returns-3 c = rw (c .ended3 .ensures) (was-fed (c .before .before .before .before .before) .stops (c .before .if5 .taken) .stops (c .before .if5 .taken) ∙ c .before .before .before .before .before .before .before .before .before .before .before .before .before .before .before .loop .inv .0)
+
+end-feed-requires : tie.Need-end-feed-requires Inv-loop μ-loop
+end-feed-requires c κs = search needs
+
+add-requires : tie.Need-add-requires Inv-loop μ-loop
+add-requires c κs = omega (arith, was-fed (c .before .before .before .before .before .before .before) .within, c .before .before .before .before .before .before .before .before .before .before .before .before .before .before .before .before .before .before .before .before .before .before .good .1 .1 .0)
+
+loop-less : tie.Need-loop-less Inv-loop μ-loop
+loop-less c = rw (c .add .ensures) (omega (arith, was-fed (c .before .before .before .before .before .before .before .before) .goes (c .before .before .before .before .if5 .left) .more refl, c .before .before .before .before .before .before .before .before .before .before .before .before .before .before .before .before .if1 .taken))
+
+loop-again : tie.Need-loop-again Inv-loop μ-loop
+loop-again c =
+    let l = c .before .before .before .before .before .before .before .before .before .before .before .before .before .before .before .before .before .before in
+    rw (c .add .ensures, c .before .end-feed .ensures) (was-fed (c .before .before .before .before .before .before .before .before) .goes (c .before .before .before .before .if5 .left) .goes refl ∙ l .loop .inv .0, c .before .before .before .before .before .before .before .before .feed-run .kept .1 .1 .0 ∙ l .loop .inv .1)
+
+start-requires : tie.Need-start-requires Inv-loop μ-loop
+start-requires c κs = search needs
+
+-- the word that was started
+some : (c : tie.After-start Inv-loop μ-loop) → c .before .before .before .before .before .before .before .before .before .loop .sums .taken < length (W (c .before .before .before .before .before .before .before .before .before))
+some c = c .before .before .before .before .before .before .before .if1 .taken
+
+ended-requires-4 : tie.Need-ended-requires-4 Inv-loop μ-loop
+ended-requires-4 c κs = search needs
+
+same-length-4 : tie.Need-same-length-4 Inv-loop μ-loop
+same-length-4 c = c .before .before .before .before .before .start .kept .1 .1 .0 ∙ c .before .before .before .before .before .before .before .before .before .before .before .before .before .before .loop .inv .1
+
+returns-4 : tie.Need-returns-4 Inv-loop μ-loop
+returns-4 c =
+    let s = c .before .before .before .before .before in
+    let l = s .before .before .before .before .before .before .before .before .before in
+    rw (c .ended4 .ensures)
+    (went-word (W l) (S l) (some s) (start-stops (S l) _ (fits (s .before .before .before .before)) (s .before .before .if4 .left) (s .start .result) _ (s .start .ensures) (c .before .if6 .taken)) .stops (c .before .if6 .taken) ∙ l .loop .inv .0)
+
+add-requires-2 : tie.Need-add-requires-2 Inv-loop μ-loop
+add-requires-2 c κs = omega (arith, some (c .before .before .before .before .before .before .before), c .before .before .before .before .before .before .before .before .before .before .before .before .before .before .before .before .before .before .before .before .before .good .1 .1 .0)
+
+loop-less-2 : tie.Need-loop-less-2 Inv-loop μ-loop
+loop-less-2 c = rw (c .add2 .ensures) (omega (arith, some (c .before .before .before .before .before .before .before .before)))
+
+loop-again-2 : tie.Need-loop-again-2 Inv-loop μ-loop
+loop-again-2 c =
+    let s = c .before .before .before .before .before .before .before .before in
+    let l = s .before .before .before .before .before .before .before .before .before in
+    rw (c .add2 .ensures)
+    (went-word (W l) (S l) (some s) (start-goes (S l) _ (fits (s .before .before .before .before)) (s .before .before .if4 .left) (s .start .result) _ (s .start .ensures) (c .before .before .before .before .if6 .left)) .goes refl ∙ l .loop .inv .0, s .start .kept .1 .1 .0 ∙ l .loop .inv .1)
+
+ended-requires-5 : tie.Need-ended-requires-5 Inv-loop μ-loop
+ended-requires-5 c κs = search needs
+
+same-length-5 : tie.Need-same-length-5 Inv-loop μ-loop
+same-length-5 c = c .before .before .before .loop .inv .1
+
+returns-5 : tie.Need-returns-5 Inv-loop μ-loop
+returns-5 c =
+    let l = c .before .before .before in
+    rw (c .ended5 .ensures) (ran-ends (W l) (S l) (c .before .if1 .left) ∙ l .loop .inv .0)
 
 pub take-run-spec : {M : Type 1} → statement M
 take-run-spec =
@@ -52,10 +166,33 @@ take-run-spec =
     Inv-loop
     μ-loop
     loop-holds
-    advance-requires
+    mul-word
+    shared-slice-read-word
+    ended-requires
     same-length
     returns
+    ended-requires-2
+    same-length-2
+    returns-2
+    mul-feed-run
+    sub-feed-run
+    part-feed-run-start
+    part-feed-run-end
+    feed-run-requires
+    ended-requires-3
+    same-length-3
+    returns-3
+    end-feed-requires
+    add-requires
     loop-less
     loop-again
-    same-length-2
-    returns-2)
+    start-requires
+    ended-requires-4
+    same-length-4
+    returns-4
+    add-requires-2
+    loop-less-2
+    loop-again-2
+    ended-requires-5
+    same-length-5
+    returns-5)

@@ -1,11 +1,11 @@
--- `words::go_on` meets its contract: both counts are added in 64 bits.
+-- `words::add` meets its contract: both counts are added in 64 bits.
 -- Assumes nothing.
 use borrow.Author.Needs.{needs}
-use Rattle.words.proofs.go_on.Statement.{statement}
-use Rattle.words.proofs.go_on.Tie as tie
+use Rattle.words.proofs.add.Statement.{statement}
+use Rattle.words.proofs.add.Tie as tie
 
-add-t5 : tie.Need-add-t5
-add-t5 c = search needs
+add-t4 : tie.Need-add-t4
+add-t4 c = search needs
 
 cast-wrapping-add-u64 : tie.Need-cast-wrapping-add-u64
 cast-wrapping-add-u64 c = search needs
@@ -22,11 +22,11 @@ wrapping-add-u64-requires-2 c κs = search needs
 returns : tie.Need-returns
 returns c = rw (c .before .before .wrapping-add-u64 .ensures, c .wrapping-add-u642 .ensures)
 
-pub go-on-spec : {M : Type 1} → statement M
-go-on-spec =
+pub add-spec : {M : Type 1} → statement M
+add-spec =
     tie.close
     (tie.spec
-    add-t5
+    add-t4
     cast-wrapping-add-u64
     wrapping-add-u64-requires
     cast-wrapping-add-u64-2
