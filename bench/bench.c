@@ -52,6 +52,20 @@ static void out(u32 offset, u32 word)
     by_engine.changed += changed;
 }
 
+/* A run of words to the launch area, all of which must be taken. */
+static void out_run(const u32 *words, size_t many)
+{
+    size_t taken;
+    uint64_t count, changed;
+    uint32_t number = rimebarrow_run(state, sizeof state, ours, MEMORY, words, many, &taken, &count, &changed);
+    if (number || taken != many) {
+        fprintf(stderr, "bench: of a run of %zu words %zu were taken, answered with %u\n", many, taken, number);
+        exit(1);
+    }
+    by_engine.count += count;
+    by_engine.changed += changed;
+}
+
 static void drew(struct plain_drawn d)
 {
     by_plain.count += d.count;
@@ -239,6 +253,40 @@ static void glyph_plain(void)
     }
 }
 
+/* the same glyphs, the words of each in one run */
+static void glyph_run_ours(void)
+{
+    for (u32 g = 0; g < GLYPHS; g++) {
+        out(dstXY, both(g * 12, 3));
+        out_run(glyph, 4);
+    }
+}
+static void glyphs_plain(u32 step)
+{
+    for (u32 g = 0; g < GLYPHS; g++) {
+        struct plain_blit b;
+        plain_blit_open(&b, bytes, target(), g * step, 3, 11, 7, FORE, BACK);
+        drew(plain_blit_mono_words(&b, glyph, 4));
+    }
+}
+static void glyph_run_plain(void) { glyphs_plain(12); }
+
+/* all glyphs in one run, side by side: by bit 10 of command dstXY moves by a glyph's width after each */
+static u32 glyph_row[4 * GLYPHS];
+static void glyph_row_set(void)
+{
+    glyph_set();
+    out(command, 0xcc000403);
+    for (u32 g = 0; g < GLYPHS; g++)
+        memcpy(glyph_row + 4 * g, glyph, sizeof glyph);
+}
+static void glyph_row_ours(void)
+{
+    out(dstXY, both(0, 3));
+    out_run(glyph_row, 4 * GLYPHS);
+}
+static void glyph_row_plain(void) { glyphs_plain(11); }
+
 static void host_set(void)
 {
     registers(n * bytes);
@@ -258,6 +306,13 @@ static void host_plain(void)
     plain_blit_open(&b, bytes, target(), 0, 0, n, n, FORE, BACK);
     for (u32 k = 0; k < n * n / 4 * bytes; k++)
         drew(plain_blit_word(&b, w[k]));
+}
+static void host_run_ours(void) { out_run((const u32 *)(start + SOURCE), n * n / 4 * bytes); }
+static void host_run_plain(void)
+{
+    struct plain_blit b;
+    plain_blit_open(&b, bytes, target(), 0, 0, n, n, FORE, BACK);
+    drew(plain_blit_words(&b, (const u32 *)(start + SOURCE), n * n / 4 * bytes));
 }
 
 static void line_set(void) { registers(n * bytes); out(command, 0xcc000006); pen = (struct plain_pen){FORE, BACK, 0, 0, 0, 0, 0, 0}; }
@@ -347,7 +402,10 @@ static const struct work works[] = {
     {"enlarged 4 x 4", 2, 16, 512 * 512, enlarged_set, launch_at_0, enlarged_plain, 0, 0},
     {"mono copy", 3, 30, 0, mono_set, launch_at_0, mono_plain, 0, 0},
     {"host glyph 11 x 7, mono", 1, 30, GLYPHS, glyph_set, glyph_ours, glyph_plain, 0, 0},
+    {"host glyph, a run each", 1, 30, GLYPHS, glyph_set, glyph_run_ours, glyph_run_plain, 0, 0},
+    {"host glyph row, one run", 1, 30, GLYPHS, glyph_row_set, glyph_row_ours, glyph_row_plain, 0, 0},
     {"host image", 3, 30, 0, host_set, host_ours, host_plain, 0, 0},
+    {"host image, one run", 3, 30, 0, host_set, host_run_ours, host_run_plain, 0, 0},
     {"line", 3, 30, -1, line_set, line_ours, line_plain, 0, 0},
     {"stippled line", 3, 30, -1, stipple_set, line_ours, line_plain, 0, 0},
     {"solid fill, tiles", 3, 30, 0, tiles_fill_set, launch_at_0, tiles_fill_plain, 0, 0},

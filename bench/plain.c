@@ -490,6 +490,68 @@ struct plain_drawn plain_blit_mono(struct plain_blit *b, u32 word)
     BY_BYTES(blit_mono, b, word)
 }
 
+/* The pixels that a run of colour data finishes: whole ones up to the end of the row or of the run at once, others byte by byte, since a run may end within
+   a pixel. */
+INLINE struct plain_drawn blit_words(int bytes, struct plain_blit *b, const u32 *words, u32 n)
+{
+    const u8 *s = (const u8 *)words, *past = s + (u64)n * 4;
+    struct plain_blit at = *b;
+    u32 done = 0, changed = 0;
+    while (s < past && at.y < at.height) {
+        u8 *d = row_of(bytes, at.to, at.left + at.x, at.top + at.y);
+        u64 come = (u64)(past - s) / bytes;
+        u32 many = come < at.width - at.x ? come : at.width - at.x;
+        if (at.have == 0 && many > 0) {
+            changed += copy_row(bytes, d, s, many);
+            s += (u64)many * bytes;
+            at.x += many;
+            done += many;
+        } else {
+            at.acc |= (u32)*s++ << 8 * at.have++;
+            if ((int)at.have == bytes) {
+                changed += store(bytes, d, at.acc);
+                at.acc = at.have = 0;
+                at.x++;
+                done++;
+            }
+        }
+        end_row(&at);
+    }
+    *b = at;
+    return drawn(done, changed);
+}
+
+struct plain_drawn plain_blit_words(struct plain_blit *b, const u32 *words, u32 n)
+{
+    int bytes = b->bytes;
+    BY_BYTES(blit_words, b, words, n)
+}
+
+/* The pixels of a run of mono data, up to eight of each byte. */
+INLINE struct plain_drawn blit_mono_words(int bytes, struct plain_blit *b, const u32 *words, u32 n)
+{
+    const u8 *s = (const u8 *)words, *past = s + (u64)n * 4;
+    struct plain_blit at = *b;
+    u32 done = 0, changed = 0;
+    for (; s < past && at.y < at.height; s++) {
+        u8 *d = row_of(bytes, at.to, at.left + at.x, at.top + at.y);
+        u32 many = at.width - at.x < 8 ? at.width - at.x : 8, byte = *s;
+        for (u32 i = 0; i < many; i++)
+            changed += store(bytes, d + (u64)i * bytes, byte >> (7 - i) & 1 ? at.fore : at.back);
+        at.x += many;
+        done += many;
+        end_row(&at);
+    }
+    *b = at;
+    return drawn(done, changed);
+}
+
+struct plain_drawn plain_blit_mono_words(struct plain_blit *b, const u32 *words, u32 n)
+{
+    int bytes = b->bytes;
+    BY_BYTES(blit_mono_words, b, words, n)
+}
+
 u32 plain_write(struct plain_regs *r, u32 offset, u32 word)
 {
     if (offset % 4 != 0 || offset < 0x08 || offset > 0x70)

@@ -55,6 +55,8 @@ struct plain_drawn plain_line(int bytes, struct plain_surface to, int x0, int y0
 void plain_blit_open(struct plain_blit *b, int bytes, struct plain_surface to, u32 x, u32 y, u32 w, u32 h, u32 fore, u32 back);
 struct plain_drawn plain_blit_word(struct plain_blit *b, u32 word);
 struct plain_drawn plain_blit_mono(struct plain_blit *b, u32 word);
+struct plain_drawn plain_blit_words(struct plain_blit *b, const u32 *words, u32 n);
+struct plain_drawn plain_blit_mono_words(struct plain_blit *b, const u32 *words, u32 n);
 struct plain_drawn plain_tiles_fill(int bytes, struct plain_surface to, u32 w, u32 h, u32 colour);
 struct plain_drawn plain_tiles_xor(int bytes, struct plain_surface to, u32 w, u32 h, const u8 *pattern);
 struct plain_drawn plain_tiles_copy_xor(int bytes, struct plain_surface to, struct plain_surface from, u32 w, u32 h);

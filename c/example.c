@@ -1,5 +1,5 @@
-/* A sheet of 96 x 64 pixels: a background, two fills, a line and a glyph, drawn by register writes and saved as a PPM picture. Of each drawing it says how
-   many pixels were written and how many of them changed; the last fill is done again, and changes none.
+/* A sheet of 96 x 64 pixels: a background, two fills, a line, a row of glyphs and a glyph, drawn by register writes and saved as a PPM picture. Of each
+   drawing it says how many pixels were written and how many of them changed; the last fill is done again, and changes none.
 
    On x86-64:
        rt staticlib capi
@@ -20,8 +20,8 @@ enum {
     DST_SIZE = 0x68, DST_XY = 0x6c, COMMAND = 0x70, LAUNCH = 0x80
 };
 
-/* ROP CC: a plain copy. 3 is a host blit, 5 a fill, 6 a line; 32 bits a pixel is format 5. */
-enum { FORMAT_32 = 5 << 16, PACKED_BYTES = 1 << 22 };
+/* ROP CC: a plain copy. 3 is a host blit, 5 a fill, 6 a line; 32 bits a pixel is format 5. By bit 10 dstXY moves right by the width of what was drawn. */
+enum { FORMAT_32 = 5 << 16, PACKED_BYTES = 1 << 22, MOVE_RIGHT = 1 << 10 };
 static const uint32_t HOST_BLIT = 0xcc000003, FILL = 0xcc000005, LINE = 0xcc000006;
 
 static uint8_t state[RIMEBARROW_STATE_SIZE];
@@ -30,7 +30,7 @@ static uint8_t memory[MEMORY];
 static uint32_t both(uint32_t x, uint32_t y) { return y << 16 | x; }
 
 /* The pixels that were written since the last report, and how many of them changed. */
-static uint32_t written, changed;
+static uint64_t written, changed;
 
 /* Writes a register, and stops with the number of the answer where it is refused. */
 static void out(uint32_t offset, uint32_t word)
@@ -45,9 +45,23 @@ static void out(uint32_t offset, uint32_t word)
     changed += differ;
 }
 
+/* Sends words to the launch area in one run, and stops likewise. */
+static void out_run(const uint32_t *words, size_t many)
+{
+    size_t taken;
+    uint64_t count, differ;
+    uint32_t number = rimebarrow_run(state, sizeof state, memory, sizeof memory, words, many, &taken, &count, &differ);
+    if (number != 0) {
+        fprintf(stderr, "word %zu of a run refused: %u\n", taken, (unsigned)number);
+        exit(1);
+    }
+    written += count;
+    changed += differ;
+}
+
 static void report(const char *what)
 {
-    printf("%s: %u pixels, %u changed\n", what, (unsigned)written, (unsigned)changed);
+    printf("%s: %llu pixels, %llu changed\n", what, (unsigned long long)written, (unsigned long long)changed);
     written = changed = 0;
 }
 
@@ -67,19 +81,19 @@ static void line(uint32_t x0, uint32_t y0, uint32_t x1, uint32_t y1, uint32_t co
     out(LAUNCH, both(x1, y1));
 }
 
-/* An R of 8 x 7 bits, a byte a row, the leftmost pixel in the high bit; two words of data, low byte first. */
-static void glyph(uint32_t x, uint32_t y, uint32_t fore, uint32_t back)
+/* One, two or three Rs of 8 x 7 bits, a byte a row, the leftmost pixel in the high bit; each is two words of data, low byte first. All go in one run: a
+   word after the end of one opens the next, where dstXY then is. */
+static void glyphs(uint32_t x, uint32_t y, size_t many, uint32_t move, uint32_t fore, uint32_t back)
 {
-    static const uint32_t words[2] = {0x7c66667c, 0x0066666c};
+    static const uint32_t words[6] = {0x7c66667c, 0x0066666c, 0x7c66667c, 0x0066666c, 0x7c66667c, 0x0066666c};
     out(COLOR_FORE, fore);
     out(COLOR_BACK, back);
     out(SRC_FORMAT, PACKED_BYTES);
     out(SRC_XY, 0);
     out(DST_SIZE, both(8, 7));
     out(DST_XY, both(x, y));
-    out(COMMAND, HOST_BLIT);
-    for (int k = 0; k < 2; k++)
-        out(LAUNCH, words[k]);
+    out(COMMAND, HOST_BLIT | move);
+    out_run(words, 2 * many);
 }
 
 static void save(const char *path)
@@ -120,7 +134,9 @@ int main(int argc, char **argv)
     report("the same again");
     line(4, 60, 90, 4, 0x00202020);
     report("line");
-    glyph(12, 44, 0x00000000, 0x00ffffff);
+    glyphs(56, 56, 3, MOVE_RIGHT, 0x00b03030, 0x00ffffff);
+    report("row of glyphs");
+    glyphs(12, 44, 1, 0, 0x00000000, 0x00ffffff);
     report("glyph");
     printf("dstXY reads %08x\n", (unsigned)rimebarrow_value(rimebarrow_read(state, sizeof state, DST_XY)));
     save(path);

@@ -3,9 +3,9 @@
    The engine keeps nothing of its own. Its state is RIMEBARROW_STATE_SIZE bytes that the caller lends to each call, and its video memory is a run of
    bytes that the caller lends too. Several engines may run at once, each with a state of its own.
 
-   Every pointer must lead to as many bytes as the length that follows it says, and must not be null, not even with a length of 0. The places that one call
-   writes must not overlap each other or what it reads. Nothing else is asked of a caller: any length, any bytes in the state, any offset and any word are
-   answered.
+   Every pointer must lead to as many bytes as the length that follows it says, that of a run to as many words, and must not be null, not even with a length
+   of 0. The places that one call writes must not overlap each other or what it reads. Nothing else is asked of a caller: any length, any bytes in the state,
+   any offset and any word are answered.
 
    The numbers of the answers are those of the table of answers:
      0  taken
@@ -21,7 +21,7 @@
    255  the state has another length than RIMEBARROW_STATE_SIZE, another mark in its first word, or a word at 04 that is neither 0 nor 1. Any other
         bytes are taken as an engine's, also where rimebarrow_open did not make them
    A call that is answered with a number other than 0 has changed no byte of state and memory; a refused write puts 0 into *changed, and a refused view puts
-   0 into its two numbers. */
+   0 into its two numbers. A run is as many calls as it has words: the words before a refused one have been carried out, and that one has changed no byte. */
 #ifndef RIMEBARROW_H
 #define RIMEBARROW_H
 
@@ -53,6 +53,15 @@ uint32_t rimebarrow_open(uint8_t *state, size_t state_length, size_t memory_leng
    is not what it was just before the pixel was stored. All bytes of a pixel count, at 32 bits also the top one; so 0 says that the memory is what it was.
    Where the answer is a refusal or 255, and where nothing is drawn, both counts are 0. */
 uint64_t rimebarrow_write(uint8_t *state, size_t state_length, uint8_t *memory, size_t memory_length, uint32_t offset, uint32_t word, uint32_t *changed);
+
+/* Writes a run of words to the launch area. State, memory and counts are those of rimebarrow_write of each word in turn to offset 80 (hexadecimal), up to the
+   first word that is refused. words_length counts words, not bytes. Gives 0 where all words were taken, else the number of the refused word's answer. Puts
+   into *taken how many words were taken, and into *count and *changed the sums of their counts, which do not wrap with fewer than 2^32 words. An empty run
+   takes none and is answered with 0, whatever memory_length is; where the state is none the answer is 255, also to an empty run, and all three are 0.
+   A word after a host blit's last one opens the next blit, with the registers as they then stand. With bit 10 of command set, dstXY has by then moved right by
+   dstSize's width, and so a whole row of glyphs is one run. */
+uint32_t rimebarrow_run(uint8_t *state, size_t state_length, uint8_t *memory, size_t memory_length, const uint32_t *words, size_t words_length,
+                        size_t *taken, uint64_t *count, uint64_t *changed);
 
 /* Reads the register at an offset. Gives the number of the answer (0, 2 or 255) in the high 32 bits, and in the low 32 the word, 0 where refused. */
 uint64_t rimebarrow_read(const uint8_t *state, size_t state_length, uint32_t offset);

@@ -1,5 +1,5 @@
 """The papers compared with the sources: docs/PUBLIC.md with the public functions, docs/READING.md with the definitions
-that demands 1 to 3 rest on, and the files, laws and wrong versions that the papers name with those that are there.
+that demands 1 to 3 and the promises of runs rest on, and the files, laws and wrong versions that the papers name with those that are there.
 Run: python3 tools/papers.py. It prints what does not agree, a line each, and nothing where all does."""
 
 import re
@@ -9,8 +9,8 @@ from pathlib import Path
 ROOT = Path(__file__).resolve().parent.parent
 PAPERS = ["README.md", *(f"docs/{name}.md" for name in ("PROMISES", "PUBLIC", "READING", "DECISIONS", "BENCH"))]
 
-# Demands 1 to 3 rest on the promises of the engine and of restore, and on what the contracts of the engine's functions name.
-ROOTS = [("engine", "Promises"), ("restore", "Restore"), ("engine", "Step", "written", "freshEngine", "readFrom", "numberOf", "countOf")]
+# Demands 1 to 3 rest on the promises of the engine and of restore, and on what the contracts of the engine's functions name; those of runs of words stand apart.
+ROOTS = [("engine", "Promises"), ("restore", "Restore"), ("engine", "Step", "written", "freshEngine", "readFrom", "numberOf", "countOf"), ("words", "Promises")]
 
 Key = tuple[str, str, str]  # crate, file, name
 
