@@ -42,7 +42,7 @@ fn put_bit(mem: &mut [u8], at: usize, n: u32, p: Plain, bit: u32, tally: Tally) 
 }
 
 // The m pixels of row y from x on are given the bits of a byte from bit k on, the highest first; n is the target's bytes per pixel.
-fn put_run(
+pub fn put_run(
     mem: &mut [u8],
     p: Plain,
     n: u32,

@@ -3,3 +3,4 @@ pub mod Parts
 pub mod PlainLaws
 pub mod Bits
 pub mod Straight
+pub mod Glyphs

@@ -3,12 +3,15 @@
 -- Assumes nothing.
 use mathlib.Core.Path.{_≡_}
 use mathlib.Core.Bool.{true, false}
-use mathlib.Core.List.{List, [], _∷_}
+use mathlib.Core.List.{List, [], _∷_, map}
 use Prim.Native.Nat.{ℕ, zero, suc, _+_, _%_}
 use Rattle.ink.specs.declared.Ink.{Ink}
+use Rattle.paint.specs.Paint.{Touch, touch}
 use Rattle.paint.specs.Mix.{direct}
+use Rattle.paint.specs.Clip.{pixelAt}
 use Rattle.host.specs.declared.Feed.{Feed}
 use Rattle.bits.specs.declared.Plain.{Plain}
+use Rattle.bits.specs.Bits.{coloured}
 use Rattle.host.specs.Host.{lastByteOf, Pixel, pixel, valueOf}
 
 -- the ink with raster operation CC and no keys
@@ -47,3 +50,7 @@ pub record Plainly (ink : Ink) (p : Plain) : Type 0 where
 unfoldable pub stretch : Feed → ℕ → ℕ → ℕ → ℕ → ℕ → List Pixel
 stretch f last word j i zero = []
 stretch f last word j i (suc n) = pixel i j (valueOf f last word (lastByteOf f i j % 4) i) ∷ stretch f last word j (i + 1) n
+
+-- mono pixels, each given the colour of its bit; none of them is outside the clip
+abbrev pub monoTouches : Plain → Feed → List Pixel → List Touch
+monoTouches p f ps = map (λ q. touch (pixelAt (f .x + q .i) (f .y + q .j)) (λ now. coloured p (q .value))) ps

@@ -5,18 +5,20 @@ use paint::Clip;
 use paint::Source;
 use paint::Tally;
 ghost use mathlib.Core.Path.{_≡_};
-ghost use mathlib.Core.Bool.{false};
+ghost use mathlib.Core.Bool.{true, false};
 ghost use mathlib.Core.List.{[], _∷_};
 ghost use Prim.Native.Nat.{_+_, _-_, _*_, _/_, _%_, _^_, _<_, _≤_};
 ghost use lib.ListN.{length, take};
-ghost use Rattle.paint.specs.Paint.{state, tallied};
+ghost use Rattle.paint.specs.Paint.{state, tallied, paint};
 ghost use Rattle.paint.specs.Mix.{source};
 ghost use Rattle.paint.specs.Asked.{Bits12, Room};
 ghost use Rattle.host.specs.Host.{lastColumn, pixel, byBytes, byWord, byRun};
+ghost use Rattle.host.specs.Stream.{dataByte, rowFrom, rows};
 ghost use Rattle.host.specs.Draw.{hostSource, drawn};
 ghost use Rattle.host.specs.Asked.{Rows, Opened, Waits, WaitsFor};
-ghost use Rattle.plain.specs.Plain.{plainInk, stretch};
-ghost use Rattle.plain.specs.Asked.{Part, Within, Straight};
+ghost use Rattle.pours.specs.Pours.{wordIn};
+ghost use Rattle.plain.specs.Plain.{plainInk, stretch, monoTouches};
+ghost use Rattle.plain.specs.Asked.{Part, Within, Straight, Whole, Glyph};
 
 // What a turn over the words of a run did: how many it took, and the tally after them.
 struct Turn {
@@ -335,8 +337,8 @@ fn take_some(
     Turn { taken: e, n: r }
 }
 
-// What host_words does.
-pub fn plain_words(
+// The words of a run, a turn at a time.
+fn by_turns(
     mem: &mut [u8],
     p: Plain,
     c: Clip,
@@ -361,4 +363,109 @@ pub fn plain_words(
         before = words[i - 1];
     }
     n
+}
+
+// Byte o of the data.
+fn data_byte(words: &[u32], o: u32) -> u32
+    requires { ⌜ o / 4 < length (now words) ⌝ }
+    ensures { λ r. ⌜ r ≡ dataByte (wordIn (now (words .entry))) o ⌝ }
+{
+    (words[(o / 4) as usize] >> (8 * (o % 4))) % 256
+}
+
+// Row j of a mono blit, a byte of its data at a time; n is the target's bytes per pixel.
+fn mono_line(
+    mem: &mut [u8],
+    p: Plain,
+    n: u32,
+    feed: Feed,
+    words: &[u32],
+    j: u32,
+    tally: Tally,
+) -> Tally
+    requires { ⌜ Glyph p feed (length (now mem)) (length (now words)) × ((n ≡ p .target .bytes) × ((j < feed .height) × Room tally (feed .width))) ⌝ }
+    ensures { λ r. ⌜ tallied (now (mem .exit)) r ≡ paint (p .target) (monoTouches p feed (rowFrom (wordIn (now (words .entry))) feed j 0 (feed .width))) (tallied (now (mem .entry)) tally) ⌝ }
+{
+    let from = j * feed.step;
+    let y = feed.y + j - 16384;
+    let mut r = tally;
+    let mut i = 0;
+    while i < feed.width {
+        let m = surface::least(8, feed.width - i);
+        let byte = data_byte(words, from + i / 8);
+        r = bits::put_run(mem, p, n, byte, 0, feed.x + i - 16384, y, m, r);
+        i += m;
+    }
+    r
+}
+
+// A mono blit from all its words, row by row; n is the target's bytes per pixel.
+fn mono_blit(mem: &mut [u8], p: Plain, n: u32, feed: Feed, words: &[u32]) -> Tally
+    requires { ⌜ Glyph p feed (length (now mem)) (length (now words)) × (n ≡ p .target .bytes) ⌝ }
+    ensures { λ r. ⌜ tallied (now (mem .exit)) r ≡ paint (p .target) (monoTouches p feed (rows (wordIn (now (words .entry))) feed (feed .height))) (state (now (mem .entry)) 0 0) ⌝ }
+{
+    let mut r = Tally {
+        count: 0,
+        changed: 0,
+    };
+    let mut j = 0;
+    while j < feed.height {
+        r = mono_line(mem, p, n, feed, words, j, r);
+        j += 1;
+    }
+    r
+}
+
+// The same, with a loop for each number of bytes.
+fn mono_blits(mem: &mut [u8], p: Plain, feed: Feed, words: &[u32]) -> Tally
+    requires { ⌜ Glyph p feed (length (now mem)) (length (now words)) ⌝ }
+    ensures { λ r. ⌜ tallied (now (mem .exit)) r ≡ paint (p .target) (monoTouches p feed (rows (wordIn (now (words .entry))) feed (feed .height))) (state (now (mem .entry)) 0 0) ⌝ }
+{
+    let n = p.target.bytes;
+    if n == 1 {
+        return mono_blit(mem, p, 1, feed, words);
+    }
+    if n == 2 {
+        return mono_blit(mem, p, 2, feed, words);
+    }
+    if n == 3 {
+        return mono_blit(mem, p, 3, feed, words);
+    }
+    mono_blit(mem, p, 4, feed, words)
+}
+
+// Whether n words after `taken` others are all of a mono blit whose rectangle is inside the clip, on a target in rows.
+fn is_whole(p: Plain, c: Clip, feed: Feed, taken: u32, n: usize) -> bool
+    requires { ⌜ Rows feed × (Bits12 c × ((feed .x < 2 ^ 15) × (feed .y < 2 ^ 15))) ⌝ }
+    ensures { λ r. ⌜ (r ≡ true → Whole p c feed taken n) ⌝ }
+{
+    if (feed.bytes != 0) | p.target.tiled | (taken != 0) | (feed.height == 0) {
+        return false;
+    }
+    if host::words_needed(feed) as usize != n {
+        return false;
+    }
+    if paint::covers(c, feed.x, feed.y) {
+        return paint::covers(c, feed.x + (feed.width - 1), feed.y + (feed.height - 1));
+    }
+    false
+}
+
+// What host_words does.
+pub fn plain_words(
+    mem: &mut [u8],
+    p: Plain,
+    c: Clip,
+    feed: Feed,
+    taken: u32,
+    last: u32,
+    words: &[u32],
+) -> Tally
+    requires { ⌜ WaitsFor (plainInk p) c feed (length (now mem)) taken (length (now words)) ⌝ }
+    ensures { λ r. ⌜ tallied (now (mem .exit)) r ≡ drawn (plainInk p) [] c feed (byRun feed last (now (words .entry)) taken) (state (now (mem .entry)) 0 0) ⌝ }
+{
+    if is_whole(p, c, feed, taken, words.len()) {
+        return mono_blits(mem, p, feed, words);
+    }
+    by_turns(mem, p, c, feed, taken, last, words)
 }
