@@ -451,7 +451,7 @@ fn is_whole(p: Plain, c: Clip, feed: Feed, taken: u32, n: usize) -> bool
     false
 }
 
-// What host_words does.
+// What host_words does, for a plain blit: all of a mono one that is inside the clip row by row, any other by turns.
 pub fn plain_words(
     mem: &mut [u8],
     p: Plain,
