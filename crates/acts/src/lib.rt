@@ -305,8 +305,6 @@ pub fn launch(bank: Bank, blit: Blit, mem: &mut [u8], word: u32) -> Act
     start(bank, blit, mem, word)
 }
 
-// ---- several words of data at once
-
 // What became of words of data: the row that refuses them, or 0; the host blit after those that were used; their tally, and how many they are.
 pub struct Fed {
     pub number: u32,
