@@ -16,8 +16,7 @@ use Rattle.ink.specs.declared.Ink.{Ink}
 use Rattle.paint.specs.declared.Clip.{Clip}
 use Rattle.paint.specs.declared.Source.{Source}
 use Rattle.paint.specs.declared.Tally.{Tally}
-use Rattle.paint.specs.Tally.{tally}
-use Rattle.paint.specs.Paint.{State, tallied, state, dab, Touch, paint}
+use Rattle.paint.specs.Paint.{State, tallied, dab, Touch, paint}
 use Rattle.paint.specs.Mix.{mixed}
 use Rattle.ink.specs.Pattern.{patternValue}
 use Rattle.paint.specs.Clip.{inClip, pixelAt}

@@ -13,7 +13,7 @@ use Rattle.paint.specs.Tally.{noted}
 use Rattle.paint.specs.Paint.{State, tallied, state, Touch, paint}
 use Rattle.paint.proofs.Turns.{paint-append}
 use Rattle.paint.proofs.Frame.{paint-length, painted-after}
-use Rattle.host.specs.Host.{wordsOf, Pixel, byWord, byRun, lastOf}
+use Rattle.host.specs.Host.{wordsOf, byWord, byRun, lastOf}
 use Rattle.host.specs.Draw.{hostTouches}
 use Rattle.host.proofs.Drawing.{touches-append}
 use Rattle.host.proofs.Runs.{run-one}

@@ -22,7 +22,7 @@ use Rattle.acts.specs.Deed.{made, Deed, deed, judged, carrying, aimed, starting
 use Rattle.acts.proofs.Cases.{by-test}
 use Rattle.acts.proofs.Numbers.{aimed-starts}
 use Rattle.engine.specs.declared.Answer.the-variants.{Memory}
-use Rattle.engine.specs.Step.{Step, step, making, judging, numberOf, regs, launched, written}
+use Rattle.engine.specs.Step.{Step, step, making, numberOf, regs, launched, written}
 use Rattle.engine.proofs.Commands.{launched-number}
 use Rattle.words.specs.Words.{Ran, launching, isTaken, further, halted, stopped, ranFrom}
 

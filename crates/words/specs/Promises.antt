@@ -12,7 +12,7 @@ use Rattle.host.specs.Host.{wordsOf}
 use Rattle.command.specs.Decode.{feedOf}
 use Rattle.engine.specs.declared.Engine.{Engine}
 use Rattle.engine.specs.Step.{written, numberOf, regs}
-use Rattle.engine.specs.Writes.{Write, Run, played, counted, changes}
+use Rattle.engine.specs.Writes.{Run, played, counted, changes}
 use Rattle.engine.specs.Promises.{Sound}
 use Rattle.words.specs.Words.{Ran, started, launching, ran}
 

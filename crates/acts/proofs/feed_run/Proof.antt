@@ -2,7 +2,6 @@
 -- Assumes nothing.
 use borrow.Author.Needs.{needs}
 use mathlib.Core.Path.{_≡_, sym, ap, _∙_}
-use native.Mathlib.Omega.{arith}
 use Rattle.host.specs.Host.{wordsOf}
 use Rattle.command.specs.Decode.{feedOf}
 use Rattle.acts.specs.declared.Fed.{Fed}

@@ -1,6 +1,5 @@
 -- `host::host_words` meets its contract: each turn draws the pixels that one word finishes.
 -- Assumes nothing.
-use borrow.Author.Needs.{needs}
 use native.Mathlib.Omega.{arith}
 use Prim.Native.Nat.{_-_}
 use lib.ListN.{length}
