@@ -61,7 +61,6 @@ pub fn take_run(e: Engine, mem: &mut [u8], words: &[u32]) -> Run
     };
     while sums.taken < words.len() {
         let at = sums.taken;
-        let word = words[at];
         if 0x100_0000 < mem.len() {
             return ended(bank, blit, opened, 1, sums);
         }
@@ -74,21 +73,17 @@ pub fn take_run(e: Engine, mem: &mut [u8], words: &[u32]) -> Run
                 return ended(bank, blit, opened, fed.number, sums);
             }
             let rest = fed.blit;
-            let tally = fed.tally;
             bank = acts::end_feed(bank, rest);
             blit = rest;
-            sums = add(sums, fed.used, tally);
+            sums = add(sums, fed.used, fed.tally);
         } else {
-            let act = acts::start(bank, blit, mem, word);
+            let act = acts::start(bank, blit, mem, words[at]);
             if act.number != 0 {
                 return ended(bank, blit, opened, act.number, sums);
             }
-            let next = act.bank;
-            let rest = act.blit;
-            let tally = act.tally;
-            bank = next;
-            blit = rest;
-            sums = add(sums, 1, tally);
+            bank = act.bank;
+            blit = act.blit;
+            sums = add(sums, 1, act.tally);
         }
     }
     ended(bank, blit, opened, 0, sums)

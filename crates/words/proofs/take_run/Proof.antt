@@ -37,37 +37,31 @@ S c = sofar (c .before .before .before .before .before .args .e .opened) (c .loo
 loop-holds : tie.Need-loop-holds Inv-loop μ-loop
 loop-holds c = (refl, refl)
 
-mul-word : tie.Need-mul-word Inv-loop μ-loop
-mul-word c = search needs
-
-shared-slice-read-word : tie.Need-shared-slice-read-word Inv-loop μ-loop
-shared-slice-read-word c = search needs
-
 ended-requires : tie.Need-ended-requires Inv-loop μ-loop
 ended-requires c κs = search needs
 
 same-length : tie.Need-same-length Inv-loop μ-loop
-same-length c = c .before .before .before .before .before .loop .inv .1
+same-length c = c .before .before .before .before .loop .inv .1
 
 returns : tie.Need-returns Inv-loop μ-loop
 returns c =
-    let l = c .before .before .before .before .before in
-    rw (c .ended .ensures) (went-word (W l) (S l) (c .before .before .before .if1 .taken) (long-stops (S l) (getD (W l) (l .loop .sums .taken) 0) (c .before .if2 .taken)) .stops (λ z. omega arith) ∙ l .loop .inv .0)
+    let l = c .before .before .before .before in
+    rw (c .ended .ensures) (went-word (W l) (S l) (c .before .before .if1 .taken) (long-stops (S l) (getD (W l) (l .loop .sums .taken) 0) (c .before .if2 .taken)) .stops (λ z. omega arith) ∙ l .loop .inv .0)
 
 ended-requires-2 : tie.Need-ended-requires-2 Inv-loop μ-loop
 ended-requires-2 c κs = search needs
 
 same-length-2 : tie.Need-same-length-2 Inv-loop μ-loop
-same-length-2 c = c .before .before .before .before .before .before .loop .inv .1
+same-length-2 c = c .before .before .before .before .before .loop .inv .1
 
 returns-2 : tie.Need-returns-2 Inv-loop μ-loop
 returns-2 c =
-    let l = c .before .before .before .before .before .before in
+    let l = c .before .before .before .before .before in
     rw (c .ended2 .ensures)
-    (went-word (W l) (S l) (c .before .before .before .before .if1 .taken) (other-stops (S l) (getD (W l) (l .loop .sums .taken) 0) (c .before .before .if2 .left) (c .before .if3 .taken)) .stops (λ z. omega arith) ∙ l .loop .inv .0)
+    (went-word (W l) (S l) (c .before .before .before .if1 .taken) (other-stops (S l) (getD (W l) (l .loop .sums .taken) 0) (c .before .before .if2 .left) (c .before .if3 .taken)) .stops (λ z. omega arith) ∙ l .loop .inv .0)
 
 -- past the first tests row 1 refuses no word
-fits : (c : tie.Else3 Inv-loop μ-loop) → Fits (S (c .before .before .before .before .before))
+fits : (c : tie.Else3 Inv-loop μ-loop) → Fits (S (c .before .before .before .before))
 fits c = record { limit = c .before .if2 .left; opened = c .if3 .left }
 
 mul-feed-run : tie.Need-mul-feed-run Inv-loop μ-loop
@@ -86,34 +80,40 @@ feed-run-requires : tie.Need-feed-run-requires Inv-loop μ-loop
 feed-run-requires c κs = search needs
 
 -- what was fed of the words that are left
-was-fed : (c : tie.After-feed-run Inv-loop μ-loop) → let l = c .before .before .before .before .before .before .before .before .before .before in Turned (W l) (S l) (fed (c .feed-run .result) (c .feed-run .last .1 .1 .0))
+was-fed : (c : tie.After-feed-run Inv-loop μ-loop) → let l = c .before .before .before .before .before .before .before .before .before in Turned (W l) (S l) (fed (c .feed-run .result) (c .feed-run .last .1 .1 .0))
 was-fed c =
-    let l = c .before .before .before .before .before .before .before .before .before .before in
+    let l = c .before .before .before .before .before .before .before .before .before in
     subst⁻¹ (Turned (W l) (S l)) (c .feed-run .ensures ∙ ap (feedingRun (l .loop .bank) (l .loop .blit) (l .loop .mem)) (part-rest (W l) (l .loop .sums .taken)))
-    (turned (W l) (S l) (fits (c .before .before .before .before .before)) (c .before .before .before .if4 .taken) (c .before .before .before .before .before .before .before .before .if1 .taken))
+    (turned (W l) (S l) (fits (c .before .before .before .before .before)) (c .before .before .before .if4 .taken) (c .before .before .before .before .before .before .before .if1 .taken))
 
 ended-requires-3 : tie.Need-ended-requires-3 Inv-loop μ-loop
 ended-requires-3 c κs = search needs
 
 same-length-3 : tie.Need-same-length-3 Inv-loop μ-loop
-same-length-3 c = c .before .before .before .before .before .feed-run .kept .1 .1 .0 ∙ c .before .before .before .before .before .before .before .before .before .before .before .before .before .before .before .loop .inv .1
+same-length-3 c = c .before .before .before .before .before .feed-run .kept .1 .1 .0 ∙ c .before .before .before .before .before .before .before .before .before .before .before .before .before .before .loop .inv .1
 
 returns-3 : tie.Need-returns-3 Inv-loop μ-loop
-returns-3 c = rw (c .ended3 .ensures) (was-fed (c .before .before .before .before .before) .stops (c .before .if5 .taken) .stops (c .before .if5 .taken) ∙ c .before .before .before .before .before .before .before .before .before .before .before .before .before .before .before .loop .inv .0)
+returns-3 c = rw (c .ended3 .ensures) (was-fed (c .before .before .before .before .before) .stops (c .before .if5 .taken) .stops (c .before .if5 .taken) ∙ c .before .before .before .before .before .before .before .before .before .before .before .before .before .before .loop .inv .0)
 
 end-feed-requires : tie.Need-end-feed-requires Inv-loop μ-loop
 end-feed-requires c κs = search needs
 
 add-requires : tie.Need-add-requires Inv-loop μ-loop
-add-requires c κs = omega (arith, was-fed (c .before .before .before .before .before .before .before) .within, c .before .before .before .before .before .before .before .before .before .before .before .before .before .before .before .before .before .before .before .before .before .before .good .1 .1 .0)
+add-requires c κs = omega (arith, was-fed (c .before .before .before .before .before .before) .within, c .before .before .before .before .before .before .before .before .before .before .before .before .before .before .before .before .before .before .before .before .good .1 .1 .0)
 
 loop-less : tie.Need-loop-less Inv-loop μ-loop
-loop-less c = rw (c .add .ensures) (omega (arith, was-fed (c .before .before .before .before .before .before .before .before) .goes (c .before .before .before .before .if5 .left) .more refl, c .before .before .before .before .before .before .before .before .before .before .before .before .before .before .before .before .if1 .taken))
+loop-less c = rw (c .add .ensures) (omega (arith, was-fed (c .before .before .before .before .before .before .before) .goes (c .before .before .before .if5 .left) .more refl, c .before .before .before .before .before .before .before .before .before .before .before .before .before .before .if1 .taken))
 
 loop-again : tie.Need-loop-again Inv-loop μ-loop
 loop-again c =
-    let l = c .before .before .before .before .before .before .before .before .before .before .before .before .before .before .before .before .before .before in
-    rw (c .add .ensures, c .before .end-feed .ensures) (was-fed (c .before .before .before .before .before .before .before .before) .goes (c .before .before .before .before .if5 .left) .goes refl ∙ l .loop .inv .0, c .before .before .before .before .before .before .before .before .feed-run .kept .1 .1 .0 ∙ l .loop .inv .1)
+    let l = c .before .before .before .before .before .before .before .before .before .before .before .before .before .before .before .before in
+    rw (c .add .ensures, c .before .end-feed .ensures) (was-fed (c .before .before .before .before .before .before .before) .goes (c .before .before .before .if5 .left) .goes refl ∙ l .loop .inv .0, c .before .before .before .before .before .before .before .feed-run .kept .1 .1 .0 ∙ l .loop .inv .1)
+
+mul-start : tie.Need-mul-start Inv-loop μ-loop
+mul-start c = search needs
+
+shared-slice-read-start : tie.Need-shared-slice-read-start Inv-loop μ-loop
+shared-slice-read-start c = search needs
 
 start-requires : tie.Need-start-requires Inv-loop μ-loop
 start-requires c κs = search needs
@@ -133,20 +133,20 @@ returns-4 c =
     let s = c .before .before .before .before .before in
     let l = s .before .before .before .before .before .before .before .before .before in
     rw (c .ended4 .ensures)
-    (went-word (W l) (S l) (some s) (start-stops (S l) _ (fits (s .before .before .before .before)) (s .before .before .if4 .left) (s .start .result) _ (s .start .ensures) (c .before .if6 .taken)) .stops (c .before .if6 .taken) ∙ l .loop .inv .0)
+    (went-word (W l) (S l) (some s) (start-stops (S l) _ (fits (s .before .before .before .before .before)) (s .before .before .before .if4 .left) (s .start .result) _ (s .start .ensures) (c .before .if6 .taken)) .stops (c .before .if6 .taken) ∙ l .loop .inv .0)
 
 add-requires-2 : tie.Need-add-requires-2 Inv-loop μ-loop
-add-requires-2 c κs = omega (arith, some (c .before .before .before .before .before .before .before), c .before .before .before .before .before .before .before .before .before .before .before .before .before .before .before .before .before .before .before .before .before .good .1 .1 .0)
+add-requires-2 c κs = omega (arith, some (c .before .before .before .before .before .before), c .before .before .before .before .before .before .before .before .before .before .before .before .before .before .before .before .before .before .before .before .good .1 .1 .0)
 
 loop-less-2 : tie.Need-loop-less-2 Inv-loop μ-loop
-loop-less-2 c = rw (c .add2 .ensures) (omega (arith, some (c .before .before .before .before .before .before .before .before)))
+loop-less-2 c = rw (c .add2 .ensures) (omega (arith, some (c .before .before .before .before .before .before .before)))
 
 loop-again-2 : tie.Need-loop-again-2 Inv-loop μ-loop
 loop-again-2 c =
-    let s = c .before .before .before .before .before .before .before .before in
+    let s = c .before .before .before .before .before .before .before in
     let l = s .before .before .before .before .before .before .before .before .before in
     rw (c .add2 .ensures)
-    (went-word (W l) (S l) (some s) (start-goes (S l) _ (fits (s .before .before .before .before)) (s .before .before .if4 .left) (s .start .result) _ (s .start .ensures) (c .before .before .before .before .if6 .left)) .goes refl ∙ l .loop .inv .0, s .start .kept .1 .1 .0 ∙ l .loop .inv .1)
+    (went-word (W l) (S l) (some s) (start-goes (S l) _ (fits (s .before .before .before .before .before)) (s .before .before .before .if4 .left) (s .start .result) _ (s .start .ensures) (c .before .before .before .if6 .left)) .goes refl ∙ l .loop .inv .0, s .start .kept .1 .1 .0 ∙ l .loop .inv .1)
 
 ended-requires-5 : tie.Need-ended-requires-5 Inv-loop μ-loop
 ended-requires-5 c κs = search needs
@@ -166,8 +166,6 @@ take-run-spec =
     Inv-loop
     μ-loop
     loop-holds
-    mul-word
-    shared-slice-read-word
     ended-requires
     same-length
     returns
@@ -186,6 +184,8 @@ take-run-spec =
     add-requires
     loop-less
     loop-again
+    mul-start
+    shared-slice-read-start
     start-requires
     ended-requires-4
     same-length-4
