@@ -14,7 +14,7 @@
 
 enum { MEMORY = 1 << 24, SOURCE = 1 << 23, RUNS = 7, GLYPHS = 64 };
 enum {
-    clip0Max = 0x0c, dstBaseAddr = 0x10, dstFormat = 0x14, srcColorkeyMin = 0x18, srcColorkeyMax = 0x1c, dstColorkeyMin = 0x20, dstColorkeyMax = 0x24, rop = 0x30, srcBaseAddr = 0x34,
+    clip0Min = 0x08, clip0Max = 0x0c, dstBaseAddr = 0x10, dstFormat = 0x14, srcColorkeyMin = 0x18, srcColorkeyMax = 0x1c, dstColorkeyMin = 0x20, dstColorkeyMax = 0x24, rop = 0x30, srcBaseAddr = 0x34,
     commandExtra = 0x38, lineStipple = 0x3c, lineStyle = 0x40, srcFormat = 0x54, srcSize = 0x58, srcXY = 0x5c, colorBack = 0x60, colorFore = 0x64,
     dstSize = 0x68, dstXY = 0x6c, command = 0x70, launch = 0x80, pattern = 0x100
 };
@@ -315,13 +315,29 @@ static void host_run_plain(void)
     drew(plain_blit_words(&b, (const u32 *)(start + SOURCE), n * n / 4 * bytes));
 }
 
-static void line_set(void) { registers(n * bytes); out(command, 0xcc000006); pen = (struct plain_pen){FORE, BACK, 0, 0, 0, 0, 0, 0}; }
-static void stipple_set(void)
+static struct plain_clip clip;
+static void line_set_by(u32 word)
 {
     registers(n * bytes);
+    out(command, word);
+    pen = (struct plain_pen){FORE, BACK, 0, 0, 0, 0, 0, 0};
+    clip = (struct plain_clip){0, 0xfff, 0, 0xfff};
+}
+static void line_set(void) { line_set_by(0xcc000006); }
+static void line_xor_set(void) { line_set_by(0x5a000006); }
+/* an eighth of the square is cut off at each side */
+static void line_clipped_set(void)
+{
+    line_set();
+    clip = (struct plain_clip){n / 8, n - n / 8, n / 8, n - n / 8};
+    out(clip0Min, both(n / 8, n / 8));
+    out(clip0Max, both(n - n / 8, n - n / 8));
+}
+static void stipple_set(void)
+{
+    line_set_by(0xcc001006);
     out(lineStipple, 0xf0f0cc35);
     out(lineStyle, 0x00001f02);
-    out(command, 0xcc001006);
     pen = (struct plain_pen){FORE, BACK, 0xf0f0cc35, 2, 31, 0, 0, 1};
 }
 static void line_ours(void)
@@ -333,8 +349,13 @@ static void line_ours(void)
 }
 static void line_plain(void)
 {
-    drew(plain_line(bytes, target(), 0, 0, n - 1, n * 5 / 8, 0xfff, 0xfff, &pen));
-    drew(plain_line(bytes, target(), n - 1, 0, n / 3, n - 1, 0xfff, 0xfff, &pen));
+    drew(plain_line(bytes, target(), 0, 0, n - 1, n * 5 / 8, clip, &pen));
+    drew(plain_line(bytes, target(), n - 1, 0, n / 3, n - 1, clip, &pen));
+}
+static void line_xor_plain(void)
+{
+    drew(plain_line_xor(bytes, target(), 0, 0, n - 1, n * 5 / 8, clip, &pen, patterns));
+    drew(plain_line_xor(bytes, target(), n - 1, 0, n / 3, n - 1, clip, &pen, patterns));
 }
 
 /* on tiles: the target, the source, or both */
@@ -408,6 +429,8 @@ static const struct work works[] = {
     {"host image, one run", 3, 30, 0, host_set, host_run_ours, host_run_plain, 0, 0},
     {"line", 3, 30, -1, line_set, line_ours, line_plain, 0, 0},
     {"stippled line", 3, 30, -1, stipple_set, line_ours, line_plain, 0, 0},
+    {"line, clipped", 3, 30, -1, line_clipped_set, line_ours, line_plain, 0, 0},
+    {"line 5A", 3, 30, -1, line_xor_set, line_ours, line_xor_plain, 0, 0},
     {"solid fill, tiles", 3, 30, 0, tiles_fill_set, launch_at_0, tiles_fill_plain, 0, 0},
     {"pattern fill 5A, tiles", 3, 30, 0, tiles_xor_set, launch_at_0, tiles_xor_plain, 0, 0},
     {"plain copy, tiles", 3, 30, 0, tiles_copy_set, launch_at_0, tiles_copy_plain, 0, 0},

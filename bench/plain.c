@@ -395,8 +395,8 @@ INLINE u32 stipple(struct plain_pen *pen)
     return on;
 }
 
-/* The points of a line, each looked at against the clip. */
-INLINE struct plain_drawn line(int bytes, struct plain_surface to, int x0, int y0, int x1, int y1, int right, int bottom, struct plain_pen *pen, int stippled)
+/* The points of a line, each looked at against the clip; with a pattern by raster operation 5A. */
+INLINE struct plain_drawn line(int bytes, struct plain_surface to, int x0, int y0, int x1, int y1, struct plain_clip clip, struct plain_pen *pen, int stippled, const u8 *pattern)
 {
     int dx = x1 > x0 ? x1 - x0 : x0 - x1, dy = y1 > y0 ? y1 - y0 : y0 - y1;
     int sx = x1 > x0 ? 1 : -1, sy = y1 > y0 ? 1 : -1, wide = dx >= dy;
@@ -405,8 +405,10 @@ INLINE struct plain_drawn line(int bytes, struct plain_surface to, int x0, int y
     struct plain_pen p = *pen;
     for (int i = 0; i <= n; i++) {
         u32 on = stippled ? stipple(&p) : 1;
-        if (x0 >= 0 && x0 < right && y0 >= 0 && y0 < bottom) {
-            changed += store(bytes, row_of(bytes, to, x0, y0), on ? p.fore : p.back);
+        if (x0 >= clip.left && x0 < clip.right && y0 >= clip.top && y0 < clip.bottom) {
+            u8 *d = row_of(bytes, to, x0, y0);
+            u32 xor = pattern ? get(bytes, d) ^ get(bytes, pattern + ((y0 & 7) * 8 + (x0 & 7)) * bytes) : 0;
+            changed += store(bytes, d, pattern ? xor : on ? p.fore : p.back);
             done++;
         }
         e += 2 * m;
@@ -420,11 +422,16 @@ INLINE struct plain_drawn line(int bytes, struct plain_surface to, int x0, int y
     return drawn(done, changed);
 }
 
-struct plain_drawn plain_line(int bytes, struct plain_surface to, int x0, int y0, int x1, int y1, int right, int bottom, struct plain_pen *pen)
+struct plain_drawn plain_line(int bytes, struct plain_surface to, int x0, int y0, int x1, int y1, struct plain_clip clip, struct plain_pen *pen)
 {
     if (pen->stippled)
-        BY_BYTES(line, to, x0, y0, x1, y1, right, bottom, pen, 1)
-    BY_BYTES(line, to, x0, y0, x1, y1, right, bottom, pen, 0)
+        BY_BYTES(line, to, x0, y0, x1, y1, clip, pen, 1, 0)
+    BY_BYTES(line, to, x0, y0, x1, y1, clip, pen, 0, 0)
+}
+
+struct plain_drawn plain_line_xor(int bytes, struct plain_surface to, int x0, int y0, int x1, int y1, struct plain_clip clip, struct plain_pen *pen, const u8 *pattern)
+{
+    BY_BYTES(line, to, x0, y0, x1, y1, clip, pen, 0, pattern)
 }
 
 void plain_blit_open(struct plain_blit *b, int bytes, struct plain_surface to, u32 x, u32 y, u32 w, u32 h, u32 fore, u32 back)

@@ -33,6 +33,10 @@ struct plain_regs {
     int waiting;
 };
 
+struct plain_clip {
+    int left, right, top, bottom;
+};
+
 struct plain_pen {
     u32 fore, back, bits, repeat, last, count, bit;
     int stippled;
@@ -51,7 +55,8 @@ struct plain_drawn plain_copy_16_32(struct plain_surface to, struct plain_surfac
 struct plain_drawn plain_stretch(int bytes, struct plain_surface to, struct plain_surface from, u32 w, u32 h, u32 sw, u32 sh);
 struct plain_drawn plain_stretch_32_16(struct plain_surface to, struct plain_surface from, u32 w, u32 h, u32 sw, u32 sh);
 struct plain_drawn plain_copy_mono(int bytes, struct plain_surface to, struct plain_surface from, u32 x, u32 y, u32 w, u32 h, u32 fore, u32 back);
-struct plain_drawn plain_line(int bytes, struct plain_surface to, int x0, int y0, int x1, int y1, int right, int bottom, struct plain_pen *pen);
+struct plain_drawn plain_line(int bytes, struct plain_surface to, int x0, int y0, int x1, int y1, struct plain_clip clip, struct plain_pen *pen);
+struct plain_drawn plain_line_xor(int bytes, struct plain_surface to, int x0, int y0, int x1, int y1, struct plain_clip clip, struct plain_pen *pen, const u8 *pattern);
 void plain_blit_open(struct plain_blit *b, int bytes, struct plain_surface to, u32 x, u32 y, u32 w, u32 h, u32 fore, u32 back);
 struct plain_drawn plain_blit_word(struct plain_blit *b, u32 word);
 struct plain_drawn plain_blit_mono(struct plain_blit *b, u32 word);

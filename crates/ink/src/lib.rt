@@ -124,6 +124,24 @@ pub fn pattern_at(ink: Ink, pattern: [u8; 256], x: u32, y: u32) -> u32
     pattern_in(ink, pattern, pattern_column(ink, x), pattern_row(ink, y))
 }
 
+// The same of a pattern that is lent, so that a loop over many pixels copies it once.
+pub fn pattern_seen(ink: Ink, pattern: &[u8; 256], x: u32, y: u32) -> u32
+    requires { ⌜ Colour (ink .target) ⌝ }
+    ensures { λ r. ⌜ r ≡ patternValue ink (now (pattern .entry)) x y ⌝ }
+{
+    let column = pattern_column(ink, x);
+    let row = pattern_row(ink, y);
+    let n = ink.target.bytes;
+    if !ink.mono {
+        return surface::get_bytes(pattern, ((row * 8 + column) * n) as usize, n);
+    }
+    let byte = wide(pattern[row as usize]);
+    if bit_of(byte, column) == 1 {
+        return ink.fore;
+    }
+    ink.back
+}
+
 // The eight values of a row of the pattern.
 pub fn row_values(ink: Ink, pattern: [u8; 256], row: u32) -> [u32; 8]
     requires { ⌜ Colour (ink .target) × (row < 8) ⌝ }

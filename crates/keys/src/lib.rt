@@ -1,10 +1,11 @@
 // Colour keys. A format is its bytes per pixel.
 ghost use mathlib.Core.Path.{_≡_};
-ghost use mathlib.Core.Bool.{_&&_};
+ghost use mathlib.Core.Bool.{true, _&&_};
 ghost use Prim.Native.Nat.{_<_, _%_};
 ghost use lib.Dec.{leb};
 ghost use Rattle.keys.specs.Key.{chan, channel, keyMatch};
 ghost use Rattle.keys.specs.Range.{rangeOf, inRange};
+ghost use Rattle.keys.specs.Asked.{listed};
 
 // The least and the most of each channel of a key; a format of one channel has the others 0.
 pub struct Range {
@@ -16,12 +17,17 @@ pub struct Range {
     pub high2: u32,
 }
 
-// The channel of v that starts at bit `start` and has so many values.
+// The channel of v that starts at bit `start` and has so many values. Each remainder is by a number that is known, so that none is a division.
 fn channel_of(start: u32, values: u32, v: u32) -> u32
-    requires { ⌜ (start < 32) × (0 < values) ⌝ }
+    requires { ⌜ (start < 32) × (listed values ≡ true) ⌝ }
     ensures { λ r. ⌜ r ≡ channel (chan start values) v ⌝ }
 {
-    (v >> start) % values
+    let from = v >> start;
+    match values {
+        32 => from % 32,
+        64 => from % 64,
+        _ => from % 256,
+    }
 }
 
 fn is_between(low: u32, x: u32, high: u32) -> bool

@@ -1,4 +1,5 @@
 pub mod Sides
+pub mod TreadLaws
 pub mod PointLaws
 pub mod StippleLaws
 pub mod DrawLaws

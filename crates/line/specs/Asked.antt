@@ -6,7 +6,7 @@ use mathlib.Core.Path.{_≡_}
 use Prim.Native.Nat.{ℕ, _<_, _≤_}
 use Rattle.paint.specs.Asked.{Room, Bits12}
 use Rattle.surface.specs.declared.Surface.{Surface}
-use Rattle.surface.specs.Asked.{Small, Colour}
+use Rattle.surface.specs.Asked.{Colour}
 use Rattle.spans.specs.Span.{allOn}
 use Rattle.paint.specs.declared.Clip.{Clip}
 use Rattle.paint.specs.declared.Tally.{Tally}
@@ -28,7 +28,7 @@ pub record Placed (l : Line) : Type 0 where
 
 -- a line that can be tested against a surface
 pub record Testable (s : Surface) (c : Clip) (l : Line) : Type 0 where
-  pub surface : Small s
+  pub surface : Colour s
   pub clip : Bits12 c
   pub line : Placed l
 

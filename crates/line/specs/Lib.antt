@@ -1,4 +1,5 @@
 pub mod Asked
 pub mod Line
+pub mod Tread
 pub mod Stipple
 pub mod Draw

@@ -5,9 +5,10 @@ ghost use mathlib.Core.Path.{_≡_};
 ghost use mathlib.Core.Bool.{true};
 ghost use mathlib.Core.List.{[], _∷_};
 ghost use Prim.Native.Nat.{_+_, _-_, _%_, _^_, _<_, _≤_, min, max};
-ghost use Rattle.surface.specs.Asked.{Small};
+ghost use Rattle.surface.specs.Asked.{Colour};
 ghost use Rattle.paint.specs.Asked.{Bits12};
-ghost use Rattle.line.specs.Line.{far, towards, xMajor, longer, shorter, aside, place, pointAt, pointCount, points};
+ghost use Rattle.line.specs.Line.{far, towards, xMajor, longer, shorter, place, pointCount, points};
+ghost use Rattle.line.specs.Tread.{trodden};
 ghost use Rattle.line.specs.Asked.{Within, Placed, Testable};
 ghost use Rattle.line.specs.Stipple.{stepped, stippleBit, after};
 ghost use Rattle.line.specs.Draw.{lineOff};
@@ -83,7 +84,7 @@ pub fn point_count(l: Line) -> u32
 }
 
 // The point a steps along the major axis and b along the minor.
-fn place_point(l: Line, a: u32, b: u32) -> Point
+pub fn place_point(l: Line, a: u32, b: u32) -> Point
     requires { ⌜ (a ≤ longer l) × (b ≤ shorter l) ⌝ }
     ensures { λ r. ⌜ r ≡ place l a b ⌝ }
 {
@@ -100,19 +101,29 @@ fn place_point(l: Line, a: u32, b: u32) -> Point
     }
 }
 
-// The steps along the minor axis at point i.
-fn steps_aside(n: u32, m: u32, i: u32) -> u32
-    requires { ⌜ (n < 8192) × ((m ≤ n) × (i ≤ n)) ⌝ }
-    ensures { λ r. ⌜ r ≡ aside n m i ⌝ }
-{
-    if n == 0 { 0 } else { (2 * i * m + n) / (2 * n) }
+// Where a walk along a line is: the steps along the minor axis, and what the division leaves that gives their number.
+pub struct Tread {
+    pub aside: u32,
+    pub rest: u32,
 }
 
-pub fn line_point(l: Line, i: u32) -> Point
-    requires { ⌜ Placed l × (i ≤ longer l) ⌝ }
-    ensures { λ r. ⌜ r ≡ pointAt l i ⌝ }
+// From a point to the next, of a line of sides n and m: what is left over grows, or a step aside takes it up.
+pub fn tread_on(n: u32, m: u32, t: Tread) -> Tread
+    requires { ⌜ (m ≤ n) × (n < 2 ^ 13) × (t .aside ≤ n) ⌝ }
+    ensures { λ r. ⌜ r ≡ trodden n m t ⌝ }
 {
-    place_point(l, i, steps_aside(long_side(l), short_side(l), i))
+    let more = m + m;
+    let limit = n + n - more;
+    if t.rest < limit {
+        return Tread {
+            aside: t.aside,
+            rest: t.rest + more,
+        };
+    }
+    Tread {
+        aside: t.aside + 1,
+        rest: t.rest - limit,
+    }
 }
 
 // The word lineStyle after a point of a stippled line.
@@ -155,16 +166,11 @@ pub fn stipple_bit(pen: Pen, style: u32) -> u32
 
 // Whether a point is covered, and off the surface.
 fn point_off(len: usize, s: Surface, c: Clip, p: Point) -> bool
-    requires { ⌜ Small s × Bits12 c ⌝ }
+    requires { ⌜ Colour s × Bits12 c ⌝ }
     ensures { λ r. ⌜ r ≡ lineOff s len c (p ∷ []) ⌝ }
 {
     if paint::covers(c, p.x, p.y) {
-        return !spans::on_surface(
-            len,
-            s,
-            surface::wide(p.x - 16384),
-            surface::wide(p.y - 16384),
-        );
+        return !spans::close_on(len, s, p.x - 16384, p.y - 16384);
     }
     false
 }
@@ -196,15 +202,19 @@ pub fn line_off(len: usize, s: Surface, c: Clip, l: Line) -> bool
 {
     let w = reach(l.x0, l.x1, c.right);
     let h = reach(l.y0, l.y1, c.bottom);
-    if spans::rect_on(len, s, 0, 0, w, h) {
+    if spans::box_on(len, s, w, h) {
         return false;
     }
+    let n = long_side(l);
+    let m = short_side(l);
     let total = point_count(l);
+    let mut t = Tread { aside: 0, rest: n };
     let mut i = 0;
     while i < total {
-        if point_off(len, s, c, line_point(l, i)) {
+        if point_off(len, s, c, place_point(l, i, t.aside)) {
             return true;
         }
+        t = tread_on(n, m, t);
         i += 1;
     }
     false

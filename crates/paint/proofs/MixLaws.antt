@@ -15,11 +15,11 @@ use Rattle.ink.specs.declared.Ink.{Ink}
 use Rattle.paint.specs.declared.Source.{Source}
 use Rattle.paint.specs.Mix.{source, chosen, targetMatch, patternless, mixed, direct}
 
--- a pixel is given what the steps of the code make
-pub mixed-by : (ink : Ink) (pattern : ℕ) (s : Source) {old code v now : ℕ} {match : Bool} → old ≡ now → match ≡ targetMatch ink old → code ≡ chosen ink (s .key) match
-    → v ≡ ropBits 32 code pattern (s .value) old → cond (s .left) none (some v) ≡ mixed ink pattern s now
+-- a pixel is given what pattern, source and target make
+pub mixed-by : (ink : Ink) (pattern : ℕ) (s : Source) {old v now : ℕ} → old ≡ now → v ≡ ropBits 32 (chosen ink (s .key) (targetMatch ink old)) pattern (s .value) old
+    → cond (s .left) none (some v) ≡ mixed ink pattern s now
 unfolding mixed
-mixed-by ink pattern s o t k r = rw (← o, ← t, ← k, ← r)
+mixed-by ink pattern s o r = rw (← o, ← r)
 
 -- ---- a pattern that no raster operation looks at
 pub pattern-unread : (ink : Ink) (p q : ℕ) (s : Source) (old : ℕ) → patternless ink ≡ true → mixed ink p s old ≡ mixed ink q s old

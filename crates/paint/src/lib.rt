@@ -9,7 +9,8 @@ ghost use Prim.Native.Nat.{_+_, _-_, _^_, _<_, _≤_};
 ghost use lib.ListN.{length};
 ghost use Rattle.surface.specs.Place.{readPx};
 ghost use Rattle.surface.specs.Pixels.{px};
-ghost use Rattle.surface.specs.Asked.{Held, OnColour};
+ghost use Rattle.surface.specs.Asked.{Held, OnColour, OnClose};
+ghost use Rattle.raster.specs.Rop.{ropBits};
 ghost use Rattle.paint.specs.Tally.{noted};
 ghost use Rattle.paint.specs.Paint.{tallied, dab, dabAt, nth};
 ghost use Rattle.paint.specs.Mix.{colourSource, bitSource, chosen, targetMatch, mixed, direct, patternless};
@@ -118,6 +119,14 @@ fn matches_target(ink: Ink, old: u32) -> bool
     false
 }
 
+// What pattern, source and target make.
+pub fn mix(ink: Ink, pattern: u32, s: Source, old: u32) -> u32
+    ensures { λ r. ⌜ r ≡ ropBits 32 (chosen ink (s .key) (targetMatch ink old)) pattern (s .value) old ⌝ }
+{
+    let code = choose(ink, s.key, matches_target(ink, old));
+    raster::raster(code, pattern, s.value, old)
+}
+
 // Whether a pixel gets its source, where the source matches no key.
 pub fn is_direct(ink: Ink) -> bool
     ensures { λ r. ⌜ r ≡ direct ink ⌝ }
@@ -156,6 +165,18 @@ pub fn put_value(mem: &mut [u8], s: Surface, x: u32, y: u32, left: bool, v: u32,
     note(n, 1, surface::one(changed))
 }
 
+// The same of a pixel close to the origin.
+pub fn put_close(mem: &mut [u8], s: Surface, x: u32, y: u32, left: bool, v: u32, n: Tally) -> Tally
+    requires { ⌜ OnClose s (length (now mem)) x y × Room n 1 ⌝ }
+    ensures { λ r. ⌜ tallied (now (mem .exit)) r ≡ dab s (px x y) (cond left none (some v)) (tallied (now (mem .entry)) n) ⌝ }
+{
+    if left {
+        return n;
+    }
+    let changed = surface::put_close(mem, s, x, y, v);
+    note(n, 1, surface::one(changed))
+}
+
 // The same of a pixel of so many bytes from an address on.
 pub fn put_value_at(mem: &mut [u8], at: usize, bytes: u32, left: bool, v: u32, n: Tally) -> Tally
     requires { ⌜ Held at bytes (length (now mem)) × Room n 1 ⌝ }
@@ -183,7 +204,6 @@ pub fn put_source(
 {
     let target = ink.target;
     let old = surface::get_pixel(mem, target, x, y);
-    let code = choose(ink, s.key, matches_target(ink, old));
-    let v = raster::raster(code, pattern, s.value, old);
+    let v = mix(ink, pattern, s, old);
     put_value(mem, target, x, y, s.left, v, n)
 }

@@ -3,6 +3,7 @@ use ink::Ink;
 use line::Line;
 use line::Pen;
 use line::Point;
+use line::Tread;
 use paint::Clip;
 use paint::Tally;
 ghost use mathlib.Core.Path.{_≡_};
@@ -11,10 +12,11 @@ ghost use Prim.Native.Nat.{_+_, _-_, _<_};
 ghost use lib.ListN.{length};
 ghost use Rattle.surface.specs.Place.{readPx};
 ghost use Rattle.surface.specs.Pixels.{px};
+ghost use Rattle.surface.specs.Asked.{OnClose};
 ghost use Rattle.paint.specs.Paint.{state, tallied, dab, paint};
 ghost use Rattle.ink.specs.Pattern.{patternValue};
 ghost use Rattle.paint.specs.Mix.{bitSource, mixed};
-ghost use Rattle.paint.specs.Asked.{Ready};
+ghost use Rattle.paint.specs.Asked.{Room};
 ghost use Rattle.line.specs.Line.{pointCount, points};
 ghost use Rattle.line.specs.Stipple.{after, styleAfter};
 ghost use Rattle.line.specs.Draw.{lineTouches};
@@ -30,35 +32,38 @@ pub struct LineDone {
 fn put_point(
     mem: &mut [u8],
     ink: Ink,
-    pattern: [u8; 256],
+    pattern: &[u8; 256],
     x: u32,
     y: u32,
     bit: u32,
     n: Tally,
 ) -> Tally
-    requires { ⌜ Ready ink (length (now mem)) x y n ⌝ }
-    ensures { λ r. ⌜ tallied (now (mem .exit)) r ≡ dab (ink .target) (px x y) (mixed ink (patternValue ink pattern x y) (bitSource ink bit) (readPx (now (mem .entry)) (ink .target) x y)) (tallied (now (mem .entry)) n) ⌝ }
+    requires { ⌜ OnClose (ink .target) (length (now mem)) x y × Room n 1 ⌝ }
+    ensures { λ r. ⌜ tallied (now (mem .exit)) r ≡ dab (ink .target) (px x y) (mixed ink (patternValue ink (now (pattern .entry)) x y) (bitSource ink bit) (readPx (now (mem .entry)) (ink .target) x y)) (tallied (now (mem .entry)) n) ⌝ }
 {
     let source = paint::bit_source(ink, bit);
+    let s = ink.target;
     if paint::is_direct(ink) {
-        return paint::put_value(mem, ink.target, x, y, source.left, source.value, n);
+        return paint::put_close(mem, s, x, y, source.left, source.value, n);
     }
-    let value = ink::pattern_at(ink, pattern, x, y);
-    paint::put_source(mem, ink, value, x, y, source, n)
+    let value = ink::pattern_seen(ink, pattern, x, y);
+    let old = surface::get_close(mem, s, x, y);
+    let v = paint::mix(ink, value, source, old);
+    paint::put_close(mem, s, x, y, source.left, v, n)
 }
 
 // One point drawn, after those that left `done`.
 fn paint_point(
     mem: &mut [u8],
     ink: Ink,
-    pattern: [u8; 256],
+    pattern: &[u8; 256],
     c: Clip,
     p: Point,
     pen: Pen,
     done: LineDone,
 ) -> LineDone
     requires { ⌜ DrawablePoint (ink .target) (length (now mem)) c p (done .tally) ⌝ }
-    ensures { λ r. ⌜ (tallied (now (mem .exit)) (r .tally) ≡ paint (ink .target) (lineTouches ink pattern c pen (done .style) (p ∷ [])) (tallied (now (mem .entry)) (done .tally))) × (r .style ≡ after pen (done .style)) ⌝ }
+    ensures { λ r. ⌜ (tallied (now (mem .exit)) (r .tally) ≡ paint (ink .target) (lineTouches ink (now (pattern .entry)) c pen (done .style) (p ∷ [])) (tallied (now (mem .entry)) (done .tally))) × (r .style ≡ after pen (done .style)) ⌝ }
 {
     let next = line::style_after(pen, done.style);
     let tally = done.tally;
@@ -90,6 +95,8 @@ pub fn paint_each(
     requires { ⌜ Drawable (ink .target) (length (now mem)) c l ⌝ }
     ensures { λ r. ⌜ (tallied (now (mem .exit)) (r .tally) ≡ paint (ink .target) (lineTouches ink pattern c pen style (points l)) (state (now (mem .entry)) 0 0)) × (r .style ≡ styleAfter pen (pointCount l) style) ⌝ }
 {
+    let n = line::long_side(l);
+    let m = line::short_side(l);
     let total = line::point_count(l);
     let mut done = LineDone {
         style: style,
@@ -98,10 +105,12 @@ pub fn paint_each(
             changed: 0,
         },
     };
+    let mut t = Tread { aside: 0, rest: n };
     let mut i = 0;
     while i < total {
-        let p = line::line_point(l, i);
-        done = paint_point(mem, ink, pattern, c, p, pen, done);
+        let p = line::place_point(l, i, t.aside);
+        done = paint_point(mem, ink, &pattern, c, p, pen, done);
+        t = line::tread_on(n, m, t);
         i += 1;
     }
     done

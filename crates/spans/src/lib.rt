@@ -2,9 +2,9 @@
 use surface::Surface;
 ghost use mathlib.Core.Path.{_≡_};
 ghost use mathlib.Core.Bool.{false};
-ghost use Prim.Native.Nat.{_+_, _-_, _^_, _<_};
+ghost use Prim.Native.Nat.{_+_, _-_, _^_, _<_, _≤_};
 ghost use Rattle.surface.specs.Place.{rowPixels, firstByte, byteCount, onSurface};
-ghost use Rattle.surface.specs.Asked.{Small};
+ghost use Rattle.surface.specs.Asked.{Small, Colour};
 ghost use Rattle.surface.specs.Pixels.{rect};
 ghost use Rattle.spans.specs.Span.{allOn, spanOf, meet};
 ghost use Rattle.spans.specs.Asked.{InRow};
@@ -62,6 +62,18 @@ pub fn on_surface(len: usize, s: Surface, x: usize, y: usize) -> bool
     }
 }
 
+// The same of a colour pixel close to the origin: without a division, and no product has more than 32 bits.
+pub fn close_on(len: usize, s: Surface, x: u32, y: u32) -> bool
+    requires { ⌜ Colour s × (x < 2 ^ 13) × (y < 2 ^ 13) ⌝ }
+    ensures { λ r. ⌜ r ≡ onSurface s len x y ⌝ }
+{
+    let last = x * s.bytes + (s.bytes - 1);
+    if surface::wide(last) < surface::row_bytes(s) {
+        return surface::close_at(s, last, y) < len;
+    }
+    false
+}
+
 // Whether every pixel of a rectangle is: where the last one is, all are.
 pub fn rect_on(len: usize, s: Surface, x: u32, y: u32, w: u32, h: u32) -> bool
     requires { ⌜ Small s ⌝ }
@@ -79,6 +91,20 @@ pub fn rect_on(len: usize, s: Surface, x: u32, y: u32, w: u32, h: u32) -> bool
         surface::wide(x) + (surface::wide(w) - 1),
         surface::wide(y) + (surface::wide(h) - 1),
     )
+}
+
+// The same of w by h pixels at the origin of a colour surface, again without a division.
+pub fn box_on(len: usize, s: Surface, w: u32, h: u32) -> bool
+    requires { ⌜ Colour s × (w ≤ 2 ^ 13) × (h ≤ 2 ^ 13) ⌝ }
+    ensures { λ r. ⌜ r ≡ allOn s len (rect false false 0 0 w h) ⌝ }
+{
+    if w == 0 {
+        return true;
+    }
+    if h == 0 {
+        return true;
+    }
+    close_on(len, s, w - 1, h - 1)
 }
 
 // The span of a rectangle's pixels.

@@ -2,11 +2,10 @@
 -- Assumes nothing.
 use mathlib.Core.Path.{_≡_, refl, sym, ap, _∙_}
 use mathlib.Core.Bool.{Bool, true, false}
-use Prim.Native.Nat.{ℕ, zero, suc, _+_, _-_, _*_, _/_, _%_, _^_, _<_, _≤_}
-use native.Mathlib.Nat.{add-mul, one-mul, mul-le-mul-left, div-add-mod', mod-lt, mod-eq-of-lt}
+use Prim.Native.Nat.{ℕ, _+_, _-_, _*_, _%_, _^_, _<_, _≤_}
+use native.Mathlib.Nat.{one-mul, mul-le-mul-left}
 use native.Mathlib.Omega.{arith}
 use borrow.Author.Tests.{ltb-true, ltb-false, leb-false}
-use lib.Arith.{digits-div, digits-mod}
 use lib.Dec.{leb, ltb}
 use Rattle.surface.specs.declared.Surface.{Surface}
 use Rattle.surface.specs.Place.{byteOf}
@@ -22,43 +21,8 @@ use Rattle.line.specs.Asked.{Placed}
 use Rattle.strokes.specs.Walk.{shift, across, down, stepsOf, walk, walkedOn, AtPoint}
 use Rattle.strokes.specs.Asked.{Ahead}
 use Rattle.line.proofs.Sides.{either, longer-x, longer-y, shorter-x, shorter-y, shorter-le, longer-lt, aside-le}
+use Rattle.line.proofs.TreadLaws.{aside-stays, aside-grows, start-rest}
 use Rattle.line.proofs.PointLaws.{place-x, place-y, point-box, first}
-
--- ---- the steps along the minor axis: a sum goes on by k, at most the divisor
-module _ (q r d t k : ℕ) (e : t ≡ q * d + r + k) where
-  below : r + k < d → (t / d ≡ q) × (t % d ≡ r + k)
-  below h =
-      let f : t ≡ q * d + (r + k) = omega arith in
-      (ap (λ (u : ℕ). u / d) f ∙ digits-div q h, ap (λ (u : ℕ). u % d) f ∙ digits-mod q h)
-
-  above : d ≤ r + k → r + k < d + d → (t / d ≡ q + 1) × (t % d ≡ r + k - d)
-  above h g =
-      let f : t ≡ (q + 1) * d + (r + k - d) = omega (arith, add-mul q 1 d) in
-      let s : r + k - d < d = omega arith in
-      (ap (λ (u : ℕ). u / d) f ∙ digits-div (q + 1) s, ap (λ (u : ℕ). u % d) f ∙ digits-mod (q + 1) s)
-
-abbrev leftOver : ℕ → ℕ → ℕ → ℕ
-leftOver n m i = (2 * i * m + n) % (2 * n)
-
-module _ (n m i : ℕ) (h : m ≤ n) (p : 0 < n) where
-  sum : 2 * (i + 1) * m + n ≡ aside n m i * (2 * n) + leftOver n m i + 2 * m
-  unfolding aside
-  sum =
-      let d : 2 * (i + 1) * m ≡ 2 * i * m + 2 * m = ap (λ (k : ℕ). k * m) (omega arith) ∙ add-mul (2 * i) 2 m in
-      let f : 2 * (i + 1) * m + n ≡ 2 * i * m + n + 2 * m = omega arith in
-      f ∙ ap (λ (t : ℕ). t + 2 * m) (sym (div-add-mod' (2 * i * m + n) (2 * n)))
-
-  aside-stays : leftOver n m i < 2 * n - 2 * m → (aside n m (i + 1) ≡ aside n m i) × (leftOver n m (i + 1) ≡ leftOver n m i + 2 * m)
-  unfolding aside
-  aside-stays g = below (aside n m i) (leftOver n m i) (2 * n) (2 * (i + 1) * m + n) (2 * m) sum (omega arith)
-
-  aside-grows : 2 * n - 2 * m ≤ leftOver n m i
-      → (aside n m (i + 1) ≡ aside n m i + 1) × (leftOver n m (i + 1) ≡ leftOver n m i - (2 * n - 2 * m))
-  unfolding aside
-  aside-grows g =
-      let l : leftOver n m i < 2 * n = mod-lt (2 * i * m + n) (omega arith) in
-      let r = above (aside n m i) (leftOver n m i) (2 * n) (2 * (i + 1) * m + n) (2 * m) sum (omega arith) (omega arith) in
-      (r .0, r .1 ∙ omega arith)
 
 -- ---- from a to b, up by u or down by u
 abbrev pub Step : Bool → ℕ → ℕ → ℕ → Type 0
@@ -113,10 +77,6 @@ module _ (s : Surface) (flat : s .tiled ≡ false) (small : Small s) (x y : ℕ)
 pub steps-small : (s : Surface) (l : Line) → Placed l → stepsOf s l .limit + stepsOf s l .more < 2 ^ 32
 unfolding stepsOf
 steps-small s l h = omega (arith, longer-lt h, shorter-le l)
-
-start-rest : (n m : ℕ) → n ≡ leftOver n m 0
-start-rest zero m = let q : 2 * 0 * m + 0 ≡ 0 = omega arith in rw q refl
-start-rest (suc n) m = let q : 2 * 0 * m + suc n ≡ suc n = omega arith in rw q (sym (mod-eq-of-lt (omega arith)))
 
 pub walk-start : (s : Surface) (l : Line) (a r : ℕ) → a ≡ byteOf s (l .x0 - origin) (l .y0 - origin) 0 → r ≡ longer l → AtPoint s l 0 (walk a r)
 walk-start s l a r e f = record { at = rw (first l) e; rest = f ∙ start-rest (longer l) (shorter l) }

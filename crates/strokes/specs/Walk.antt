@@ -22,6 +22,7 @@ use Rattle.strokes.specs.declared.Walk.{Walk}
 use Rattle.strokes.specs.declared.Steps.{Steps}
 use Rattle.strokes.specs.declared.Phase.{Phase}
 use Rattle.line.specs.Line.{xMajor, longer, shorter, pointAt}
+use Rattle.line.specs.Tread.{leftOver}
 use Rattle.line.specs.Stipple.{repeatCount, size, position, bitNumber, styleOf, stippleBit, after}
 
 -- ---- the steps
@@ -55,7 +56,7 @@ walkedOn t w =
 -- the walk is at point i: the address of its first byte, and what the division that gives its steps along the minor axis leaves
 pub record AtPoint (s : Surface) (l : Line) (i : ℕ) (w : Walk) : Type 0 where
   pub at : w .at ≡ byteOf s (pointAt l i .x - origin) (pointAt l i .y - origin) 0
-  pub rest : w .rest ≡ (2 * i * shorter l + longer l) % (2 * longer l)
+  pub rest : w .rest ≡ leftOver (longer l) (shorter l) i
 
 -- ---- what is put there
 

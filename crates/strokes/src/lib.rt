@@ -173,7 +173,7 @@ fn walk_line(mem: &mut [u8], ink: Ink, l: Line, pen: Pen, style: u32) -> LineDon
     let n = s.bytes;
     let t = steps_of(s, l);
     let mut w = Walk {
-        at: surface::byte_of(s, l.x0 - 16384, l.y0 - 16384, 0),
+        at: surface::close_byte(s, l.x0 - 16384, l.y0 - 16384, 0),
         rest: line::long_side(l),
     };
     let mut p = phase_of(style);
@@ -204,7 +204,7 @@ fn walk_plain(mem: &mut [u8], ink: Ink, l: Line) -> Tally
     let n = s.bytes;
     let t = steps_of(s, l);
     let mut w = Walk {
-        at: surface::byte_of(s, l.x0 - 16384, l.y0 - 16384, 0),
+        at: surface::close_byte(s, l.x0 - 16384, l.y0 - 16384, 0),
         rest: line::long_side(l),
     };
     let mut tally = Tally {

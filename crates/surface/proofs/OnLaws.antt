@@ -3,7 +3,7 @@
 use mathlib.Core.Path.{_≡_, refl, sym, ap, ap₂, subst, _∙_}
 use mathlib.Core.Bool.{Bool, true, false, cond, _&&_, and-true}
 use Prim.Native.Nat.{ℕ, zero, suc, _+_, _*_, _/_, _-_, _<_, _≤_}
-use native.Mathlib.Nat.{le-refl, lt-of-lt-of-le, lt-of-le-of-lt, div-mul-le-self, mul-le-mul-right, add-zero}
+use native.Mathlib.Nat.{le-refl, lt-of-lt-of-le, lt-of-le-of-lt, div-mul-le-self, mul-le-mul-right, add-zero, add-mul, le-div-iff-mul-le}
 use native.Mathlib.Omega.{arith}
 use lib.Arith.{digits-lt}
 use lib.Dec.{eqb, ltb}
@@ -105,6 +105,20 @@ on-decided s len x y = by-test (ltb x (rowPixels s)) refl
         → (t && inMemory s len (firstByte s x) (byteCount s) y) ≡ (t && ltb (byteAt s (lastByte s x) y) len)
     by-test true e = last-decides s len (firstByte s x) (byteCount s) y (some-byte s) (last-in-row s x (ltb-true _ _ e))
     by-test false e = refl
+
+-- of a colour pixel both tests go by its last byte, so that nothing is divided
+abbrev pub endByte : Surface → ℕ → ℕ
+endByte s x = x * s .bytes + (s .bytes - 1)
+
+pub on-by-end : (s : Surface) (len x y : ℕ) → 0 < s .bytes → onSurface s len x y ≡ (ltb (endByte s x) (rowBytes s) && ltb (byteAt s (endByte s x) y) len)
+on-by-end s len x y p =
+    let last : lastByte s x ≡ endByte s x = ap₂ (λ (a b : ℕ). a + (b - 1)) (colour-first s x p) (colour-count s x p) in
+    let fits : ltb x (rowPixels s) ≡ ltb (endByte s x) (rowBytes s) =
+    same-test _ _ (λ e. lt-ltb _ _ (subst (λ (n : ℕ). n < rowBytes s) last (last-in-row s x (ltb-true _ _ e))))
+    (λ e.
+    let q : x + 1 ≤ rowBytes s / s .bytes = le-div-iff-mul-le {k = s .bytes} {x = x + 1} {y = rowBytes s} p .1 (omega (arith, ltb-true (endByte s x) (rowBytes s) e, add-mul x 1 (s .bytes))) in
+    lt-ltb x (rowPixels s) (omega (arith, colour-pixels s x p))) in
+    on-decided s len x y ∙ ap₂ (λ a b. a && b) fits (ap (λ (n : ℕ). ltb (byteAt s n y) len) last)
 
 -- what a pixel on the surface has
 module _ (s : Surface) (len x y : ℕ) (on : onSurface s len x y ≡ true) where

@@ -23,6 +23,12 @@ pub record Near (s : Surface) (column y : ℕ) : Type 0 where
   pub across : column < 2 ^ 40
   pub down : y < 2 ^ 34
 
+-- one so close to the origin that 32 bits are enough for it
+pub record Close (s : Surface) (column y : ℕ) : Type 0 where
+  pub small : Small s
+  pub across : column < 2 ^ 17
+  pub down : y < 2 ^ 13
+
 -- byte k of a colour pixel, in a memory of len bytes
 pub record HasByte (s : Surface) (len x y k : ℕ) : Type 0 where
   pub colour : Colour s
@@ -39,6 +45,12 @@ pub record Held (at n len : ℕ) : Type 0 where
 pub record OnColour (s : Surface) (len x y : ℕ) : Type 0 where
   pub colour : Colour s
   pub on : onSurface s len x y ≡ true
+
+-- the first of the two, close to the origin
+pub record OnClose (s : Surface) (len x y : ℕ) : Type 0 where
+  pub on : OnColour s len x y
+  pub across : x < 2 ^ 13
+  pub down : y < 2 ^ 13
 
 pub record OnMono (s : Surface) (len x y : ℕ) : Type 0 where
   pub small : Small s

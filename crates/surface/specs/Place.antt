@@ -66,6 +66,10 @@ differ at n m m′ = not (eqb (readBytes m at 0 n) (readBytes m′ at 0 n))
 abbrev pub differs : Surface → ℕ → ℕ → List ℕ → List ℕ → Bool
 differs s x y m m′ = not (eqb (readPx m s x y) (readPx m′ s x y))
 
+-- three addresses by their number
+abbrev pub three : ℕ → ℕ → ℕ → ℕ → ℕ
+three a b c k = cond (eqb k 0) a (cond (eqb k 1) b c)
+
 -- pixel (x, y) of a mono source: bit 7 - (x mod 8) of byte floor(x / 8) of its row
 unfoldable pub monoBit : List ℕ → Surface → ℕ → ℕ → ℕ
 monoBit m s x y = getD m (byteAt s (x / 8) y) 0 / 2 ^ (7 - x % 8) % 2

@@ -3,8 +3,8 @@ ghost use mathlib.Core.Path.{_≡_};
 ghost use mathlib.Core.Bool.{false};
 ghost use Prim.Native.Nat.{_+_, _-_, _/_, _%_, _^_, _<_, _≤_, min};
 ghost use lib.ListN.{length, getD, set};
-ghost use Rattle.surface.specs.Place.{sameSurface, one, rowBytes, byteAt, byteOf, readBytes, writeBytes, readPx, writePx, differ, differs, monoBit};
-ghost use Rattle.surface.specs.Asked.{Small, Colour, Near, Held, OnColour, OnMono};
+ghost use Rattle.surface.specs.Place.{sameSurface, one, rowBytes, byteAt, byteOf, readBytes, writeBytes, readPx, writePx, differ, differs, three, monoBit};
+ghost use Rattle.surface.specs.Asked.{Small, Colour, Near, Close, Held, OnColour, OnClose, OnMono};
 
 pub struct Surface {
     pub base: u32,
@@ -85,6 +85,25 @@ pub fn place_in_rows(s: Surface, x: u32, y: u32) -> usize
     wide(s.base) + wide(y) * wide(s.stride) + wide(x) * wide(s.bytes)
 }
 
+// The same two of a place close to the origin: no product has more than 32 bits.
+pub fn close_at(s: Surface, column: u32, y: u32) -> usize
+    requires { ⌜ Close s column y ⌝ }
+    ensures { λ r. ⌜ r ≡ byteAt s column y ⌝ }
+{
+    if s.tiled {
+        return wide(y / 32 * s.stride + column / 128) * 4096
+            + wide(s.base + (y % 32 * 128 + column % 128));
+    }
+    wide(s.base + y * s.stride + column)
+}
+
+pub fn close_byte(s: Surface, x: u32, y: u32, k: u32) -> usize
+    requires { ⌜ Colour s × (k < s .bytes) × (x < 2 ^ 13) × (y < 2 ^ 13) ⌝ }
+    ensures { λ r. ⌜ r ≡ byteOf s x y k ⌝ }
+{
+    close_at(s, x * s.bytes + k, y)
+}
+
 fn get_byte(mem: &[u8], at: usize) -> u32
     requires { ⌜ at < length (now mem) ⌝ }
     ensures { λ r. ⌜ (r ≡ getD (now (mem .entry)) at 0) × (r < 256) ⌝ }
@@ -152,41 +171,35 @@ pub fn store_bytes(mem: &mut [u8], at: usize, n: u32, v: u32) -> bool
     old != get_bytes(mem, at, n)
 }
 
-// A pixel of three bytes, wherever each of them lies.
-fn get_three(mem: &[u8], s: Surface, x: u32, y: u32) -> u32
-    requires { ⌜ OnColour s (length (now mem)) x y × (s .bytes ≡ 3) ⌝ }
-    ensures { λ r. ⌜ r ≡ readPx (now (mem .entry)) s x y ⌝ }
+// Three bytes, wherever each of them lies.
+fn get_three(mem: &[u8], at0: usize, at1: usize, at2: usize) -> u32
+    requires { ⌜ (at0 < length (now mem)) × (at1 < length (now mem)) × (at2 < length (now mem)) ⌝ }
+    ensures { λ r. ⌜ r ≡ readBytes (now (mem .entry)) (three at0 at1 at2) 0 3 ⌝ }
 {
-    let at0 = byte_of(s, x, y, 0);
-    let at1 = byte_of(s, x, y, 1);
-    let at2 = byte_of(s, x, y, 2);
     let b0 = get_byte(mem, at0);
     let b1 = get_byte(mem, at1);
     let b2 = get_byte(mem, at2);
     b0 + b1 * 0x100 + b2 * 0x1_0000
 }
 
-fn put_three(mem: &mut [u8], s: Surface, x: u32, y: u32, v: u32)
-    requires { ⌜ OnColour s (length (now mem)) x y × (s .bytes ≡ 3) ⌝ }
-    ensures { λ _. ⌜ now (mem .exit) ≡ writePx (now (mem .entry)) s x y v ⌝ }
+fn put_three(mem: &mut [u8], at0: usize, at1: usize, at2: usize, v: u32)
+    requires { ⌜ (at0 < length (now mem)) × (at1 < length (now mem)) × (at2 < length (now mem)) ⌝ }
+    ensures { λ _. ⌜ now (mem .exit) ≡ writeBytes (three at0 at1 at2) 0 3 v (now (mem .entry)) ⌝ }
 {
-    let at0 = byte_of(s, x, y, 0);
-    let at1 = byte_of(s, x, y, 1);
-    let at2 = byte_of(s, x, y, 2);
     put_byte(mem, at0, v);
     let v1 = v / 256;
     put_byte(mem, at1, v1);
     put_byte(mem, at2, v1 / 256);
 }
 
-// The same; whether it was another before.
-fn store_three(mem: &mut [u8], s: Surface, x: u32, y: u32, v: u32) -> bool
-    requires { ⌜ OnColour s (length (now mem)) x y × (s .bytes ≡ 3) ⌝ }
-    ensures { λ r. ⌜ (now (mem .exit) ≡ writePx (now (mem .entry)) s x y v) × (r ≡ differs s x y (now (mem .entry)) (now (mem .exit))) ⌝ }
+// The same; whether they were others before.
+fn store_three(mem: &mut [u8], at0: usize, at1: usize, at2: usize, v: u32) -> bool
+    requires { ⌜ (at0 < length (now mem)) × (at1 < length (now mem)) × (at2 < length (now mem)) ⌝ }
+    ensures { λ r. ⌜ (now (mem .exit) ≡ writeBytes (three at0 at1 at2) 0 3 v (now (mem .entry))) × (r ≡ differ (three at0 at1 at2) 3 (now (mem .entry)) (now (mem .exit))) ⌝ }
 {
-    let old = get_three(mem, s, x, y);
-    put_three(mem, s, x, y, v);
-    old != get_three(mem, s, x, y)
+    let old = get_three(mem, at0, at1, at2);
+    put_three(mem, at0, at1, at2, v);
+    old != get_three(mem, at0, at1, at2)
 }
 
 // A pixel of a surface in rows.
@@ -214,10 +227,10 @@ pub fn get_pixel(mem: &[u8], s: Surface, x: u32, y: u32) -> u32
     if !s.tiled {
         return get_in_rows(mem, s, x, y);
     }
-    if s.bytes == 3 {
-        return get_three(mem, s, x, y);
-    }
     let at = byte_of(s, x, y, 0);
+    if s.bytes == 3 {
+        return get_three(mem, at, byte_of(s, x, y, 1), byte_of(s, x, y, 2));
+    }
     get_bytes(mem, at, s.bytes)
 }
 
@@ -229,10 +242,33 @@ pub fn put_pixel(mem: &mut [u8], s: Surface, x: u32, y: u32, v: u32) -> bool
     if !s.tiled {
         return put_in_rows(mem, s, x, y, v);
     }
-    if s.bytes == 3 {
-        return store_three(mem, s, x, y, v);
-    }
     let at = byte_of(s, x, y, 0);
+    if s.bytes == 3 {
+        return store_three(mem, at, byte_of(s, x, y, 1), byte_of(s, x, y, 2), v);
+    }
+    store_bytes(mem, at, s.bytes, v)
+}
+
+// The same two of a pixel close to the origin.
+pub fn get_close(mem: &[u8], s: Surface, x: u32, y: u32) -> u32
+    requires { ⌜ OnClose s (length (now mem)) x y ⌝ }
+    ensures { λ r. ⌜ r ≡ readPx (now (mem .entry)) s x y ⌝ }
+{
+    let at = close_byte(s, x, y, 0);
+    if s.tiled & (s.bytes == 3) {
+        return get_three(mem, at, close_byte(s, x, y, 1), close_byte(s, x, y, 2));
+    }
+    get_bytes(mem, at, s.bytes)
+}
+
+pub fn put_close(mem: &mut [u8], s: Surface, x: u32, y: u32, v: u32) -> bool
+    requires { ⌜ OnClose s (length (now mem)) x y ⌝ }
+    ensures { λ r. ⌜ (now (mem .exit) ≡ writePx (now (mem .entry)) s x y v) × (r ≡ differs s x y (now (mem .entry)) (now (mem .exit))) ⌝ }
+{
+    let at = close_byte(s, x, y, 0);
+    if s.tiled & (s.bytes == 3) {
+        return store_three(mem, at, close_byte(s, x, y, 1), close_byte(s, x, y, 2), v);
+    }
     store_bytes(mem, at, s.bytes, v)
 }
 

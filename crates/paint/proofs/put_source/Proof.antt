@@ -13,14 +13,8 @@ use Rattle.paint.proofs.put_source.Tie as tie
 get-pixel-requires : tie.Need-get-pixel-requires
 get-pixel-requires c κs = search needs
 
-matches-target-requires : tie.Need-matches-target-requires
-matches-target-requires c κs = search needs
-
-choose-requires : tie.Need-choose-requires
-choose-requires c κs = search needs
-
-raster-requires : tie.Need-raster-requires
-raster-requires c κs = search needs
+mix-requires : tie.Need-mix-requires
+mix-requires c κs = search needs
 
 put-value-requires : tie.Need-put-value-requires
 put-value-requires c κs = search needs
@@ -29,21 +23,10 @@ same-length : tie.Need-same-length
 same-length c = search needs
 
 returns : tie.Need-returns
-returns c =
-    let a = c .before .before .before .before .before .before .before .before .before .before .before .args in
+returns c = let a = c .before .before .before .before .before .before .before .before .before .args in
     c .before .before .put-value .ensures
-    ∙ ap (λ (o : Option ℕ). dab (a .ink .target) (px (a .x) (a .y)) o (tallied (a .mem .now) (a .n)))
-    (mixed-by (a .ink) (a .pattern) (a .s) (c .before .before .before .before .before .before .before .get-pixel .ensures) (c .before .before .before .before .before .before .matches-target .ensures)
-    (c .before .before .before .before .before .choose .ensures) (c .before .before .before .before .raster .ensures))
+    ∙ ap (λ (o : Option ℕ). dab (a .ink .target) (px (a .x) (a .y)) o (tallied (a .mem .now) (a .n))) (mixed-by (a .ink) (a .pattern) (a .s) (c .before .before .before .before .before .get-pixel .ensures) (c .before .before .before .before .mix .ensures))
 
 pub put-source-spec : {M : Type 1} → statement M
 put-source-spec =
-    tie.close
-    (tie.spec
-    get-pixel-requires
-    matches-target-requires
-    choose-requires
-    raster-requires
-    put-value-requires
-    same-length
-    returns)
+    tie.close (tie.spec get-pixel-requires mix-requires put-value-requires same-length returns)

@@ -25,7 +25,7 @@ returns : tie.Need-returns
 returns c =
     let a = c .before .before .before .before .before .args in
     let out = sym (c .before .covers .ensures) ∙ not-true (c .before .covers .result) (c .if1 .taken) in
-    (paint-clipped (a .ink) (a .pattern) (a .c) (a .pen) (a .p) (a .done .style) (tallied (a .mem .now) (a .done .tally)) out, c .before .before .before .style-after .ensures)
+    (paint-clipped (a .ink) (a .pattern .now) (a .c) (a .pen) (a .p) (a .done .style) (tallied (a .mem .now) (a .done .tally)) out, c .before .before .before .style-after .ensures)
 
 sub-x : tie.Need-sub-x
 sub-x c = omega (arith, in-clip _ _ _ (inside (c .before)))
@@ -40,7 +40,10 @@ put-point-requires : tie.Need-put-point-requires
 put-point-requires c κs =
     let a = c .before .before .before .before .before .before .before .before .before .args in
     let p = c .before .before .before .before .before .before .before .before .before .pre in
-    record { on = record { colour = p .surface; on = point-on (a .ink .target) _ (a .c) (a .p) (p .on) (inside (c .before .before .before .before)) }; room = p .room }
+    let k = in-clip _ _ _ (inside (c .before .before .before .before)) in (
+      record { on = record { colour = p .surface; on = point-on (a .ink .target) _ (a .c) (a .p) (p .on) (inside (c .before .before .before .before)) }; across = omega (arith, p .clip); down = omega (arith, p .clip) },
+      p .room,
+    )
 
 same-length : tie.Need-same-length
 same-length c = search needs
@@ -48,7 +51,7 @@ same-length c = search needs
 returns-2 : tie.Need-returns-2
 returns-2 c =
     let a = c .before .before .before .before .before .before .before .before .before .before .before .before .args in (
-      paint-covered (a .ink) (a .pattern) (a .c) (a .pen) (a .p) (a .done .style) (tallied (a .mem .now) (a .done .tally)) (inside (c .before .before .before .before .before .before .before)) (c .before .before .before .before .stipple-bit .ensures) (c .before .before .put-point .ensures),
+      paint-covered (a .ink) (a .pattern .now) (a .c) (a .pen) (a .p) (a .done .style) (tallied (a .mem .now) (a .done .tally)) (inside (c .before .before .before .before .before .before .before)) (c .before .before .before .before .stipple-bit .ensures) (c .before .before .put-point .ensures),
       c .before .before .before .before .before .before .before .before .before .before .style-after .ensures,
     )
 

@@ -39,14 +39,16 @@ abbrev μ-loop : tie.MeasureT-loop
 steps-of-requires : tie.Need-steps-of-requires Inv-loop μ-loop
 steps-of-requires c κs = c .before .before .pre .ahead .line
 
-sub-byte-of : tie.Need-sub-byte-of Inv-loop μ-loop
-sub-byte-of c = c .before .before .before .before .pre .ahead .left
+sub-close-byte : tie.Need-sub-close-byte Inv-loop μ-loop
+sub-close-byte c = c .before .before .before .before .pre .ahead .left
 
-sub-byte-of-2 : tie.Need-sub-byte-of-2 Inv-loop μ-loop
-sub-byte-of-2 c = c .before .before .before .before .before .pre .ahead .top
+sub-close-byte-2 : tie.Need-sub-close-byte-2 Inv-loop μ-loop
+sub-close-byte-2 c = c .before .before .before .before .before .pre .ahead .top
 
-byte-of-requires : tie.Need-byte-of-requires Inv-loop μ-loop
-byte-of-requires c κs = (c .before .before .before .before .before .pre .surface, c .before .before .before .before .before .pre .surface .some)
+close-byte-requires : tie.Need-close-byte-requires Inv-loop μ-loop
+close-byte-requires c κs =
+    let p = c .before .before .before .before .before .pre in
+    (p .surface, p .surface .some, omega (arith, p .ahead .line .x0), omega (arith, p .ahead .line .y0))
 
 long-side-requires : tie.Need-long-side-requires Inv-loop μ-loop
 long-side-requires c κs = search needs
@@ -61,7 +63,7 @@ loop-holds c =
     let n = pointCount (a .l) in (
       left-begins (ap₂ (λ (u : ℕ) (ps : List Point). walkTouches (a .ink) (a .pen) u ps) e (from-start (a .l) n refl)),
       ap (styleAfter (a .pen) (n - 0)) e ∙ style-start (a .pen) n n (a .style) refl,
-      (λ h. walk-start (a .ink .target) (a .l) _ _ (c .before .before .byte-of .ensures) (c .before .long-side .ensures)),
+      (λ h. walk-start (a .ink .target) (a .l) _ _ (c .before .before .close-byte .ensures) (c .before .long-side .ensures)),
       c .phase-of .ensures .0,
       omega arith,
     )
@@ -142,9 +144,9 @@ walk-line-spec =
     Inv-loop
     μ-loop
     steps-of-requires
-    sub-byte-of
-    sub-byte-of-2
-    byte-of-requires
+    sub-close-byte
+    sub-close-byte-2
+    close-byte-requires
     long-side-requires
     phase-of-requires
     loop-holds

@@ -33,14 +33,16 @@ abbrev μ-loop : tie.MeasureT-loop
 steps-of-requires : tie.Need-steps-of-requires Inv-loop μ-loop
 steps-of-requires c κs = c .before .before .pre .ahead .line
 
-sub-byte-of : tie.Need-sub-byte-of Inv-loop μ-loop
-sub-byte-of c = c .before .before .before .before .pre .ahead .left
+sub-close-byte : tie.Need-sub-close-byte Inv-loop μ-loop
+sub-close-byte c = c .before .before .before .before .pre .ahead .left
 
-sub-byte-of-2 : tie.Need-sub-byte-of-2 Inv-loop μ-loop
-sub-byte-of-2 c = c .before .before .before .before .before .pre .ahead .top
+sub-close-byte-2 : tie.Need-sub-close-byte-2 Inv-loop μ-loop
+sub-close-byte-2 c = c .before .before .before .before .before .pre .ahead .top
 
-byte-of-requires : tie.Need-byte-of-requires Inv-loop μ-loop
-byte-of-requires c κs = let p = c .before .before .before .before .before .pre in (p .surface, p .surface .some)
+close-byte-requires : tie.Need-close-byte-requires Inv-loop μ-loop
+close-byte-requires c κs =
+    let p = c .before .before .before .before .before .pre in
+    (p .surface, p .surface .some, omega (arith, p .ahead .line .x0), omega (arith, p .ahead .line .y0))
 
 long-side-requires : tie.Need-long-side-requires Inv-loop μ-loop
 long-side-requires c κs = search needs
@@ -49,7 +51,7 @@ loop-holds : tie.Need-loop-holds Inv-loop μ-loop
 loop-holds c =
     let a = c .before .before .before .before .before .before .before .args in (
       left-begins (ap (plainTouches (a .ink .fore)) (from-start (a .l) (pointCount (a .l)) refl)),
-      (λ h. walk-start (a .ink .target) (a .l) _ _ (c .before .byte-of .ensures) (c .long-side .ensures)),
+      (λ h. walk-start (a .ink .target) (a .l) _ _ (c .before .close-byte .ensures) (c .long-side .ensures)),
       omega arith,
     )
 
@@ -113,9 +115,9 @@ walk-plain-spec =
     Inv-loop
     μ-loop
     steps-of-requires
-    sub-byte-of
-    sub-byte-of-2
-    byte-of-requires
+    sub-close-byte
+    sub-close-byte-2
+    close-byte-requires
     long-side-requires
     loop-holds
     point-count-requires

@@ -3,7 +3,7 @@
 use borrow.Author.Needs.{needs}
 use mathlib.Core.Path.{sym, ap, ap₂, _∙_}
 use borrow.Author.Tests.{not-true, not-false}
-use Rattle.formats.proofs.FormatLaws.{target-small}
+use Rattle.formats.proofs.FormatLaws.{target-colour}
 use Rattle.surface.specs.declared.Surface.{Surface}
 use Rattle.paint.specs.declared.Clip.{Clip}
 use Rattle.line.specs.declared.Line.{Line}
@@ -33,7 +33,13 @@ decode-line-requires : tie.Need-decode-line-requires
 decode-line-requires c κs = search needs
 
 line-off-requires : tie.Need-line-off-requires
-line-off-requires c κs = record { surface = rw (c .before .before .target-surface .ensures) (target-small (c .before .before .before .before .before .args .r .dstBaseAddr) (c .before .before .before .before .before .args .r .dstFormat)); clip = rw (c .before .decode-clip .ensures) (clip-bits (c .before .before .before .before .before .args .r)); line = rw (c .decode-line .ensures) (line-placed (c .before .before .before .before .before .args .r)) }
+line-off-requires c κs =
+    let r = c .before .before .before .before .before .args .r in
+    record {
+      surface = rw (c .before .before .target-surface .ensures) (target-colour (r .dstBaseAddr) (r .dstFormat) (sym (c .before .before .before .before .names-target .ensures) ∙ not-false (c .before .before .before .before .names-target .result) (c .before .before .before .if1 .left)));
+      clip = rw (c .before .decode-clip .ensures) (clip-bits r);
+      line = rw (c .decode-line .ensures) (line-placed r);
+    }
 
 returns-2 : tie.Need-returns-2
 returns-2 c =
