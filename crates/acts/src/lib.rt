@@ -149,7 +149,7 @@ fn draw(bank: Bank, blit: Blit, mem: &mut [u8]) -> Act
     let l = command::decode_line(regs);
     let pen = command::decode_pen(regs);
     let pattern = bank.pattern;
-    let drawn = strokes::paint_line(mem, ink, pattern, clip, l, pen, regs.lineStyle);
+    let drawn = strokes::paint_line(mem, ink, &pattern, clip, l, pen, regs.lineStyle);
     let tally = drawn.tally;
     Act {
         number: 0,

@@ -86,14 +86,14 @@ fn paint_point(
 pub fn paint_each(
     mem: &mut [u8],
     ink: Ink,
-    pattern: [u8; 256],
+    pattern: &[u8; 256],
     c: Clip,
     l: Line,
     pen: Pen,
     style: u32,
 ) -> LineDone
     requires { ⌜ Drawable (ink .target) (length (now mem)) c l ⌝ }
-    ensures { λ r. ⌜ (tallied (now (mem .exit)) (r .tally) ≡ paint (ink .target) (lineTouches ink pattern c pen style (points l)) (state (now (mem .entry)) 0 0)) × (r .style ≡ styleAfter pen (pointCount l) style) ⌝ }
+    ensures { λ r. ⌜ (tallied (now (mem .exit)) (r .tally) ≡ paint (ink .target) (lineTouches ink (now (pattern .entry)) c pen style (points l)) (state (now (mem .entry)) 0 0)) × (r .style ≡ styleAfter pen (pointCount l) style) ⌝ }
 {
     let n = line::long_side(l);
     let m = line::short_side(l);
@@ -109,7 +109,7 @@ pub fn paint_each(
     let mut i = 0;
     while i < total {
         let p = line::place_point(l, i, t.aside);
-        done = paint_point(mem, ink, &pattern, c, p, pen, done);
+        done = paint_point(mem, ink, pattern, c, p, pen, done);
         t = line::tread_on(n, m, t);
         i += 1;
     }

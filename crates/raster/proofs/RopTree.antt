@@ -7,7 +7,7 @@ use native.Mathlib.Omega.{arith}
 use lib.Pow.{pow-pos}
 use lib.Bits.{bitAnd, bitXor, and-shr, and-mod, xor-shr, xor-mod, and-zero-r, xor-zero-r}
 use Rattle.raster.specs.Rop.{ropBit, ropBits}
-use Rattle.raster.specs.Masks.{mask, muxed, laid, merged}
+use Rattle.raster.specs.Masks.{mask, muxed, laid, merged, quadOf}
 use Rattle.colour.proofs.Bits.{Bit, off, on, bit, eight, join}
 
 -- eight values by three bits of choice
@@ -99,3 +99,31 @@ tree-is (suc n) code p s d =
 pub merged-is : (code p s d : ℕ) → merged (laid 32 code 0 p) (laid 32 code 1 p) (laid 32 code 2 p) (laid 32 code 3 p) s d ≡ ropBits 32 code p s d
 unfolding merged laid tree
 merged-is code p s d = tree-is 32 code p s d
+
+-- ---- the same with the source's choice first
+abbrev sidedBy : ℕ → ℕ → ℕ → (ℕ → ℕ) → ℕ
+sidedBy p s d m =
+    muxed p
+    (muxed d (muxed s (m 7) (m 5)) (muxed s (m 6) (m 4)))
+    (muxed d (muxed s (m 3) (m 1)) (muxed s (m 2) (m 0)))
+
+unfoldable sides : ℕ → ℕ → ℕ → ℕ → ℕ → ℕ
+sides n code p s d = sidedBy p s d (mask n code)
+
+sided-bit : (code : ℕ) {p s d : ℕ} → Bit p → Bit s → Bit d → sidedBy p s d (λ k. code / 2 ^ k % 2) ≡ ropBit code p s d
+unfolding ropBit
+sided-bit code =
+    eight (λ p s d. sidedBy p s d (λ k. code / 2 ^ k % 2) ≡ ropBit code p s d)
+    (simp choose-off) (simp (choose-on, choose-off)) (simp (choose-on, choose-off)) (simp (choose-on, choose-off))
+    (simp (choose-on, choose-off)) (simp (choose-on, choose-off)) (simp (choose-on, choose-off)) (simp choose-on)
+
+sides-is : (n code p s d : ℕ) → sides n code p s d ≡ ropBits n code p s d
+unfolding sides ropBits
+sides-is zero code p s d = simp (mask-zero, muxed-zero)
+sides-is (suc n) code p s d =
+    sym (div-add-mod' (sides (suc n) code p s d) 2)
+    ∙ join (simp (muxed-half, mask-half) (sides-is n code (p / 2) (s / 2) (d / 2))) (simp (muxed-odd, mask-odd) (sided-bit code (bit p) (bit s) (bit d)))
+
+pub quad-is : (code p s d : ℕ) → merged (quadOf code s .q0) (quadOf code s .q1) (quadOf code s .q2) (quadOf code s .q3) p d ≡ ropBits 32 code p s d
+unfolding merged quadOf sides
+quad-is code p s d = sides-is 32 code p s d

@@ -2,6 +2,7 @@
 -- Assumes nothing.
 use Prim.Native.Nat.{ℕ, _+_, _-_, _*_, _/_, _%_, _^_}
 use lib.Bits.{bitAnd, bitXor}
+use Rattle.raster.specs.declared.Quad.{Quad}
 
 -- n bits, all equal to bit k of the code
 unfoldable pub mask : ℕ → ℕ → ℕ → ℕ
@@ -18,3 +19,10 @@ laid n code k p = muxed p (mask n code (k + 4)) (mask n code k)
 -- four values by two bits of choice
 unfoldable pub merged : ℕ → ℕ → ℕ → ℕ → ℕ → ℕ → ℕ
 merged q0 q1 q2 q3 s d = muxed s (muxed d q3 q2) (muxed d q1 q0)
+
+-- for a pixel of the source: bit k of the code at all 32 bits where the source has a 0, bit k + 2 where it has a 1
+abbrev pub sided : ℕ → ℕ → ℕ → ℕ
+sided code k s = muxed s (mask 32 code (k + 2)) (mask 32 code k)
+
+unfoldable pub quadOf : ℕ → ℕ → Quad
+quadOf code s = record { q0 = sided code 0 s; q1 = sided code 1 s; q2 = sided code 4 s; q3 = sided code 5 s }

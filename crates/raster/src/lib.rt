@@ -2,7 +2,7 @@
 ghost use mathlib.Core.Path.{_≡_};
 ghost use Prim.Native.Nat.{_%_, _<_};
 ghost use Rattle.raster.specs.Rop.{ropBits, patternFree};
-ghost use Rattle.raster.specs.Masks.{mask, muxed, merged};
+ghost use Rattle.raster.specs.Masks.{mask, muxed, merged, quadOf};
 
 // Of four values, at each bit the one whose number is 2s + d there.
 pub fn merge(q0: u32, q1: u32, q2: u32, q3: u32, s: u32, d: u32) -> u32
@@ -37,6 +37,25 @@ pub fn raster(code: u32, p: u32, s: u32, d: u32) -> u32
     let q2 = lay(spread(code, 2), spread(code, 6), p);
     let q3 = lay(spread(code, 3), spread(code, 7), p);
     merge(q0, q1, q2, q3, s, d)
+}
+
+// What a raster operation makes of a known source, by the bits of pattern and target: `merge` of the four.
+pub struct Quad {
+    pub q0: u32,
+    pub q1: u32,
+    pub q2: u32,
+    pub q3: u32,
+}
+
+pub fn quad_of(code: u32, s: u32) -> Quad
+    ensures { λ r. ⌜ r ≡ quadOf code s ⌝ }
+{
+    Quad {
+        q0: lay(spread(code, 0), spread(code, 2), s),
+        q1: lay(spread(code, 1), spread(code, 3), s),
+        q2: lay(spread(code, 4), spread(code, 6), s),
+        q3: lay(spread(code, 5), spread(code, 7), s),
+    }
 }
 
 // Whether the code gives the same whatever the pattern is.

@@ -1,2 +1,3 @@
 pub mod WalkLaws
 pub mod WalkDraw
+pub mod MixedLaws

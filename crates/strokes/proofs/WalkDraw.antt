@@ -29,6 +29,7 @@ use Rattle.line.specs.Stipple.{bitNumber, stepped, stippleBit, after, styleAfte
 use Rattle.line.specs.Draw.{coveredPoints, lineTouches}
 use Rattle.line.specs.Asked.{Drawable}
 use Rattle.strokes.specs.Walk.{plainTouches, walkTouches, whole, walks}
+use Rattle.strokes.specs.Mixed.{mixTouches}
 use Rattle.strokes.specs.Asked.{Walkable}
 use Rattle.line.proofs.Sides.{count-le}
 use Rattle.line.proofs.PointLaws.{point-box, from-cons, from-none}
@@ -99,6 +100,39 @@ module _ (c : Clip) (l : Line) (start : inClip c (l .x0) (l .y0) ≡ true) (end 
       (point-on s len c (pointAt l i) (and-left _ (allOn s len (coveredPoints c (pointsFrom l (i + 1) k))) both) (points-inside i (omega arith))))
       (λ e. each-on s len (i + 1) k (omega arith) (and-right (allOn s len (coveredPoints c (pointAt l i ∷ []))) _ both) j (omega arith) (omega arith))
 
+  pub inside-walkable : (s : Surface) (style : ℕ) → s .tiled ≡ false → whole style ≡ true → {len : ℕ} → Drawable s len c l → Walkable s len l style
+  unfolding points
+  inside-walkable s style flat fields {len} h =
+      let a = in-clip c (l .x0) (l .y0) start in
+      let b = in-clip c (l .x1) (l .y1) end in
+      record {
+        flat = flat;
+        surface = h .surface;
+        ahead = record { line = h .line; left = omega arith; top = omega arith; right = omega arith; bottom = omega arith };
+        fields = fields;
+        on = λ i g. each-on s len 0 (pointCount l) (omega (arith, count-le l)) (h .on) i (omega arith) (omega arith);
+      }
+
+  -- without a stipple each point has colorFore for its source
+  module _ (ink : Ink) (pattern : List ℕ) (pen : Pen) (no : pen .stippled ≡ false) where
+    fore-bit : (style : ℕ) → 1 ≡ stippleBit pen style
+    unfolding stippleBit
+    fore-bit style = ap (λ (b : Bool). cond b (pen .stipple / 2 ^ bitNumber style % 2) 1) (sym no)
+
+    mixed-touches : (i k style : ℕ) → i + k ≤ longer l + 1
+        → mixTouches ink pattern (pointsFrom l i k) ≡ lineTouches ink pattern c pen style (pointsFrom l i k)
+    unfolding pointsFrom lineTouches
+    mixed-touches i zero style h = refl
+    mixed-touches i (suc k) style h =
+        rw (points-inside i (omega arith))
+        (ap₂ {A = Touch} {B = List Touch} (λ t ts. t ∷ ts)
+        (ap (λ (b : ℕ). placed ink pattern (pixelAt (pointAt l i .x) (pointAt l i .y)) (bitSource ink b)) (fore-bit style))
+        (mixed-touches (i + 1) k (after pen style) (omega arith)))
+
+    pub mixed-drawn : (style : ℕ) → mixTouches ink pattern (points l) ≡ lineTouches ink pattern c pen style (points l)
+    unfolding points
+    mixed-drawn style = mixed-touches 0 (pointCount l) style (omega (arith, count-le l))
+
   module _ (ink : Ink) (pattern : List ℕ) (pen : Pen) (d : direct ink ≡ true) (fore : ink .fore < 2 ^ 32) (back : ink .back < 2 ^ 32) where
     same-touch : (p : Px) (bit : ℕ) → placed ink pattern p (bitSource ink bit) ≡ touch p (λ m. sourced (bitSource ink bit))
     same-touch p bit = λ i. touch p (λ m. direct-source ink (patternValue ink pattern (p .x) (p .y)) (readPx m (ink .target) (p .x) (p .y)) bit d fore back i)
@@ -137,17 +171,10 @@ module _ (ink : Ink) (c : Clip) (l : Line) (style : ℕ) (can : walks ink c l st
   to-inside = and-right ((direct ink && whole style) && inClip c (l .x0) (l .y0)) _ first-four
 
   pub walkable : {len : ℕ} → Drawable (ink .target) len c l → Walkable (ink .target) len l style
-  unfolding points
-  walkable {len} h =
-      let a = in-clip c (l .x0) (l .y0) from-inside in
-      let b = in-clip c (l .x1) (l .y1) to-inside in
-      record {
-        flat = not-true (ink .target .tiled) (and-right (((direct ink && whole style) && inClip c (l .x0) (l .y0)) && inClip c (l .x1) (l .y1)) _ can);
-        surface = h .surface;
-        ahead = record { line = h .line; left = omega arith; top = omega arith; right = omega arith; bottom = omega arith };
-        fields = and-right (direct ink) _ first-two;
-        on = λ i g. each-on c l from-inside to-inside (ink .target) len 0 (pointCount l) (omega (arith, count-le l)) (h .on) i (omega arith) (omega arith);
-      }
+  walkable h =
+      inside-walkable c l from-inside to-inside (ink .target) style
+      (not-true (ink .target .tiled) (and-right (((direct ink && whole style) && inClip c (l .x0) (l .y0)) && inClip c (l .x1) (l .y1)) _ can))
+      (and-right (direct ink) _ first-two) h
 
 -- with any word of the stipple
 pub plain-walkable : {s : Surface} {len : ℕ} {l : Line} {style : ℕ} → Walkable s len l style → Walkable s len l 0

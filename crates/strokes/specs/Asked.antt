@@ -7,6 +7,7 @@ use Rattle.surface.specs.declared.Surface.{Surface}
 use Rattle.surface.specs.Place.{onSurface}
 use Rattle.surface.specs.Asked.{Colour}
 use Rattle.surface.specs.Pixels.{origin}
+use Rattle.ink.specs.declared.Ink.{Ink}
 use Rattle.line.specs.declared.Line.{Line}
 use Rattle.line.specs.Line.{pointAt, pointCount}
 use Rattle.line.specs.Asked.{Placed}
@@ -27,3 +28,9 @@ pub record Walkable (s : Surface) (len : ℕ) (l : Line) (style : ℕ) : Type 0 
   pub ahead : Ahead l
   pub fields : whole style ≡ true
   pub on : (i : ℕ) → i < pointCount l → onSurface s len (pointAt l i .x - origin) (pointAt l i .y - origin) ≡ true
+
+-- one that can be walked with the pattern
+pub record Mixable (ink : Ink) (len : ℕ) (l : Line) : Type 0 where
+  pub walkable : Walkable (ink .target) len l 0
+  pub keyless : ink .dstKey ≡ false
+  pub colour : ink .mono ≡ false

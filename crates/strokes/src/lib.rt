@@ -5,19 +5,23 @@ use line::Pen;
 use paint::Clip;
 use paint::Tally;
 use points::LineDone;
+use raster::Quad;
 use surface::Surface;
 ghost use mathlib.Core.Path.{_≡_};
 ghost use mathlib.Core.Bool.{true};
-ghost use Prim.Native.Nat.{_+_, _-_, _%_, _^_, _<_};
+ghost use Prim.Native.Nat.{_+_, _-_, _/_, _%_, _^_, _<_};
 ghost use lib.ListN.{length};
 ghost use Rattle.paint.specs.Paint.{state, tallied, paint};
+ghost use Rattle.surface.specs.Asked.{Colour};
+ghost use Rattle.ink.specs.Pattern.{patternPixel};
 ghost use Rattle.paint.specs.Asked.{Bits12};
 ghost use Rattle.line.specs.Line.{pointCount, points};
 ghost use Rattle.line.specs.Asked.{Placed, Drawable};
 ghost use Rattle.line.specs.Stipple.{stippleBit, after, styleAfter};
 ghost use Rattle.line.specs.Draw.{lineTouches};
-ghost use Rattle.strokes.specs.Walk.{shift, stepsOf, walkedOn, plainTouches, walkTouches, wordOf, whole, Fields, walks};
-ghost use Rattle.strokes.specs.Asked.{Walkable};
+ghost use Rattle.strokes.specs.Walk.{shift, stepsOf, walkedOn, walk, plainTouches, walkTouches, wordOf, whole, Fields, walks};
+ghost use Rattle.strokes.specs.Mixed.{gridOf, twinOf, mixTouches, mixes};
+ghost use Rattle.strokes.specs.Asked.{Ahead, Walkable, Mixable};
 
 // Where a walk along a line is: the address of a point's first byte, and the remainder of its steps along the minor axis.
 pub struct Walk {
@@ -220,6 +224,123 @@ fn walk_plain(mem: &mut [u8], ink: Ink, l: Line) -> Tally
     tally
 }
 
+// The pattern as a surface of one byte a pixel whose rows are 65,536 apart, so that an address there says the pattern's column and row.
+fn grid_of(ink: Ink) -> Surface
+    ensures { λ r. ⌜ r ≡ gridOf ink ⌝ }
+{
+    let across = ink.patX % 8;
+    if ink.forced {
+        return Surface {
+            base: across,
+            stride: 0,
+            bytes: 1,
+            tiled: false,
+        };
+    }
+    Surface {
+        base: across + ink.patY % 8 * 0x10000,
+        stride: 0x10000,
+        bytes: 1,
+        tiled: false,
+    }
+}
+
+// The next point's address on another surface, by the remainder at this point.
+fn also_on(t: Steps, rest: u32, at: usize) -> usize
+    ensures { λ r. ⌜ r ≡ walkedOn t (walk at rest) .at ⌝ }
+{
+    if rest < t.limit {
+        return std::num::wrapping_add_usize(at, t.along);
+    }
+    std::num::wrapping_add_usize(at, t.both)
+}
+
+// The pixel of n bytes of a colour pattern that an address on its grid says.
+fn cell_of(pattern: &[u8; 256], n: u32, at: usize) -> u32
+    requires { ⌜ (0 < n) × (n < 5) ⌝ }
+    ensures { λ r. ⌜ r ≡ patternPixel n (now (pattern .entry)) (at % 8) (at / 0x10000 % 8) ⌝ }
+{
+    let cell = at / 0x10000 % 8 * 8 + at % 8;
+    surface::get_bytes(pattern, cell * surface::wide(n), n)
+}
+
+// A line and its ink, with what a walk along it goes by, worked out before: one walk on the target and one on the pattern's grid.
+pub struct Twin {
+    pub ink: Ink,
+    pub line: Line,
+    pub quad: Quad,
+    pub steps: Steps,
+    pub cells: Steps,
+    pub walk: Walk,
+    pub cell: usize,
+    pub total: u32,
+}
+
+fn twin_of(ink: Ink, l: Line) -> Twin
+    requires { ⌜ Colour (ink .target) × Ahead l ⌝ }
+    ensures { λ r. ⌜ r ≡ twinOf ink l ⌝ }
+{
+    let s = ink.target;
+    let grid = grid_of(ink);
+    let x = l.x0 - 16384;
+    let y = l.y0 - 16384;
+    Twin {
+        ink: ink,
+        line: l,
+        quad: raster::quad_of(ink.rop0, ink.fore),
+        steps: steps_of(s, l),
+        cells: steps_of(grid, l),
+        walk: Walk {
+            at: surface::close_byte(s, x, y, 0),
+            rest: line::long_side(l),
+        },
+        cell: surface::close_byte(grid, x, y, 0),
+        total: line::point_count(l),
+    }
+}
+
+// The line drawn by address, where each point, of n bytes, gets what pattern, colorFore and target make.
+fn mix_points(mem: &mut [u8], n: u32, pattern: &[u8; 256], twin: Twin) -> Tally
+    requires { ⌜ Mixable (twin .ink) (length (now mem)) (twin .line) × (n ≡ twin .ink .target .bytes) × (twin ≡ twinOf (twin .ink) (twin .line)) ⌝ }
+    ensures { λ r. ⌜ tallied (now (mem .exit)) r ≡ paint (twin .ink .target) (mixTouches (twin .ink) (now (pattern .entry)) (points (twin .line))) (state (now (mem .entry)) 0 0) ⌝ }
+{
+    let q = twin.quad;
+    let t = twin.steps;
+    let g = twin.cells;
+    let mut w = twin.walk;
+    let mut z = twin.cell;
+    let mut tally = Tally {
+        count: 0,
+        changed: 0,
+    };
+    let mut i = 0;
+    while i < surface::wide(twin.total) {
+        let old = surface::get_bytes(mem, w.at, n);
+        let p = cell_of(pattern, n, z);
+        let v = raster::merge(q.q0, q.q1, q.q2, q.q3, p, old);
+        tally = paint::put_value_at(mem, w.at, n, false, v, tally);
+        z = also_on(g, w.rest, z);
+        w = walk_on(t, w);
+        i += 1;
+    }
+    tally
+}
+
+// By the number of bytes, so that each has a loop of its own.
+fn walk_mixed(mem: &mut [u8], ink: Ink, pattern: &[u8; 256], l: Line) -> Tally
+    requires { ⌜ Mixable ink (length (now mem)) l ⌝ }
+    ensures { λ r. ⌜ tallied (now (mem .exit)) r ≡ paint (ink .target) (mixTouches ink (now (pattern .entry)) (points l)) (state (now (mem .entry)) 0 0) ⌝ }
+{
+    let twin = twin_of(ink, l);
+    let n = ink.target.bytes;
+    match n {
+        1 => mix_points(mem, 1, pattern, twin),
+        2 => mix_points(mem, 2, pattern, twin),
+        3 => mix_points(mem, 3, pattern, twin),
+        _ => mix_points(mem, 4, pattern, twin),
+    }
+}
+
 // Whether a line can be drawn so.
 fn can_walk(ink: Ink, c: Clip, l: Line, style: u32) -> bool
     requires { ⌜ Bits12 c ⌝ }
@@ -232,18 +353,31 @@ fn can_walk(ink: Ink, c: Clip, l: Line, style: u32) -> bool
         & !ink.target.tiled
 }
 
+// Whether it can be drawn so with the pattern: without a key, a stipple or a mono pattern.
+fn can_mix(ink: Ink, c: Clip, l: Line, pen: Pen) -> bool
+    requires { ⌜ Bits12 c ⌝ }
+    ensures { λ r. ⌜ r ≡ mixes ink c l pen ⌝ }
+{
+    !ink.dstKey
+        & !ink.mono
+        & !pen.stippled
+        & paint::covers(c, l.x0, l.y0)
+        & paint::covers(c, l.x1, l.y1)
+        & !ink.target.tiled
+}
+
 // The line drawn.
 pub fn paint_line(
     mem: &mut [u8],
     ink: Ink,
-    pattern: [u8; 256],
+    pattern: &[u8; 256],
     c: Clip,
     l: Line,
     pen: Pen,
     style: u32,
 ) -> LineDone
     requires { ⌜ Drawable (ink .target) (length (now mem)) c l ⌝ }
-    ensures { λ r. ⌜ (tallied (now (mem .exit)) (r .tally) ≡ paint (ink .target) (lineTouches ink pattern c pen style (points l)) (state (now (mem .entry)) 0 0)) × (r .style ≡ styleAfter pen (pointCount l) style) ⌝ }
+    ensures { λ r. ⌜ (tallied (now (mem .exit)) (r .tally) ≡ paint (ink .target) (lineTouches ink (now (pattern .entry)) c pen style (points l)) (state (now (mem .entry)) 0 0)) × (r .style ≡ styleAfter pen (pointCount l) style) ⌝ }
 {
     if can_walk(ink, c, l, style) {
         if !pen.stippled {
@@ -254,6 +388,13 @@ pub fn paint_line(
             };
         }
         return walk_line(mem, ink, l, pen, style);
+    }
+    if can_mix(ink, c, l, pen) {
+        let tally = walk_mixed(mem, ink, pattern, l);
+        return LineDone {
+            style: style,
+            tally: tally,
+        };
     }
     points::paint_each(mem, ink, pattern, c, l, pen, style)
 }

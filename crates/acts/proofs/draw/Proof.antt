@@ -45,8 +45,8 @@ decode-pen-requires c κs = search needs
 
 paint-line-requires : tie.Need-paint-line-requires
 paint-line-requires c κs =
-    let a = (c .before .before .before .before .before .before .before .before .before .before .args) in
-    line-ready (a .bank .regs) (length (a .mem .now)) (c .before .before .before .before .before .decode-ink .ensures) (c .before .before .before .before .decode-clip .ensures) (c .before .before .before .decode-line .ensures) (c .before .before .before .before .before .before .before .line-verdict .ensures) (c .before .before .before .before .before .before .if1 .left)
+    let a = (c .before .before .before .before .before .before .before .before .before .before .before .args) in
+    line-ready (a .bank .regs) (length (a .mem .now)) (c .before .before .before .before .before .before .decode-ink .ensures) (c .before .before .before .before .before .decode-clip .ensures) (c .before .before .before .before .decode-line .ensures) (c .before .before .before .before .before .before .before .before .line-verdict .ensures) (c .before .before .before .before .before .before .before .if1 .left)
 
 end-line-requires : tie.Need-end-line-requires
 end-line-requires c κs = search needs
@@ -57,17 +57,17 @@ same-length c = search needs
 returns-2 : tie.Need-returns-2
 unfolding inkOf
 returns-2 c =
-    let a = (c .before .before .before .before .before .before .before .before .before .before .before .before .before .before .before .args) in
+    let a = (c .before .before .before .before .before .before .before .before .before .before .before .before .before .before .before .before .args) in
     let r = a .bank .regs in
-    let i = (c .before .before .before .before .before .before .before .before .before .before .decode-ink .result) in
-    let p = (c .before .before .before .before .before .before .before .decode-pen .result) in
-    let l = (c .before .before .before .before .before .before .before .before .decode-line .result) in
-    judged-yes _ (a .bank) (a .blit) (a .mem .now) (c .before .before .before .before .before .before .before .before .before .before .before .before .line-verdict .result) (c .before .before .before .before .before .before .before .before .before .before .before .before .line-verdict .ensures) _ (c .before .before .before .before .before .before .before .before .before .before .before .if1 .left)
+    let i = (c .before .before .before .before .before .before .before .before .before .before .before .decode-ink .result) in
+    let p = (c .before .before .before .before .before .before .before .before .decode-pen .result) in
+    let l = (c .before .before .before .before .before .before .before .before .before .decode-line .result) in
+    judged-yes _ (a .bank) (a .blit) (a .mem .now) (c .before .before .before .before .before .before .before .before .before .before .before .before .before .line-verdict .result) (c .before .before .before .before .before .before .before .before .before .before .before .before .before .line-verdict .ensures) _ (c .before .before .before .before .before .before .before .before .before .before .before .before .if1 .left)
     (carried-out (a .blit)
-    ((c .end-line .ensures) ∙ ap (lineEnded (a .bank)) ((c .before .before .before .before .paint-line .ensures .1) ∙ ap₂ (λ (p : Pen) (l : Line). styleAfter p (pointCount l) (r .lineStyle)) (c .before .before .before .before .before .before .before .decode-pen .ensures) (c .before .before .before .before .before .before .before .before .decode-line .ensures)))
+    ((c .end-line .ensures) ∙ ap (lineEnded (a .bank)) ((c .before .before .before .before .paint-line .ensures .1) ∙ ap₂ (λ (p : Pen) (l : Line). styleAfter p (pointCount l) (r .lineStyle)) (c .before .before .before .before .before .before .before .before .decode-pen .ensures) (c .before .before .before .before .before .before .before .before .before .decode-line .ensures)))
     ((c .before .before .before .before .paint-line .ensures .0)
-    ∙ ap₂ (λ (i : Ink) (k : Clip). paint (i .target) (lineTouches i (a .bank .pattern) k p (r .lineStyle) (points l)) (state (a .mem .now) 0 0)) (c .before .before .before .before .before .before .before .before .before .before .decode-ink .ensures) (c .before .before .before .before .before .before .before .before .before .decode-clip .ensures)
-    ∙ ap₂ (λ (p : Pen) (l : Line). paint (target r) (lineTouches (inkOf r) (a .bank .pattern) (clipOf r) p (r .lineStyle) (points l)) (state (a .mem .now) 0 0)) (c .before .before .before .before .before .before .before .decode-pen .ensures) (c .before .before .before .before .before .before .before .before .decode-line .ensures)))
+    ∙ ap₂ (λ (i : Ink) (k : Clip). paint (i .target) (lineTouches i (a .bank .pattern) k p (r .lineStyle) (points l)) (state (a .mem .now) 0 0)) (c .before .before .before .before .before .before .before .before .before .before .before .decode-ink .ensures) (c .before .before .before .before .before .before .before .before .before .before .decode-clip .ensures)
+    ∙ ap₂ (λ (p : Pen) (l : Line). paint (target r) (lineTouches (inkOf r) (a .bank .pattern) (clipOf r) p (r .lineStyle) (points l)) (state (a .mem .now) 0 0)) (c .before .before .before .before .before .before .before .before .decode-pen .ensures) (c .before .before .before .before .before .before .before .before .before .decode-line .ensures)))
 
 pub draw-spec : {M : Type 1} → statement M
 draw-spec =
