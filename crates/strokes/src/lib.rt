@@ -354,15 +354,15 @@ fn can_walk(ink: Ink, c: Clip, l: Line, style: u32) -> bool
 }
 
 // Whether it can be drawn so with the pattern: without a key, a stipple or a mono pattern.
-fn can_mix(ink: Ink, c: Clip, l: Line, pen: Pen) -> bool
+fn can_mix(ink: Ink, c: Clip, way: Line, pen: Pen) -> bool
     requires { ⌜ Bits12 c ⌝ }
-    ensures { λ r. ⌜ r ≡ mixes ink c l pen ⌝ }
+    ensures { λ r. ⌜ r ≡ mixes ink c way pen ⌝ }
 {
     !ink.dstKey
         & !ink.mono
         & !pen.stippled
-        & paint::covers(c, l.x0, l.y0)
-        & paint::covers(c, l.x1, l.y1)
+        & paint::covers(c, way.x0, way.y0)
+        & paint::covers(c, way.x1, way.y1)
         & !ink.target.tiled
 }
 
