@@ -33,7 +33,8 @@ SMEARS = MIXED + STRETCHED  # the first of smears
 TILES = SMEARS + SMEARED  # and of tiles
 EQUALS, EQUALLED = TILES + TILED, 84  # and of pixels that get what they have, with their number
 RUNS, RAN = EQUALS + EQUALLED, 56  # and of runs of words, with their number
-STREAMS, LENGTH = RUNS + RAN, 72  # streams, and the least number of records of an ordinary one
+LINES, LINED = RUNS + RAN, 36  # and of lines in all directions, with their number
+STREAMS, LENGTH = LINES + LINED, 72  # streams, and the least number of records of an ordinary one
 SWEEPS = 4  # so many streams of each of the first two begin with one
 BY_DISTANCE = 64  # so many of smears are one: a format, a corner and a kind of copy at every distance
 PLANS = {"each": 4, "whole": 8, "corners": 16, "ends": 4, "beyond": 4, "one_place": 4, "refused": 2, "pairs": 2}
@@ -52,6 +53,10 @@ STRETCHES = ("stretch", "stretch", "stretch", "far", "meet")  # the theme of str
 ON_TILES = ("fill", "copy", "copy", "stretch", "host", "host", "line", "touch", "block")  # and of tiles, or only blocks
 CUT = (1, 129, 300, 4000)  # lengths of memory in which no tile is whole
 KINDS = ((0xCC, 0), (0x66, 0), (0xCC, 1), (0x5A, 3))  # raster operation and keys of a copy
+REACH = 40  # how far lines of all directions go to each side
+LINE_STYLES = (  # raster operation, other bits and keys of such lines; 5A is pattern xor target
+    (0xCC, 0, 0), (0x5A, 0, 0), (0x5A, 43 << 17, 0), (0x66, 0, 0), (0xF0, 0, 0), (0xE2, 5 << 17, 0), (0xCC, 0, 2), (0x5A, 0, 2),
+    (0x5A, 1 << 13, 0))
 TILE_BIT = 1 << 31  # of a base
 STIPPLED, MONO_PATTERN, TRANSPARENT = 1 << 12, 1 << 13, 1 << 16  # of a command
 OWN, MONO, OTHER = range(3)  # formats of a source: the target's, mono, or another where there is one
@@ -1372,6 +1377,41 @@ class RunMaker(EqualMaker):
             self.send_run(words, short)
 
 
+class LineMaker(EqualMaker):
+    """Lines from one place to each of 81 x 81 ends around it, nine rows of ends a stream."""
+
+    def ends(self, which: int) -> None:
+        """Lines and polylines by turns of rows; then stippled ones; then clipped, mostly at both ends; then on a surface that
+        is one column or one row too small, so that some points are off it."""
+        part, kind, bytes_ = which % 9, which // 9, (which + which // 4) % 4 + 1
+        self.depth, columns, rows = 8 * bytes_, 2 * REACH + 1, 2 * REACH + 1
+        tiled, short = which % 3 == 1, kind == 3
+        row = (columns - (short and part % 2)) * bytes_
+        stride = -(-row // 128) if tiled else row + (0 if short else self.near(0, 5))
+        span = stride * (4096 * -(-rows // 32) if tiled else rows)
+        base = self.size - span + stride if short and part % 2 == 0 and not tiled else self.near(0, 900)
+        if short and tiled:  # the last tiles end past the memory
+            base = self.size - span + 4096
+        self.set(dstBaseAddr=tiled << 31 | base, dstFormat=FORMAT[self.depth] << 16 | stride, colorFore=self.rng.getrandbits(32),
+                 colorBack=self.rng.getrandbits(32), clip0Min=0, clip0Max=0x0FFF0FFF)
+        for offset in range(0x100, 0x100 + 8 * self.depth, 4):
+            self.send(offset, self.rng.getrandbits(32))
+        for number in range(9):
+            operation, more, extra = LINE_STYLES[(number + which) % len(LINE_STYLES)]
+            self.keys_by(extra, operation)
+            if kind == 1:
+                size, repeat = self.near(0, 31), self.near(0, 3)
+                self.set(lineStipple=self.rng.getrandbits(32), lineStyle=size << 8 | repeat)
+                more |= STIPPLED | self.pick((0, TRANSPARENT))
+            if kind == 2:
+                left, top = self.near(0, 2 * REACH - 9), self.near(0, 2 * REACH - 9)
+                self.set(clip0Min=xy(left, top), clip0Max=xy(left + self.near(3, 40), top + self.near(3, 40)))
+            self.send(COMMAND, operation << 24 | more | (LINE, POLYLINE)[number % 2])
+            for x in range(columns):
+                self.send(OFFSETS["srcXY"], xy(REACH, REACH))
+                self.send(0x80, xy(x, 9 * part + number))
+
+
 def note(tally: Counter, before: dict[str, int], waited: bool, offset: int, word: int, answer: Answer,
          after: Engine) -> None:
     """Counts what a write tried, for the table of coverage."""
@@ -1663,6 +1703,9 @@ def planned(k: int, tally: Counter) -> Maker | None:
         plan, which = RUN_PLANNED[k - RUNS]
         maker = RunMaker(k, (26_000, 0, 3, LIMIT + 1)[which] if plan == "lengths" else 18_000, tally)
         getattr(maker, plan)(which)
+    elif LINES <= k:
+        maker = LineMaker(k, 45_000, tally)
+        maker.ends(k - LINES)
     else:
         return None
     return maker

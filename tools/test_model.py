@@ -863,7 +863,7 @@ def kinds_of_runs():
 class RecordedRuns(unittest.TestCase):
     def test_every_kind(self):
         tally = Counter()
-        for k in range(streams.RUNS, streams.STREAMS):
+        for k in range(streams.RUNS, streams.LINES):
             streams.build(k, tally)
         self.assertEqual([kind for kind in kinds_of_runs() if tally[kind] == 0], [])
 
