@@ -1,3 +1,4 @@
 pub mod WalkLaws
 pub mod WalkDraw
 pub mod MixedLaws
+pub mod PartLaws

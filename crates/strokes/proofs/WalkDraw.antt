@@ -61,7 +61,7 @@ module _ (ink : Ink) (pen : Pen) (no : pen .stippled ≡ false) where
   given true = refl
   given false = refl
 
-  fore-given : (style : ℕ) → some (ink .fore) ≡ sourced (bitSource ink (stippleBit pen style))
+  pub fore-given : (style : ℕ) → some (ink .fore) ≡ sourced (bitSource ink (stippleBit pen style))
   unfolding stippleBit bitSource
   fore-given style = given (ink .clear) ∙ ap (λ (b : Bool). sourced (bitSource ink (cond b (pen .stipple / 2 ^ bitNumber style % 2) 1))) (sym no)
 
@@ -80,6 +80,17 @@ module _ (ink : Ink) (pen : Pen) (no : pen .stippled ≡ false) where
   plain-style zero style = refl
   plain-style (suc n) style = style-stays style ∙ plain-style n (after pen style)
 
+-- ---- where each covered point is on the surface, so is one inside the clip
+pub covered-on : (c : Clip) (l : Line) (s : Surface) (len i k : ℕ) → allOn s len (coveredPoints c (pointsFrom l i k)) ≡ true
+    → (j : ℕ) → i ≤ j → j < i + k → inClip c (pointAt l j .x) (pointAt l j .y) ≡ true → onSurface s len (pointAt l j .x - origin) (pointAt l j .y - origin) ≡ true
+unfolding pointsFrom
+covered-on c l s len i zero on j a b ins = absurd (omega arith)
+covered-on c l s len i (suc k) on j a b ins =
+    let both = sym (on-turn s len c (pointAt l i) (pointsFrom l (i + 1) k)) ∙ on in
+    by-cases (ℕ-discrete j i)
+    (λ e. point-on s len c (pointAt l j) (and-left _ (allOn s len (coveredPoints c (pointsFrom l (i + 1) k))) (subst (λ (n : ℕ). (allOn s len (coveredPoints c (pointAt l n ∷ [])) && allOn s len (coveredPoints c (pointsFrom l (i + 1) k))) ≡ true) (sym e) both)) ins)
+    (λ e. covered-on c l s len (i + 1) k (and-right (allOn s len (coveredPoints c (pointAt l i ∷ []))) _ both) j (omega arith) (omega arith) ins)
+
 -- ---- a line whose ends are inside the clip
 module _ (c : Clip) (l : Line) (start : inClip c (l .x0) (l .y0) ≡ true) (end : inClip c (l .x1) (l .y1) ≡ true) where
   points-inside : (i : ℕ) → i ≤ longer l → inClip c (pointAt l i .x) (pointAt l i .y) ≡ true
@@ -91,14 +102,7 @@ module _ (c : Clip) (l : Line) (start : inClip c (l .x0) (l .y0) ≡ true) (end 
 
   each-on : (s : Surface) (len i k : ℕ) → i + k ≤ longer l + 1 → allOn s len (coveredPoints c (pointsFrom l i k)) ≡ true
       → (j : ℕ) → i ≤ j → j < i + k → onSurface s len (pointAt l j .x - origin) (pointAt l j .y - origin) ≡ true
-  unfolding pointsFrom
-  each-on s len i zero g on j a b = absurd (omega arith)
-  each-on s len i (suc k) g on j a b =
-      let both = sym (on-turn s len c (pointAt l i) (pointsFrom l (i + 1) k)) ∙ on in
-      by-cases (ℕ-discrete j i)
-      (λ e. subst (λ (n : ℕ). onSurface s len (pointAt l n .x - origin) (pointAt l n .y - origin) ≡ true) (sym e)
-      (point-on s len c (pointAt l i) (and-left _ (allOn s len (coveredPoints c (pointsFrom l (i + 1) k))) both) (points-inside i (omega arith))))
-      (λ e. each-on s len (i + 1) k (omega arith) (and-right (allOn s len (coveredPoints c (pointAt l i ∷ []))) _ both) j (omega arith) (omega arith))
+  each-on s len i k g on j a b = covered-on c l s len i k on j a b (points-inside j (omega arith))
 
   pub inside-walkable : (s : Surface) (style : ℕ) → s .tiled ≡ false → whole style ≡ true → {len : ℕ} → Drawable s len c l → Walkable s len l style
   unfolding points

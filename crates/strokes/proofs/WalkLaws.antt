@@ -1,6 +1,6 @@
 -- Laws of a walk along a line by address: a step from point i leads to point i + 1.
 -- Assumes nothing.
-use mathlib.Core.Path.{_≡_, refl, sym, ap, _∙_}
+use mathlib.Core.Path.{_≡_, refl, sym, ap, subst, _∙_}
 use mathlib.Core.Bool.{Bool, true, false}
 use Prim.Native.Nat.{ℕ, _+_, _-_, _*_, _%_, _^_, _<_, _≤_}
 use native.Mathlib.Nat.{one-mul, mul-le-mul-left}
@@ -29,9 +29,11 @@ abbrev pub Step : Bool → ℕ → ℕ → ℕ → Type 0
 Step true u a b = b ≡ a + u
 Step false u a b = a ≡ b + u
 
-towards-next : (a b k : ℕ) → origin ≤ a → origin ≤ b → k + 1 ≤ far a b → Step (leb a b) 1 (towards a b k - origin) (towards a b (k + 1) - origin)
+towards-next : (a b k : ℕ) → origin ≤ towards a b k → origin ≤ towards a b (k + 1) → k + 1 ≤ far a b → Step (leb a b) 1 (towards a b k - origin) (towards a b (k + 1) - origin)
 unfolding towards far
-towards-next a b k g h f = either (leb a b) (λ e. rw e (omega arith)) (λ e. rw e (omega (arith, leb-false a b e)))
+towards-next a b k g h f =
+    either (leb a b) (λ e. let g′ = rw e at g in let h′ = rw e at h in rw e (omega arith))
+    (λ e. let g′ = rw e at g in let h′ = rw e at h in rw e (omega (arith, leb-false a b e)))
 
 shift-sum : (up : Bool) (u a b : ℕ) → a < 2 ^ 60 → b < 2 ^ 60 → Step up u a b → b ≡ (a + shift up u) % 2 ^ 64
 unfolding shift
@@ -84,7 +86,15 @@ walk-start s l a r e f = record { at = rw (first l) e; rest = f ∙ start-rest (
 abbrev address : Surface → Point → ℕ
 address s p = byteOf s (p .x - origin) (p .y - origin) 0
 
-module _ (s : Surface) (flat : s .tiled ≡ false) (small : Small s) (l : Line) (ahead : Ahead l) (i : ℕ) (h : i + 1 ≤ longer l) where
+-- a point at the origin or after it
+pub record Shown (p : Point) : Type 0 where
+  pub x : origin ≤ p .x
+  pub y : origin ≤ p .y
+
+pub ahead-shown : {l : Line} → Ahead l → (i : ℕ) → i ≤ longer l → Shown (pointAt l i)
+ahead-shown {l} ahead i h = let b = point-box l i h in record { x = omega (arith, b .x .low); y = omega (arith, b .y .low) }
+
+module _ (s : Surface) (flat : s .tiled ≡ false) (small : Small s) (l : Line) (placed : Placed l) (i : ℕ) (h : i + 1 ≤ longer l) (here : Shown (pointAt l i)) (there : Shown (pointAt l (i + 1))) where
   abbrev p : Point
   p = pointAt l i
 
@@ -119,13 +129,17 @@ module _ (s : Surface) (flat : s .tiled ≡ false) (small : Small s) (l : Line) 
   along-x : xMajor l ≡ true → aside (longer l) (shorter l) (i + 1) ≡ aside (longer l) (shorter l) i → address s p′ ≡ (address s p + across s l) % 2 ^ 64
   unfolding pointAt
   along-x e f =
-      moves-across (rw (place-x l i _ e, place-x l (i + 1) _ e) (towards-next (l .x0) (l .x1) i (ahead .left) (ahead .right) (omega (arith, longer-x l e))))
+      let a = subst Shown (place-x l i _ e) here in
+      let b = subst Shown (place-x l (i + 1) _ e) there in
+      moves-across (rw (place-x l i _ e, place-x l (i + 1) _ e) (towards-next (l .x0) (l .x1) i (a .x) (b .x) (omega (arith, longer-x l e))))
       (rw (place-x l i _ e, place-x l (i + 1) _ e, f))
 
   along-y : xMajor l ≡ false → aside (longer l) (shorter l) (i + 1) ≡ aside (longer l) (shorter l) i → address s p′ ≡ (address s p + down s l) % 2 ^ 64
   unfolding pointAt
   along-y e f =
-      moves-down (rw (place-y l i _ e, place-y l (i + 1) _ e) (towards-next (l .y0) (l .y1) i (ahead .top) (ahead .bottom) (omega (arith, longer-y l e))))
+      let a = subst Shown (place-y l i _ e) here in
+      let b = subst Shown (place-y l (i + 1) _ e) there in
+      moves-down (rw (place-y l i _ e, place-y l (i + 1) _ e) (towards-next (l .y0) (l .y1) i (a .y) (b .y) (omega (arith, longer-y l e))))
       (rw (place-y l i _ e, place-y l (i + 1) _ e, f))
 
   along-both : aside (longer l) (shorter l) (i + 1) ≡ aside (longer l) (shorter l) i + 1
@@ -134,14 +148,20 @@ module _ (s : Surface) (flat : s .tiled ≡ false) (small : Small s) (l : Line) 
   along-both f =
       let k = aside-le (longer l) (shorter l) (i + 1) (shorter-le l) h in
       either (xMajor l)
-      (λ e. moves-both (rw (place-x l i _ e, place-x l (i + 1) _ e) (towards-next (l .x0) (l .x1) i (ahead .left) (ahead .right) (omega (arith, longer-x l e))))
-      (rw (place-x l i _ e, place-x l (i + 1) _ e, f) (towards-next (l .y0) (l .y1) _ (ahead .top) (ahead .bottom) (omega (arith, shorter-y l e)))))
-      (λ e. moves-both (rw (place-y l i _ e, place-y l (i + 1) _ e, f) (towards-next (l .x0) (l .x1) _ (ahead .left) (ahead .right) (omega (arith, shorter-x l e))))
-      (rw (place-y l i _ e, place-y l (i + 1) _ e) (towards-next (l .y0) (l .y1) i (ahead .top) (ahead .bottom) (omega (arith, longer-y l e)))))
+      (λ e.
+      let a = subst Shown (place-x l i _ e) here in
+      let b = rw f at (subst Shown (place-x l (i + 1) _ e) there) in
+      moves-both (rw (place-x l i _ e, place-x l (i + 1) _ e) (towards-next (l .x0) (l .x1) i (a .x) (b .x) (omega (arith, longer-x l e))))
+      (rw (place-x l i _ e, place-x l (i + 1) _ e, f) (towards-next (l .y0) (l .y1) _ (a .y) (b .y) (omega (arith, shorter-y l e)))))
+      (λ e.
+      let a = subst Shown (place-y l i _ e) here in
+      let b = rw f at (subst Shown (place-y l (i + 1) _ e) there) in
+      moves-both (rw (place-y l i _ e, place-y l (i + 1) _ e, f) (towards-next (l .x0) (l .x1) _ (a .x) (b .x) (omega (arith, shorter-x l e))))
+      (rw (place-y l i _ e, place-y l (i + 1) _ e) (towards-next (l .y0) (l .y1) i (a .y) (b .y) (omega (arith, longer-y l e)))))
 
-  pub walk-next : (w : Walk) → AtPoint s l i w → AtPoint s l (i + 1) (walkedOn (stepsOf s l) w)
+  pub step-next : (w : Walk) → AtPoint s l i w → AtPoint s l (i + 1) (walkedOn (stepsOf s l) w)
   unfolding walkedOn stepsOf
-  walk-next w at =
+  step-next w at =
       let n = longer l in
       let m = shorter l in
       let low = shorter-le l in
@@ -158,3 +178,8 @@ module _ (s : Surface) (flat : s .tiled ≡ false) (small : Small s) (l : Line) 
         at = ap (λ (b : ℕ). (b + (across s l + down s l) % 2 ^ 64) % 2 ^ 64) (at .at) ∙ sym (along-both (a .0));
         rest = ap (λ (r : ℕ). r - (2 * n - 2 * m)) (at .rest) ∙ sym (a .1);
       }))
+
+-- the same of a line whose ends are at the origin or after it
+pub walk-next : (s : Surface) → s .tiled ≡ false → Small s → (l : Line) → Ahead l → (i : ℕ) → i + 1 ≤ longer l → (w : Walk) → AtPoint s l i w
+    → AtPoint s l (i + 1) (walkedOn (stepsOf s l) w)
+walk-next s flat small l ahead i h = step-next s flat small l (ahead .line) i h (ahead-shown ahead i (omega arith)) (ahead-shown ahead (i + 1) h)

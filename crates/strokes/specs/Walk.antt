@@ -70,6 +70,11 @@ walkTouches ink pen style (p ∷ ps) =
 abbrev pub plainTouches : ℕ → List Point → List Touch
 plainTouches v ps = map (λ p. touch (pixelAt (p .x) (p .y)) (λ m. some v)) ps
 
+-- each point inside the clip is
+unfoldable pub clipTouches : ℕ → Clip → List Point → List Touch
+clipTouches v c [] = []
+clipTouches v c (p ∷ ps) = cond (inClip c (p .x) (p .y)) (touch (pixelAt (p .x) (p .y)) (λ m. some v) ∷ clipTouches v c ps) (clipTouches v c ps)
+
 -- ---- the stipple's four numbers
 
 abbrev pub wordOf : Phase → ℕ

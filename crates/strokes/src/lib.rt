@@ -2,26 +2,27 @@
 use ink::Ink;
 use line::Line;
 use line::Pen;
+use line::Tread;
 use paint::Clip;
 use paint::Tally;
 use points::LineDone;
 use raster::Quad;
 use surface::Surface;
 ghost use mathlib.Core.Path.{_≡_};
-ghost use mathlib.Core.Bool.{true};
-ghost use Prim.Native.Nat.{_+_, _-_, _/_, _%_, _^_, _<_};
+ghost use mathlib.Core.Bool.{true, false, cond};
+ghost use Prim.Native.Nat.{_+_, _-_, _/_, _%_, _^_, _<_, _≤_};
 ghost use lib.ListN.{length};
 ghost use Rattle.paint.specs.Paint.{state, tallied, paint};
 ghost use Rattle.surface.specs.Asked.{Colour};
 ghost use Rattle.ink.specs.Pattern.{patternPixel};
 ghost use Rattle.paint.specs.Asked.{Bits12};
-ghost use Rattle.line.specs.Line.{pointCount, points};
+ghost use Rattle.line.specs.Line.{pointCount, pointsFrom, points};
 ghost use Rattle.line.specs.Asked.{Placed, Drawable};
 ghost use Rattle.line.specs.Stipple.{stippleBit, after, styleAfter};
 ghost use Rattle.line.specs.Draw.{lineTouches};
-ghost use Rattle.strokes.specs.Walk.{shift, stepsOf, walkedOn, walk, plainTouches, walkTouches, wordOf, whole, Fields, walks};
+ghost use Rattle.strokes.specs.Walk.{shift, stepsOf, walkedOn, walk, plainTouches, clipTouches, walkTouches, wordOf, whole, Fields, walks};
 ghost use Rattle.strokes.specs.Mixed.{gridOf, twinOf, mixTouches, mixes};
-ghost use Rattle.strokes.specs.Asked.{Ahead, Walkable, Mixable};
+ghost use Rattle.strokes.specs.Asked.{Ahead, Walkable, Mixable, OnSpot, Sought, Entered, LeftAt, PartOn};
 
 // Where a walk along a line is: the address of a point's first byte, and the remainder of its steps along the minor axis.
 pub struct Walk {
@@ -341,6 +342,128 @@ fn walk_mixed(mem: &mut [u8], ink: Ink, pattern: &[u8; 256], l: Line) -> Tally
     }
 }
 
+// A point of a line by its number, and the walk there.
+pub struct Spot {
+    pub at: u32,
+    pub tread: Tread,
+}
+
+// From a spot on, the first point that is inside the clip, or the first that is not; past the last where there is none.
+fn seek(c: Clip, l: Line, from: Spot, inside: bool) -> Spot
+    requires { ⌜ Placed l × Bits12 c × OnSpot l from ⌝ }
+    ensures { λ r. ⌜ Sought c l inside from r ⌝ }
+{
+    let n = line::long_side(l);
+    let m = line::short_side(l);
+    let total = line::point_count(l);
+    let mut t = from.tread;
+    let mut i = from.at;
+    while i < total {
+        let p = line::place_point(l, i, t.aside);
+        let covered = paint::covers(c, p.x, p.y);
+        if (covered & inside) | (!covered & !inside) {
+            return Spot { at: i, tread: t };
+        }
+        t = line::tread_on(n, m, t);
+        i += 1;
+    }
+    Spot { at: i, tread: t }
+}
+
+// How many steps one way lead out of a clip that holds position p.
+fn room(up: bool, low: u32, high: u32, p: u32) -> u32
+    requires { ⌜ (16384 + low ≤ p) × (p < 16384 + high) × (high < 2 ^ 12) ⌝ }
+    ensures { λ r. ⌜ r ≡ cond up (16384 + high - p) (p + 1 - (16384 + low)) ⌝ }
+{
+    if up {
+        return 16384 + high - p;
+    }
+    p + 1 - (16384 + low)
+}
+
+// The number of the first point that is outside the clip again, after one inside it. Where the line ends between the clip's sides along its minor axis, it leaves along the
+// major one.
+fn leave(c: Clip, l: Line, from: Spot) -> u32
+    requires { ⌜ Placed l × Bits12 c × Entered c l from ⌝ }
+    ensures { λ r. ⌜ LeftAt c l from r ⌝ }
+{
+    let p = line::place_point(l, from.at, from.tread.aside);
+    let total = line::point_count(l);
+    if line::x_major(l) {
+        if paint::covers(c, p.x, l.y1) {
+            return surface::least(total, from.at + room(l.x0 <= l.x1, c.left, c.right, p.x));
+        }
+    } else {
+        if paint::covers(c, l.x1, p.y) {
+            return surface::least(total, from.at + room(l.y0 <= l.y1, c.top, c.bottom, p.y));
+        }
+    }
+    let out = seek(c, l, from, false);
+    out.at
+}
+
+// The points of a line from a spot up to, and without, one of number `past`.
+pub struct Part {
+    pub line: Line,
+    pub from: Spot,
+    pub past: u32,
+}
+
+// They are drawn by address, and each gets colorFore.
+fn walk_part(mem: &mut [u8], ink: Ink, part: Part) -> Tally
+    requires { ⌜ PartOn (ink .target) (length (now mem)) part ⌝ }
+    ensures { λ r. ⌜ tallied (now (mem .exit)) r ≡ paint (ink .target) (plainTouches (ink .fore) (pointsFrom (part .line) (part .from .at) (part .past - part .from .at))) (state (now (mem .entry)) 0 0) ⌝ }
+{
+    let s = ink.target;
+    let n = s.bytes;
+    let l = part.line;
+    let from = part.from;
+    let t = steps_of(s, l);
+    let p = line::place_point(l, from.at, from.tread.aside);
+    let mut w = Walk {
+        at: surface::close_byte(s, p.x - 16384, p.y - 16384, 0),
+        rest: from.tread.rest,
+    };
+    let mut tally = Tally {
+        count: 0,
+        changed: 0,
+    };
+    let mut i = surface::wide(from.at);
+    while i < surface::wide(part.past) {
+        tally = paint::put_value_at(mem, w.at, n, false, ink.fore, tally);
+        w = walk_on(t, w);
+        i += 1;
+    }
+    tally
+}
+
+// The points inside the clip of a line without a stipple, each of which gets colorFore: they follow each other.
+fn walk_clipped(mem: &mut [u8], ink: Ink, c: Clip, l: Line) -> Tally
+    requires { ⌜ Drawable (ink .target) (length (now mem)) c l × (ink .target .tiled ≡ false) ⌝ }
+    ensures { λ r. ⌜ tallied (now (mem .exit)) r ≡ paint (ink .target) (clipTouches (ink .fore) c (points l)) (state (now (mem .entry)) 0 0) ⌝ }
+{
+    let start = Spot {
+        at: 0,
+        tread: Tread {
+            aside: 0,
+            rest: line::long_side(l),
+        },
+    };
+    let first = seek(c, l, start, true);
+    if first.at == line::point_count(l) {
+        return Tally {
+            count: 0,
+            changed: 0,
+        };
+    }
+    let part = Part {
+        line: l,
+        from: first,
+        past: leave(c, l, first),
+    };
+    walk_part(mem, ink, part)
+}
+
 // Whether a line can be drawn so.
 fn can_walk(ink: Ink, c: Clip, l: Line, style: u32) -> bool
     requires { ⌜ Bits12 c ⌝ }
@@ -391,6 +514,13 @@ pub fn paint_line(
     }
     if can_mix(ink, c, l, pen) {
         let tally = walk_mixed(mem, ink, pattern, l);
+        return LineDone {
+            style: style,
+            tally: tally,
+        };
+    }
+    if paint::is_direct(ink) & !pen.stippled & !ink.target.tiled {
+        let tally = walk_clipped(mem, ink, c, l);
         return LineDone {
             style: style,
             tally: tally,

@@ -1,14 +1,17 @@
--- `strokes::paint_line` meets its contract: walking, with a stipple or without or with the pattern, and going point by point come to the same.
+-- `strokes::paint_line` meets its contract: walking, with a stipple or without, with the pattern or in part, and going point by point come to the same.
 -- Assumes nothing.
 use borrow.Author.Needs.{needs}
 use native.Mathlib.Omega.{arith}
 use mathlib.Core.Path.{sym, ap, _∙_}
+use mathlib.Core.Bool.{not, _&&_}
 use mathlib.Core.List.{List}
 use borrow.Author.Tests.{not-true}
+use Rattle.surface.proofs.OnLaws.{and-left, and-right}
 use Rattle.paint.specs.Paint.{state, Touch, paint}
 use Rattle.line.specs.Line.{pointCount, points}
 use Rattle.strokes.proofs.WalkDraw.{is-direct, from-inside, to-inside, walkable, plain-walkable, plain-walk, plain-style, walk-drawn, mixed-drawn}
 use Rattle.strokes.proofs.MixedLaws.{mix-from, mix-to, mix-solid, mixable}
+use Rattle.strokes.proofs.PartLaws.{clip-drawn}
 use Rattle.strokes.proofs.paint_line.Statement.{statement}
 use Rattle.strokes.proofs.paint_line.Tie as tie
 
@@ -69,14 +72,33 @@ returns-3 c =
       plain-style (a .ink) (a .pen) no (pointCount (a .l)) (a .style),
     )
 
-paint-each-requires : tie.Need-paint-each-requires
-paint-each-requires c κs = search needs
+is-direct-requires : tie.Need-is-direct-requires
+is-direct-requires c κs = search needs
+
+walk-clipped-requires : tie.Need-walk-clipped-requires
+walk-clipped-requires c κs = (c .before .before .before .before .before .before .before .before .before .before .pre, not-true (c .before .before .before .before .before .before .before .before .before .before .args .ink .target .tiled) (and-right (c .before .before .before .before .is-direct .result && not (c .before .before .before .before .before .before .before .before .before .before .args .pen .stippled)) (not (c .before .before .before .before .before .before .before .before .before .before .args .ink .target .tiled)) (c .before .if4 .taken)))
 
 same-length-4 : tie.Need-same-length-4
 same-length-4 c = search needs
 
 returns-4 : tie.Need-returns-4
-returns-4 c = search needs
+returns-4 c =
+    let a = c .before .before .before .before .before .before .before .before .before .before .before .before .before .args in
+    let both = and-left (c .before .before .before .before .before .before .before .is-direct .result && not (a .pen .stippled)) (not (a .ink .target .tiled)) (c .before .before .before .before .if4 .taken) in
+    let d = sym (c .before .before .before .before .before .before .before .is-direct .ensures) ∙ and-left (c .before .before .before .before .before .before .before .is-direct .result) (not (a .pen .stippled)) both in
+    let no = not-true (a .pen .stippled) (and-right (c .before .before .before .before .before .before .before .is-direct .result) (not (a .pen .stippled)) both) in (
+      c .before .before .walk-clipped .ensures ∙ ap (λ (ts : List Touch). paint (a .ink .target) ts (state (a .mem .now) 0 0)) (clip-drawn (a .ink) (a .pattern .now) (a .c) (a .pen) d no (omega arith) (omega arith) (a .style) (points (a .l))),
+      plain-style (a .ink) (a .pen) no (pointCount (a .l)) (a .style),
+    )
+
+paint-each-requires : tie.Need-paint-each-requires
+paint-each-requires c κs = search needs
+
+same-length-5 : tie.Need-same-length-5
+same-length-5 c = search needs
+
+returns-5 : tie.Need-returns-5
+returns-5 c = search needs
 
 pub paint-line-spec : {M : Type 1} → statement M
 paint-line-spec =
@@ -93,6 +115,10 @@ paint-line-spec =
     walk-mixed-requires
     same-length-3
     returns-3
-    paint-each-requires
+    is-direct-requires
+    walk-clipped-requires
     same-length-4
-    returns-4)
+    returns-4
+    paint-each-requires
+    same-length-5
+    returns-5)
