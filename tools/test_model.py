@@ -860,6 +860,21 @@ def kinds_of_runs():
         yield "whole rows", f"{kind} clipped: {sides}"
 
 
+class RecordedLines(unittest.TestCase):
+    def test_every_direction(self):  # each of 81 x 81 ends by each of the four kinds, taken or off the surface
+        tally, ends = Counter(), Counter()
+        for k in range(streams.LINES, streams.STREAMS):
+            records = streams.build(k, tally).records
+            ends.update(((k - streams.LINES) // 9, word) for offset, word, kind in records if offset == 0x80)
+        places = {streams.xy(x, y) for x in range(81) for y in range(81)}
+        self.assertEqual({place for kind, place in ends}, places)
+        self.assertEqual(Counter(kind for kind, _ in ends), Counter({kind: len(places) for kind in range(4)}))
+        slopes = [f"{x}x{y}y {slope}" for x in "+-" for y in "+-" for slope in ("flat", "steep")]
+        self.assertTrue(all(tally["lines", slope] > 2000 for slope in slopes))
+        self.assertTrue(tally["refusals", "7 line by launch"] > 100 and tally["refusals", "7 polyline by launch"] > 50)
+        self.assertEqual(tally["lines", "stipple, illegal phase"], 0)
+
+
 class RecordedRuns(unittest.TestCase):
     def test_every_kind(self):
         tally = Counter()
