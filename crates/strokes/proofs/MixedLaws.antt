@@ -1,16 +1,14 @@
 -- Laws of a line walked with the pattern: what an address on the pattern's grid says, and what a point is given.
 -- Assumes nothing.
-use mathlib.Core.Path.{_≡_, refl, sym, ap, ap₂, _∙_}
-use mathlib.Core.Bool.{Bool, true, false, cond, not, _&&_}
+use mathlib.Core.Path.{_≡_, refl, ap, ap₂, _∙_}
+use mathlib.Core.Bool.{true, false, not, _&&_}
 use mathlib.Core.List.{List, [], _∷_, _++_}
-use mathlib.Core.Option.{Option, some}
+use mathlib.Core.Option.{some}
 use Prim.Native.Nat.{ℕ, _+_, _-_, _*_, _/_, _%_, _<_, _≤_}
 use native.Mathlib.Omega.{arith}
 use borrow.Author.Tests.{not-true}
-use Rattle.surface.specs.declared.Surface.{Surface}
 use Rattle.surface.specs.Place.{surface, byteOf}
 use Rattle.surface.specs.Asked.{Colour}
-use Rattle.surface.specs.Pixels.{origin}
 use Rattle.surface.proofs.OnLaws.{and-left, and-right}
 use Rattle.surface.proofs.Rows.{byteAt-flat}
 use Rattle.raster.specs.Rop.{ropBits}
@@ -31,7 +29,7 @@ use Rattle.strokes.specs.declared.Walk.{Walk}
 use Rattle.strokes.specs.Walk.{stepsOf, walk, walkedOn, AtPoint}
 use Rattle.strokes.specs.Mixed.{gridOf, mixTouches, mixes}
 use Rattle.strokes.specs.Asked.{Ahead, Mixable}
-use Rattle.strokes.proofs.WalkLaws.{walk-start, walk-next}
+use Rattle.strokes.proofs.WalkLaws.{walk-next}
 use Rattle.strokes.proofs.WalkDraw.{inside-walkable}
 
 -- ---- the grid

@@ -24,7 +24,6 @@ use Rattle.line.specs.Line.{pointAt, pointCount, pointsFrom, points}
 use Rattle.line.proofs.Sides.{count-le, longer-lt}
 use Rattle.line.proofs.PointLaws.{point-box, from-start}
 use Rattle.strokes.specs.declared.Twin.{Twin}
-use Rattle.strokes.specs.declared.Steps.{Steps}
 use Rattle.strokes.specs.Walk.{stepsOf}
 use Rattle.strokes.specs.Mixed.{gridOf, twinOf, mixTouches}
 use Rattle.strokes.proofs.WalkLaws.{steps-small, walk-start}
