@@ -3,7 +3,7 @@
 use mathlib.Core.Path.{_≡_, refl, sym, ap, _∙_}
 use mathlib.Core.Bool.{Bool, true, false, cond}
 use Prim.Native.Nat.{ℕ, zero, suc, _+_, _*_, _/_, _<_, _≤_}
-use native.Mathlib.Nat.{mul-le-mul, mul-le-mul-right, div-lt-iff-lt-mul, div-zero, add-mul, mul-comm}
+use native.Mathlib.Nat.{mul-le-mul-right, div-lt-iff-lt-mul, div-zero, add-mul, mul-comm}
 use native.Mathlib.Omega.{arith}
 use borrow.Author.Tests.{leb-true, leb-false}
 use lib.Arith.{digits-div}
@@ -84,6 +84,3 @@ aside-le (suc n) m i h k =
     let q : (2 * i * m + suc n) / (2 * suc n) < m + 1 =
     div-lt-iff-lt-mul {k = 2 * suc n} {x = 2 * i * m + suc n} {y = m + 1} (omega arith) .1 (omega (arith, mul-comm m (2 * suc n))) in
     omega arith
-
-pub product-le : (n m i : ℕ) → n < 8192 → m ≤ n → i ≤ n → 2 * i * m ≤ 16382 * 8191
-product-le n m i h k j = mul-le-mul {n₂ = 16382} {m₂ = 8191} (omega arith) (omega arith)

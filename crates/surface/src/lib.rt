@@ -85,7 +85,7 @@ pub fn place_in_rows(s: Surface, x: u32, y: u32) -> usize
     wide(s.base) + wide(y) * wide(s.stride) + wide(x) * wide(s.bytes)
 }
 
-// The same two of a place close to the origin: no product has more than 32 bits.
+// The address of byte `column` of row y, and of byte k of a pixel, close to the origin: no product has more than 32 bits.
 pub fn close_at(s: Surface, column: u32, y: u32) -> usize
     requires { ⌜ Close s column y ⌝ }
     ensures { λ r. ⌜ r ≡ byteAt s column y ⌝ }
