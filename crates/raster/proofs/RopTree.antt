@@ -1,13 +1,16 @@
 -- The raster operation as the code does it, by seven choices between masks, is the raster operation bit by bit, at every width.
 -- Assumes nothing.
-use mathlib.Core.Path.{_≡_, refl, sym, ap, _∙_}
-use Prim.Native.Nat.{ℕ, zero, suc, _-_, _*_, _/_, _%_, _^_}
+use mathlib.Core.Path.{_≡_, refl, sym, ap, ap₂, _∙_}
+use mathlib.Core.Bool.{Bool, true, false, _&&_}
+use Prim.Native.Nat.{ℕ, zero, suc, _+_, _-_, _*_, _/_, _%_, _^_, _<_}
 use native.Mathlib.Nat.{div-add-mod', mul-zero, pow-suc}
 use native.Mathlib.Omega.{arith}
+use lib.Arith.{lt-one, digits-div, digits-mod}
 use lib.Pow.{pow-pos}
-use lib.Bits.{bitAnd, bitXor, and-shr, and-mod, xor-shr, xor-mod, and-zero-r, xor-zero-r}
+use borrow.Author.Tests.{eqb-true}
+use lib.Bits.{bitAnd, bitXor, differ, and-shr, and-mod, xor-step, xor-shr, xor-mod, and-zero-r, xor-zero-r}
 use Rattle.raster.specs.Rop.{ropBit, ropBits}
-use Rattle.raster.specs.Masks.{mask, muxed, laid, merged, quadOf}
+use Rattle.raster.specs.Masks.{mask, muxed, laid, merged, quadOf, turns, flips, quadMade}
 use Rattle.colour.proofs.Bits.{Bit, off, on, bit, eight, join}
 
 -- eight values by three bits of choice
@@ -124,6 +127,57 @@ sides-is (suc n) code p s d =
     sym (div-add-mod' (sides (suc n) code p s d) 2)
     ∙ join (simp (muxed-half, mask-half) (sides-is n code (p / 2) (s / 2) (d / 2))) (simp (muxed-odd, mask-odd) (sided-bit code (bit p) (bit s) (bit d)))
 
-pub quad-is : (code p s d : ℕ) → merged (quadOf code s .q0) (quadOf code s .q1) (quadOf code s .q2) (quadOf code s .q3) p d ≡ ropBits 32 code p s d
+quad-is : (code p s d : ℕ) → merged (quadOf code s .q0) (quadOf code s .q1) (quadOf code s .q2) (quadOf code s .q3) p d ≡ ropBits 32 code p s d
 unfolding merged quadOf sides
 quad-is code p s d = sides-is 32 code p s d
+
+-- ---- an operation that only flips bits of the target
+and-first : (a b : Bool) → (a && b) ≡ true → a ≡ true
+and-first true b e = refl
+and-first false b e = e
+
+and-second : (a b : Bool) → (a && b) ≡ true → b ≡ true
+and-second true b e = e
+and-second false true e = refl
+and-second false false e = e
+
+other : {y z : ℕ} → Bit y → y + z ≡ 1 → differ 1 y ≡ z
+other off e = omega arith
+other on e = omega arith
+
+module _ (code : ℕ) (can : flips code ≡ true) where
+  turned : (c : ℕ) → turns c ≡ true → c % 2 + c / 2 % 2 ≡ 1
+  turned c e = eqb-true (c % 2 + c / 2 % 2) 1 e
+
+  three : ((turns code && turns (code / 4)) && turns (code / 16)) ≡ true
+  three = and-first _ (turns (code / 64)) can
+
+  two : (turns code && turns (code / 4)) ≡ true
+  two = and-first _ (turns (code / 16)) three
+
+  flip-bit : {p s d : ℕ} → Bit p → Bit s → Bit d → differ d (ropBit code p s 0) ≡ ropBit code p s d
+  unfolding ropBit
+  flip-bit =
+      eight (λ p s d. differ d (code / 2 ^ (4 * p + 2 * s + 0) % 2) ≡ code / 2 ^ (4 * p + 2 * s + d) % 2)
+      refl (other (bit (code / 1)) (omega (arith, turned code (and-first _ (turns (code / 4)) two))))
+      refl (other (bit (code / 4)) (omega (arith, turned (code / 4) (and-second (turns code) _ two))))
+      refl (other (bit (code / 16)) (omega (arith, turned (code / 16) (and-second (turns code && turns (code / 4)) _ three))))
+      refl (other (bit (code / 64)) (omega (arith, turned (code / 64) (and-second ((turns code && turns (code / 4)) && turns (code / 16)) _ can))))
+
+  rop-bit : (p s d : ℕ) → ropBit code p s d < 2
+  unfolding ropBit
+  rop-bit p s d = omega arith
+
+  flip-bits : (n p s d : ℕ) → d < 2 ^ n → bitXor d (ropBits n code p s 0) ≡ ropBits n code p s d
+  unfolding ropBits
+  flip-bits zero p s d h = ap (λ (x : ℕ). bitXor x 0) (lt-one h)
+  flip-bits (suc n) p s d h =
+      xor-step d _
+      ∙ join (ap (bitXor (d / 2)) (digits-div _ (rop-bit (p % 2) (s % 2) 0)) ∙ flip-bits n (p / 2) (s / 2) (d / 2) (omega (arith, pow-suc 2 n)))
+      (ap (differ (d % 2)) (digits-mod _ (rop-bit (p % 2) (s % 2) 0)) ∙ flip-bit (bit p) (bit s) (bit d))
+
+pub quad-makes : (flip : Bool) (code p s d : ℕ) → (flip ≡ true → flips code ≡ true) → d < 2 ^ 32 → quadMade flip (quadOf code s) p d ≡ ropBits 32 code p s d
+unfolding merged
+quad-makes true code p s d can h =
+    ap (bitXor d) (ap₂ (muxed p) (sym (choose-off _ _)) (sym (choose-off _ _)) ∙ quad-is code p s 0) ∙ flip-bits code (can refl) 32 p s d h
+quad-makes false code p s d can h = quad-is code p s d

@@ -2,7 +2,7 @@
 ghost use mathlib.Core.Path.{_≡_};
 ghost use Prim.Native.Nat.{_%_, _<_};
 ghost use Rattle.raster.specs.Rop.{ropBits, patternFree};
-ghost use Rattle.raster.specs.Masks.{mask, muxed, merged, quadOf};
+ghost use Rattle.raster.specs.Masks.{mask, muxed, merged, quadOf, turns, flips, quadMade};
 
 // Of four values, at each bit the one whose number is 2s + d there.
 pub fn merge(q0: u32, q1: u32, q2: u32, q3: u32, s: u32, d: u32) -> u32
@@ -56,6 +56,29 @@ pub fn quad_of(code: u32, s: u32) -> Quad
         q2: lay(spread(code, 4), spread(code, 6), s),
         q3: lay(spread(code, 5), spread(code, 7), s),
     }
+}
+
+fn turns(c: u32) -> bool
+    ensures { λ r. ⌜ r ≡ turns c ⌝ }
+{
+    c % 2 + c / 2 % 2 == 1
+}
+
+// Whether it only flips bits of the target, as 5A and 66 do: whatever pattern and source are, the code's bits for target 0 and target 1 differ.
+pub fn is_flip(code: u32) -> bool
+    ensures { λ r. ⌜ r ≡ flips code ⌝ }
+{
+    turns(code) & turns(code / 4) & turns(code / 16) & turns(code / 64)
+}
+
+// What it makes of pattern and target; where it only flips, by what it makes of target 0.
+pub fn make(q: Quad, flip: bool, p: u32, d: u32) -> u32
+    ensures { λ r. ⌜ r ≡ quadMade flip q p d ⌝ }
+{
+    if flip {
+        return d ^ lay(q.q0, q.q2, p);
+    }
+    merge(q.q0, q.q1, q.q2, q.q3, p, d)
 }
 
 // Whether the code gives the same whatever the pattern is.

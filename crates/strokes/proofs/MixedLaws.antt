@@ -1,94 +1,103 @@
--- Laws of a line walked with the pattern: what an address on the pattern's grid says, and what a point is given.
+-- Laws of a line walked with the pattern: what an address on both at once says, and what a point is given.
 -- Assumes nothing.
-use mathlib.Core.Path.{_≡_, refl, ap, ap₂, _∙_}
-use mathlib.Core.Bool.{true, false, not, _&&_}
+use mathlib.Core.Path.{_≡_, refl, ap, ap₂, subst⁻¹, _∙_}
+use mathlib.Core.Bool.{Bool, true, false, not, _&&_}
 use mathlib.Core.List.{List, [], _∷_, _++_}
 use mathlib.Core.Option.{some}
-use Prim.Native.Nat.{ℕ, _+_, _-_, _*_, _/_, _%_, _<_, _≤_}
+use Prim.Native.Nat.{ℕ, _+_, _-_, _*_, _/_, _%_, _^_, _<_, _≤_}
+use native.Mathlib.Nat.{mul-add}
 use native.Mathlib.Omega.{arith}
 use borrow.Author.Tests.{not-true}
+use Rattle.surface.specs.declared.Surface.{Surface}
 use Rattle.surface.specs.Place.{surface, byteOf}
 use Rattle.surface.specs.Asked.{Colour}
 use Rattle.surface.proofs.OnLaws.{and-left, and-right}
+use Rattle.surface.proofs.Bytes.{product-lt}
 use Rattle.surface.proofs.Rows.{byteAt-flat}
 use Rattle.raster.specs.Rop.{ropBits}
-use Rattle.raster.specs.Masks.{merged, quadOf}
-use Rattle.raster.proofs.RopTree.{quad-is}
+use Rattle.raster.specs.Masks.{quadOf, flips, quadMade}
+use Rattle.raster.proofs.RopTree.{quad-makes}
 use Rattle.ink.specs.declared.Ink.{Ink}
 use Rattle.ink.specs.Pattern.{patternColumn, patternRow, patternPixel, patternIn, patternValue}
 use Rattle.paint.specs.declared.Clip.{Clip}
+use Rattle.paint.specs.Paint.{state, paint}
 use Rattle.paint.specs.Mix.{bitSource, chosen, mixed}
 use Rattle.paint.specs.Clip.{inClip}
 use Rattle.line.specs.declared.Line.{Line}
 use Rattle.line.specs.declared.Pen.{Pen}
-use Rattle.line.specs.Line.{longer, pointAt, pointsFrom}
+use Rattle.line.specs.Line.{pointAt, pointsFrom, points}
 use Rattle.line.specs.Asked.{Drawable}
 use Rattle.line.proofs.Sides.{either}
 use Rattle.line.proofs.PointLaws.{from-cons, from-none}
-use Rattle.strokes.specs.declared.Walk.{Walk}
-use Rattle.strokes.specs.Walk.{stepsOf, walk, walkedOn, AtPoint}
-use Rattle.strokes.specs.Mixed.{gridOf, mixTouches, mixes}
-use Rattle.strokes.specs.Asked.{Ahead, Mixable}
-use Rattle.strokes.proofs.WalkLaws.{walk-next}
+use Rattle.strokes.specs.declared.Twin.{Twin}
+use Rattle.strokes.specs.Mixed.{rowPart, pairOf, pairAt, twinOf, mixTouches, mixes}
+use Rattle.strokes.specs.Asked.{Mixable, Mixing}
+use Rattle.strokes.proofs.WalkLaws.{Low}
 use Rattle.strokes.proofs.WalkDraw.{inside-walkable}
 
--- ---- the grid
-module _ (ink : Ink) where
-  pub grid-flat : gridOf ink .tiled ≡ false
-  unfolding gridOf
-  grid-flat = either (ink .forced) (λ e. rw e) (λ e. rw e)
+-- ---- target and pattern as one surface
+paired : (s : Surface) → s .tiled ≡ false → (b r u x y : ℕ) → byteOf (surface (s .base + b) (s .stride + r) (s .bytes + u)) x y 0 ≡ byteOf s x y 0 + (b + x * u + y * r)
+unfolding byteOf
+paired s flat b r u x y =
+    omega (
+      arith,
+      byteAt-flat (surface (s .base + b) (s .stride + r) (s .bytes + u)) (x * (s .bytes + u) + 0) y refl,
+      byteAt-flat s (x * s .bytes + 0) y flat,
+      mul-add x (s .bytes) u,
+      mul-add y (s .stride) r,
+    )
 
-  pub grid-colour : Colour (gridOf ink)
-  unfolding gridOf
-  grid-colour =
-      either (ink .forced) (λ e. rw e (record { small = record { base = omega arith; stride = omega arith; bytes = omega arith }; some = omega arith }))
-      (λ e. rw e (record { small = record { base = omega arith; stride = omega arith; bytes = omega arith }; some = omega arith }))
+pub row-small : (ink : Ink) (u : ℕ) → rowPart ink u ≤ u * 2 ^ 46
+row-small ink u = either (ink .forced) (λ e. rw e (omega arith)) (λ e. rw e (omega arith))
 
-  flat-first : (base stride x y : ℕ) → byteOf (surface base stride 1) x y 0 ≡ base + y * stride + (x * 1 + 0)
-  unfolding byteOf
-  flat-first base stride x y = byteAt-flat (surface base stride 1) (x * 1 + 0) y refl
+module _ (ink : Ink) (flat : ink .target .tiled ≡ false) where
+  pub pair-address : (x y : ℕ) → byteOf (pairOf ink) x y 0 ≡ pairAt ink x y
+  pair-address x y =
+      paired (ink .target) flat _ _ _ x y ∙ either (ink .forced) (λ e. rw e (omega arith)) (λ e. rw e (omega arith))
 
-  -- an address there says the column and the row
-  pub cell-said : (x y z : ℕ) → x < 8192 → z ≡ byteOf (gridOf ink) x y 0 → (z % 8 ≡ patternColumn ink x) × (z / 65536 % 8 ≡ patternRow ink y)
-  unfolding gridOf
-  cell-said x y z h q =
-      either (ink .forced)
-      (λ e.
-      let a : z ≡ ink .patX % 8 + y * 0 + (x * 1 + 0) = (rw e at q) ∙ flat-first (ink .patX % 8) 0 x y in
-      rw e (omega arith, omega arith))
-      (λ e.
-      let a : z ≡ ink .patX % 8 + ink .patY % 8 * 65536 + y * 65536 + (x * 1 + 0) = (rw e at q) ∙ flat-first (ink .patX % 8 + ink .patY % 8 * 65536) 65536 x y in
-      rw e (omega arith, omega arith))
+  module _ (colour : Colour (ink .target)) (x y : ℕ) (hx : x < 8192) (hy : y < 8192) where
+    close-low : byteOf (ink .target) x y 0 < 2 ^ 32
+    unfolding byteOf
+    close-low =
+        omega (
+          arith,
+          byteAt-flat (ink .target) (x * ink .target .bytes + 0) y flat,
+          colour .small .base,
+          product-lt 13 17 {a = y} {b = ink .target .stride} hy (colour .small .stride),
+          product-lt 13 3 {a = x} {b = ink .target .bytes} hx (omega (arith, colour .small .bytes)),
+        )
+
+    -- what an address there says
+    pub place-said : pairAt ink x y % 2 ^ 32 ≡ byteOf (ink .target) x y 0
+    place-said = either (ink .forced) (λ e. rw e (omega (arith, close-low))) (λ e. rw e (omega (arith, close-low)))
+
+    pub column-said : pairAt ink x y / 2 ^ 32 % 8 ≡ patternColumn ink x
+    column-said = either (ink .forced) (λ e. rw e (omega (arith, close-low))) (λ e. rw e (omega (arith, close-low)))
+
+    pub row-said : pairAt ink x y / 2 ^ 46 % 8 ≡ patternRow ink y
+    row-said = either (ink .forced) (λ e. rw e (omega (arith, close-low))) (λ e. rw e (omega (arith, close-low)))
+
+    pair-lt : pairAt ink x y < 2 ^ 60
+    pair-lt = either (ink .forced) (λ e. rw e (omega (arith, close-low))) (λ e. rw e (omega (arith, close-low)))
+
+  pub pair-low : Colour (ink .target) → Low (pairOf ink)
+  pair-low colour x y hx hy = omega (arith, pair-address x y, pair-lt colour x y hx hy)
 
 -- ---- what a point is given
 fore-mixed : (ink : Ink) (p old : ℕ) → ink .dstKey ≡ false → some (ropBits 32 (ink .rop0) p (ink .fore) old) ≡ mixed ink p (bitSource ink 1) old
 unfolding mixed bitSource chosen
 fore-mixed ink p old keyless = either (ink .clear) (λ e. rw (e, keyless)) (λ e. rw (e, keyless))
 
-pub point-given : (ink : Ink) (pattern : List ℕ) (n x y z old v : ℕ) → ink .dstKey ≡ false → ink .mono ≡ false → n ≡ ink .target .bytes
-    → x < 8192 → z ≡ byteOf (gridOf ink) x y 0
-    → v ≡ merged (quadOf (ink .rop0) (ink .fore) .q0) (quadOf (ink .rop0) (ink .fore) .q1) (quadOf (ink .rop0) (ink .fore) .q2) (quadOf (ink .rop0) (ink .fore) .q3)
-    (patternPixel n pattern (z % 8) (z / 65536 % 8)) old
+pub point-given : (ink : Ink) (pattern : List ℕ) (n z x y old v : ℕ) (flip : Bool) → ink .dstKey ≡ false → ink .mono ≡ false → n ≡ ink .target .bytes
+    → (z / 2 ^ 32 % 8 ≡ patternColumn ink x) × (z / 2 ^ 46 % 8 ≡ patternRow ink y) → (flip ≡ true → flips (ink .rop0) ≡ true) → old < 2 ^ 32
+    → v ≡ quadMade flip (quadOf (ink .rop0) (ink .fore)) (patternPixel n pattern (z / 2 ^ 32 % 8) (z / 2 ^ 46 % 8)) old
     → some v ≡ mixed ink (patternValue ink pattern x y) (bitSource ink 1) old
 unfolding patternIn
-point-given ink pattern n x y z old v keyless colour bytes h q e =
-    let said = cell-said ink x y z h q in
-    let seen : patternPixel n pattern (z % 8) (z / 65536 % 8) ≡ patternValue ink pattern x y =
+point-given ink pattern n z x y old v flip keyless colour bytes said can h e =
+    let seen : patternPixel n pattern (z / 2 ^ 32 % 8) (z / 2 ^ 46 % 8) ≡ patternValue ink pattern x y =
     ap₂ (patternPixel n pattern) (said .0) (said .1) ∙ ap (λ (b : ℕ). patternPixel b pattern (patternColumn ink x) (patternRow ink y)) bytes ∙ rw colour in
-    ap some (e ∙ quad-is (ink .rop0) (patternPixel n pattern (z % 8) (z / 65536 % 8)) (ink .fore) old ∙ ap (λ (p : ℕ). ropBits 32 (ink .rop0) p (ink .fore) old) seen)
+    ap some (e ∙ quad-makes flip (ink .rop0) (patternPixel n pattern (z / 2 ^ 32 % 8) (z / 2 ^ 46 % 8)) (ink .fore) old can h ∙ ap (λ (p : ℕ). ropBits 32 (ink .rop0) p (ink .fore) old) seen)
     ∙ fore-mixed ink (patternValue ink pattern x y) old keyless
-
--- ---- both walks, by one remainder
-pub record AtBoth (ink : Ink) (l : Line) (i : ℕ) (w : Walk) (z : ℕ) : Type 0 where
-  pub target : AtPoint (ink .target) l i w
-  pub grid : AtPoint (gridOf ink) l i (walk z (w .rest))
-
-pub both-next : (ink : Ink) (l : Line) (i : ℕ) (w : Walk) (z : ℕ) → ink .target .tiled ≡ false → Colour (ink .target) → Ahead l → i + 1 ≤ longer l
-    → AtBoth ink l i w z → AtBoth ink l (i + 1) (walkedOn (stepsOf (ink .target) l) w) (walkedOn (stepsOf (gridOf ink) l) (walk z (w .rest)) .at)
-both-next ink l i w z flat colour ahead h at =
-    let t = walk-next (ink .target) flat (colour .small) l ahead i h w (at .target) in
-    let g = walk-next (gridOf ink) (grid-flat ink) (grid-colour ink .small) l ahead i h (walk z (w .rest)) (at .grid) in
-    record { target = t; grid = record { at = g .at; rest = t .rest } }
 
 -- ---- one point, and the others
 module _ (ink : Ink) (pattern : List ℕ) (l : Line) (i e : ℕ) where
@@ -97,6 +106,22 @@ module _ (ink : Ink) (pattern : List ℕ) (l : Line) (i e : ℕ) where
 
   pub mix-none : e ≤ i → mixTouches ink pattern (pointsFrom l i (e - i)) ≡ []
   mix-none h = ap (mixTouches ink pattern) (from-none l i e h)
+
+-- ---- what is worked out before
+pub no-flip : (b : Bool) → false ≡ true → b ≡ true
+no-flip true e = refl
+no-flip false e = e
+
+module _ (ink : Ink) (l : Line) (t : Twin) (e : t ≡ twinOf ink l) where
+  pub twin-mixing : {len n : ℕ} {flip : Bool} → Mixable ink len l → n ≡ ink .target .bytes → (flip ≡ true → flips (ink .rop0) ≡ true) → Mixing len n flip t
+  unfolding twinOf
+  twin-mixing {len} {n} {flip} can bytes flipping =
+      subst⁻¹ (Mixing len n flip) e (record { mixable = can; bytes = bytes; flipping = flipping; worked = refl })
+
+  pub twin-drawn : (pattern m : List ℕ)
+      → paint (t .ink .target) (mixTouches (t .ink) pattern (points (t .line))) (state m 0 0) ≡ paint (ink .target) (mixTouches ink pattern (points l)) (state m 0 0)
+  unfolding twinOf
+  twin-drawn pattern m = ap (λ (u : Twin). paint (u .ink .target) (mixTouches (u .ink) pattern (points (u .line))) (state m 0 0)) e
 
 -- ---- when a line is walked so
 module _ (ink : Ink) (c : Clip) (l : Line) (pen : Pen) (can : mixes ink c l pen ≡ true) where

@@ -1,7 +1,7 @@
 -- Laws of the part of a line inside the clip: between two points of a line lie those between them in number, so that its points inside the clip follow each other.
 -- Assumes nothing.
 use mathlib.Core.Path.{_≡_, refl, sym, ap, ap₂, subst, _∙_}
-use mathlib.Core.Bool.{true, false, cond, true≢false}
+use mathlib.Core.Bool.{Bool, true, false, cond, not, true≢false}
 use mathlib.Core.List.{List, [], _∷_}
 use mathlib.Core.Option.{some}
 use Prim.Native.Nat.{ℕ, zero, suc, _+_, _-_, _*_, _^_, _<_, _≤_, min}
@@ -22,12 +22,13 @@ use Rattle.paint.proofs.ClipLaws.{Covered, in-clip, clip-in}
 use Rattle.line.specs.declared.Point.{Point}
 use Rattle.line.specs.declared.Line.{Line}
 use Rattle.line.specs.declared.Pen.{Pen}
-use Rattle.line.specs.Line.{far, towards, xMajor, longer, shorter, aside, pointAt, pointsFrom, pointCount, points}
-use Rattle.line.specs.Tread.{leftOver}
+use Rattle.line.specs.declared.Tread.{Tread}
+use Rattle.line.specs.Line.{far, towards, xMajor, longer, shorter, aside, place, pointAt, pointsFrom, pointCount, points}
+use Rattle.line.specs.Tread.{leftOver, trodden}
 use Rattle.line.specs.Stipple.{stippleBit, after}
 use Rattle.line.specs.Draw.{lineTouches}
 use Rattle.line.proofs.Sides.{either, longer-x, longer-y, shorter-x, shorter-y, shorter-le, count-le, aside-none, aside-le}
-use Rattle.line.proofs.TreadLaws.{aside-stays, aside-grows}
+use Rattle.line.proofs.TreadLaws.{OnWay, aside-stays, aside-grows, way-point, way-goes}
 use Rattle.line.proofs.PointLaws.{Between, place-x, place-y, last}
 use Rattle.points.proofs.PutLaws.{direct-source}
 use Rattle.strokes.specs.declared.Spot.{Spot}
@@ -102,6 +103,39 @@ pub never-back : (c : Clip) (l : Line) (i j k : ℕ) → i ≤ j → j ≤ k →
 never-back c l i j k g h f p q =
     either (inClip c (pointAt l k .x) (pointAt l k .y)) (λ e. absurd (true≢false (sym (between-inside c l i j k g h f p e) ∙ q))) (λ e. e)
 
+-- ---- a search on its way: what is passed is not what is sought
+pub record Passing (c : Clip) (l : Line) (inside : Bool) (n m from i : ℕ) (t : Tread) : Type 0 where
+  pub ahead : from ≤ i
+  pub upto : i ≤ pointCount l
+  pub way : i < pointCount l → OnWay l n m i t
+  pub passed : (j : ℕ) → from ≤ j → j < i → inClip c (pointAt l j .x) (pointAt l j .y) ≡ not inside
+
+module _ {c : Clip} {l : Line} {inside : Bool} {n m from i : ℕ} {t : Tread} (s : Passing c l inside n m from i t) where
+  -- the point that was placed is looked at
+  module _ (h : i < pointCount l) {p : Point} {looked : Bool} (placed : p ≡ place l i (t .aside)) (seen : looked ≡ inClip c (p .x) (p .y)) where
+    here : inClip c (pointAt l i .x) (pointAt l i .y) ≡ looked
+    here = ap (λ (q : Point). inClip c (q .x) (q .y)) (sym (way-point (s .way h) placed)) ∙ sym seen
+
+    pub search-finds : looked ≡ inside → Sought c l inside from (record { at = i; tread = t })
+    search-finds e = record {
+      spot = record { within = s .upto; walk = λ g. rw (← s .way h .long, ← s .way h .short) (s .way h .at) };
+      ahead = s .ahead;
+      passed = s .passed;
+      stops = λ g. here ∙ e;
+    }
+
+    pub search-goes : {r : Tread} → r ≡ trodden n m t → looked ≡ not inside → Passing c l inside n m from (i + 1) r
+    search-goes f e = record {
+      ahead = omega (arith, s .ahead);
+      upto = omega arith;
+      way = way-goes (s .way h) f refl;
+      passed = λ j g k.
+          by-cases (ℕ-discrete j i) (λ q. ap (λ (o : ℕ). inClip c (pointAt l o .x) (pointAt l o .y)) q ∙ here ∙ e) (λ q. s .passed j g (omega arith));
+    }
+
+  pub search-ends : pointCount l ≤ i → Sought c l inside from (record { at = i; tread = t })
+  search-ends h = record { spot = record { within = s .upto; walk = λ g. absurd (omega arith) }; ahead = s .ahead; passed = s .passed; stops = λ g. absurd (omega arith) }
+
 -- ---- what is touched
 module _ (v : ℕ) (c : Clip) (l : Line) where
   none-clipped : (i k : ℕ) → ((j : ℕ) → i ≤ j → j < i + k → inClip c (pointAt l j .x) (pointAt l j .y) ≡ false) → clipTouches v c (pointsFrom l i k) ≡ []
@@ -174,123 +208,85 @@ clip-out c x y f = either (inClip c x y) (λ e. absurd (f (in-clip c x y e))) (�
 numbered : (l : Line) {past i : ℕ} → past ≤ pointCount l → i < past → i ≤ longer l
 numbered l h g = omega (arith, count-le l)
 
-down-below : (a f i high : ℕ) → f ≤ i → a - f < high → a - i < high
-down-below a f i high g h = omega arith
-
 between-two : {a b p low high : ℕ} → Between a b p → low ≤ a → low ≤ b → a < high → b < high → (low ≤ p) × (p < high)
 between-two m la lb ha hb = (omega (arith, m .low), omega (arith, m .high))
 
--- going down from a, the numbers that are not below `low`
-module _ (a f i low past n : ℕ) (h : low ≤ a - f) (e : past ≡ min n (f + (a - f + 1 - low))) where
-  down-some : f < n → f < past
-  down-some g = omega arith
+-- from a towards b, beginning at number f between `low` and `high`: which numbers are before the first that is not between them
+module _ (a b f n low high past : ℕ) (lo : low ≤ towards a b f) (hi : towards a b f < high) (e : past ≡ min n (f + cond (leb a b) (high - towards a b f) (towards a b f + 1 - low))) where
+  pub axis-some : f < n → f < past
+  axis-some g = either (leb a b) (λ q. let k = rw q at e in omega arith) (λ q. let k = rw q at e in omega arith)
 
-  down-most : past ≤ n
-  down-most = omega arith
+  pub axis-upto : past ≤ n
+  axis-upto = omega arith
 
-  down-stays : f ≤ i → i < past → low ≤ a - i
-  down-stays g k = omega arith
+  pub axis-stays : (i : ℕ) → f ≤ i → i < past → (low ≤ towards a b i) × (towards a b i < high)
+  unfolding towards
+  axis-stays i g h =
+      either (leb a b) (λ q. let k = rw q at e in let l = rw q at lo in let m = rw q at hi in rw q (omega arith, omega arith))
+      (λ q. let k = rw q at e in let l = rw q at lo in let m = rw q at hi in rw q (omega arith, omega arith))
 
-  down-leaves : 1 ≤ low → past ≤ i → i < n → low ≤ a - i → ⊥
-  down-leaves p g k q = omega arith
+  pub axis-leaves : 1 ≤ low → (i : ℕ) → past ≤ i → i < n → low ≤ towards a b i → towards a b i < high → ⊥
+  unfolding towards
+  axis-leaves p i g h l m =
+      either (leb a b) (λ q. let k = rw q at e in let u = rw q at lo in let w = rw q at m in omega arith)
+      (λ q. let k = rw q at e in let u = rw q at lo in let w = rw q at l in omega arith)
 
 -- along the major axis, where the line ends between the clip's sides along the minor one
 module _ (c : Clip) (l : Line) (from : Spot) (e : Entered c l from) where
   abbrev first : ℕ
   first = from .at
 
+  inside-first : Covered c (pointAt l first .x) (pointAt l first .y)
+  inside-first = in-clip c (pointAt l first .x) (pointAt l first .y) (e .inside)
+
   pub leaves-x : xMajor l ≡ true → inClip c (pointAt l first .x) (l .y1) ≡ true → (past : ℕ)
       → past ≡ min (pointCount l) (first + cond (leb (l .x0) (l .x1)) (origin + c .right - pointAt l first .x) (pointAt l first .x + 1 - (origin + c .left))) → LeftAt c l from past
-  unfolding pointAt towards far
+  unfolding pointAt
   leaves-x major ends past q =
-      let a = in-clip c (pointAt l first .x) (pointAt l first .y) (e .inside) in
+      let a = inside-first in
       let b = in-clip c (pointAt l first .x) (l .y1) ends in
       let end : pointAt l (longer l) .y ≡ l .y1 = ap (λ (p : Point). p .y) (last l) in
-      let at : pointAt l first .x ≡ towards (l .x0) (l .x1) first = ap (λ (p : Point). p .x) (place-x l first _ major) in
       let side : (i : ℕ) → pointAt l i .x ≡ towards (l .x0) (l .x1) i = λ i. ap (λ (p : Point). p .x) (place-x l i _ major) in
-      let row : (i : ℕ) → first ≤ i → i ≤ longer l → Between (pointAt l first .y) (l .y1) (pointAt l i .y) =
-      λ i g h. subst (λ (y : ℕ). Between (pointAt l first .y) y (pointAt l i .y)) end (mid-y l first i (longer l) g h (omega arith)) in
-      either (leb (l .x0) (l .x1))
-      (λ up.
-      let q′ : past ≡ min (pointCount l) (first + (origin + c .right - pointAt l first .x)) = rw up at q in
-      let at′ : pointAt l first .x ≡ l .x0 + first = rw up at at in
+      let axis-lo : origin + c .left ≤ towards (l .x0) (l .x1) first = subst (λ (x : ℕ). origin + c .left ≤ x) (side first) (a .left) in
+      let axis-hi : towards (l .x0) (l .x1) first < origin + c .right = subst (λ (x : ℕ). x < origin + c .right) (side first) (a .right) in
+      let way = q ∙ ap (λ (x : ℕ). min (pointCount l) (first + cond (leb (l .x0) (l .x1)) (origin + c .right - x) (x + 1 - (origin + c .left)))) (side first) in
+      let upto = axis-upto (l .x0) (l .x1) first (pointCount l) (origin + c .left) (origin + c .right) past axis-lo axis-hi way in
       record {
-        some = omega (arith, e .before, a .right);
-        upto = omega arith;
+        some = axis-some (l .x0) (l .x1) first (pointCount l) (origin + c .left) (origin + c .right) past axis-lo axis-hi way (e .before);
+        upto = upto;
         inside = λ i g h.
-            let s : pointAt l i .x ≡ l .x0 + i = rw up at (side i) in
-            let y = row i g (omega (arith, count-le l)) in
-            clip-in c (pointAt l i .x) (pointAt l i .y) (record { left = omega (arith, a .left); right = omega arith; top = omega (arith, a .top, b .top, y .low); bottom = omega (arith, a .bottom, b .bottom, y .high) });
-        outside = λ i g h.
-            let s : pointAt l i .x ≡ l .x0 + i = rw up at (side i) in
-            clip-out c (pointAt l i .x) (pointAt l i .y) (λ k. omega (arith, k .right));
-      })
-      (λ down.
-      let f = leb-false (l .x0) (l .x1) down in
-      let q′ : past ≡ min (pointCount l) (first + (pointAt l first .x + 1 - (origin + c .left))) = rw down at q in
-      let at′ : pointAt l first .x ≡ l .x0 - first = rw down at at in
-      let q″ = q′ ∙ ap (λ (x : ℕ). min (pointCount l) (first + (x + 1 - (origin + c .left)))) at′ in
-      let lo = subst (λ (x : ℕ). origin + c .left ≤ x) at′ (a .left) in
-      record {
-        some = down-some (l .x0) first first (origin + c .left) past (pointCount l) lo q″ (e .before);
-        upto = down-most (l .x0) first first (origin + c .left) past (pointCount l) lo q″;
-        inside = λ i g h.
-            let s : pointAt l i .x ≡ l .x0 - i = rw down at (side i) in
-            let y = row i g (numbered l (down-most (l .x0) first first (origin + c .left) past (pointCount l) lo q″) h) in
-            clip-in c (pointAt l i .x) (pointAt l i .y) (record { left = subst (λ (x : ℕ). origin + c .left ≤ x) (sym s) (down-stays (l .x0) first i (origin + c .left) past (pointCount l) lo q″ g h); right = subst (λ (x : ℕ). x < origin + c .right) (sym s) (down-below (l .x0) first i (origin + c .right) g (subst (λ (x : ℕ). x < origin + c .right) at′ (a .right))); top = between-two y (a .top) (b .top) (a .bottom) (b .bottom) .0; bottom = between-two y (a .top) (b .top) (a .bottom) (b .bottom) .1 });
-        outside = λ i g h.
-            let s : pointAt l i .x ≡ l .x0 - i = rw down at (side i) in
-            clip-out c (pointAt l i .x) (pointAt l i .y)
-            (λ k. down-leaves (l .x0) first i (origin + c .left) past (pointCount l) lo q″ (omega arith) g h (subst (λ (x : ℕ). origin + c .left ≤ x) s (k .left)));
-      })
+            let x = axis-stays (l .x0) (l .x1) first (pointCount l) (origin + c .left) (origin + c .right) past axis-lo axis-hi way i g h in
+            let y = between-two (subst (λ (y : ℕ). Between (pointAt l first .y) y (pointAt l i .y)) end (mid-y l first i (longer l) g (numbered l upto h) (omega arith))) (a .top) (b .top) (a .bottom) (b .bottom) in
+            clip-in c (pointAt l i .x) (pointAt l i .y) (record { left = omega (arith, side i, x .0); right = omega (arith, side i, x .1); top = y .0; bottom = y .1 });
+        outside = λ i g h. clip-out c (pointAt l i .x) (pointAt l i .y)
+            (λ k. axis-leaves (l .x0) (l .x1) first (pointCount l) (origin + c .left) (origin + c .right) past axis-lo axis-hi way (omega arith) i g h (omega (arith, side i, k .left)) (omega (arith, side i, k .right)));
+      }
 
   pub leaves-y : xMajor l ≡ false → inClip c (l .x1) (pointAt l first .y) ≡ true → (past : ℕ)
       → past ≡ min (pointCount l) (first + cond (leb (l .y0) (l .y1)) (origin + c .bottom - pointAt l first .y) (pointAt l first .y + 1 - (origin + c .top))) → LeftAt c l from past
-  unfolding pointAt towards far
+  unfolding pointAt
   leaves-y major ends past q =
-      let a = in-clip c (pointAt l first .x) (pointAt l first .y) (e .inside) in
+      let a = inside-first in
       let b = in-clip c (l .x1) (pointAt l first .y) ends in
       let end : pointAt l (longer l) .x ≡ l .x1 = ap (λ (p : Point). p .x) (last l) in
-      let at : pointAt l first .y ≡ towards (l .y0) (l .y1) first = ap (λ (p : Point). p .y) (place-y l first _ major) in
       let side : (i : ℕ) → pointAt l i .y ≡ towards (l .y0) (l .y1) i = λ i. ap (λ (p : Point). p .y) (place-y l i _ major) in
-      let row : (i : ℕ) → first ≤ i → i ≤ longer l → Between (pointAt l first .x) (l .x1) (pointAt l i .x) =
-      λ i g h. subst (λ (y : ℕ). Between (pointAt l first .x) y (pointAt l i .x)) end (mid-x l first i (longer l) g h (omega arith)) in
-      either (leb (l .y0) (l .y1))
-      (λ up.
-      let q′ : past ≡ min (pointCount l) (first + (origin + c .bottom - pointAt l first .y)) = rw up at q in
-      let at′ : pointAt l first .y ≡ l .y0 + first = rw up at at in
+      let axis-lo : origin + c .top ≤ towards (l .y0) (l .y1) first = subst (λ (y : ℕ). origin + c .top ≤ y) (side first) (a .top) in
+      let axis-hi : towards (l .y0) (l .y1) first < origin + c .bottom = subst (λ (y : ℕ). y < origin + c .bottom) (side first) (a .bottom) in
+      let way = q ∙ ap (λ (y : ℕ). min (pointCount l) (first + cond (leb (l .y0) (l .y1)) (origin + c .bottom - y) (y + 1 - (origin + c .top)))) (side first) in
+      let upto = axis-upto (l .y0) (l .y1) first (pointCount l) (origin + c .top) (origin + c .bottom) past axis-lo axis-hi way in
       record {
-        some = omega (arith, e .before, a .bottom);
-        upto = omega arith;
+        some = axis-some (l .y0) (l .y1) first (pointCount l) (origin + c .top) (origin + c .bottom) past axis-lo axis-hi way (e .before);
+        upto = upto;
         inside = λ i g h.
-            let s : pointAt l i .y ≡ l .y0 + i = rw up at (side i) in
-            let y = row i g (omega (arith, count-le l)) in
-            clip-in c (pointAt l i .x) (pointAt l i .y) (record { top = omega (arith, a .top); bottom = omega arith; left = omega (arith, a .left, b .left, y .low); right = omega (arith, a .right, b .right, y .high) });
-        outside = λ i g h.
-            let s : pointAt l i .y ≡ l .y0 + i = rw up at (side i) in
-            clip-out c (pointAt l i .x) (pointAt l i .y) (λ k. omega (arith, k .bottom));
-      })
-      (λ down.
-      let f = leb-false (l .y0) (l .y1) down in
-      let q′ : past ≡ min (pointCount l) (first + (pointAt l first .y + 1 - (origin + c .top))) = rw down at q in
-      let at′ : pointAt l first .y ≡ l .y0 - first = rw down at at in
-      let q″ = q′ ∙ ap (λ (x : ℕ). min (pointCount l) (first + (x + 1 - (origin + c .top)))) at′ in
-      let lo = subst (λ (x : ℕ). origin + c .top ≤ x) at′ (a .top) in
-      record {
-        some = down-some (l .y0) first first (origin + c .top) past (pointCount l) lo q″ (e .before);
-        upto = down-most (l .y0) first first (origin + c .top) past (pointCount l) lo q″;
-        inside = λ i g h.
-            let s : pointAt l i .y ≡ l .y0 - i = rw down at (side i) in
-            let y = row i g (numbered l (down-most (l .y0) first first (origin + c .top) past (pointCount l) lo q″) h) in
-            clip-in c (pointAt l i .x) (pointAt l i .y) (record { top = subst (λ (x : ℕ). origin + c .top ≤ x) (sym s) (down-stays (l .y0) first i (origin + c .top) past (pointCount l) lo q″ g h); bottom = subst (λ (x : ℕ). x < origin + c .bottom) (sym s) (down-below (l .y0) first i (origin + c .bottom) g (subst (λ (x : ℕ). x < origin + c .bottom) at′ (a .bottom))); left = between-two y (a .left) (b .left) (a .right) (b .right) .0; right = between-two y (a .left) (b .left) (a .right) (b .right) .1 });
-        outside = λ i g h.
-            let s : pointAt l i .y ≡ l .y0 - i = rw down at (side i) in
-            clip-out c (pointAt l i .x) (pointAt l i .y)
-            (λ k. down-leaves (l .y0) first i (origin + c .top) past (pointCount l) lo q″ (omega arith) g h (subst (λ (x : ℕ). origin + c .top ≤ x) s (k .top)));
-      })
+            let y = axis-stays (l .y0) (l .y1) first (pointCount l) (origin + c .top) (origin + c .bottom) past axis-lo axis-hi way i g h in
+            let x = between-two (subst (λ (x : ℕ). Between (pointAt l first .x) x (pointAt l i .x)) end (mid-x l first i (longer l) g (numbered l upto h) (omega arith))) (a .left) (b .left) (a .right) (b .right) in
+            clip-in c (pointAt l i .x) (pointAt l i .y) (record { left = x .0; right = x .1; top = omega (arith, side i, y .0); bottom = omega (arith, side i, y .1) });
+        outside = λ i g h. clip-out c (pointAt l i .x) (pointAt l i .y)
+            (λ k. axis-leaves (l .y0) (l .y1) first (pointCount l) (origin + c .top) (origin + c .bottom) past axis-lo axis-hi way (omega arith) i g h (omega (arith, side i, k .top)) (omega (arith, side i, k .bottom)));
+      }
 
   -- where the first point outside was sought
-  pub leaves-sought : {r : Spot} → Sought c l false from r → LeftAt c l from (r .at)
+  pub leaves-sought : {r : Spot} → Sought c l false first r → LeftAt c l from (r .at)
   leaves-sought {r} s =
       let some : first < r .at = by-cases (ℕ-discrete (r .at) first)
       (λ q. absurd (true≢false (sym (e .inside) ∙ ap (λ (i : ℕ). inClip c (pointAt l i .x) (pointAt l i .y)) (sym q) ∙ s .stops (omega (arith, e .before)))))

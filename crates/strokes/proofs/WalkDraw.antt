@@ -2,12 +2,13 @@
 -- Assumes nothing.
 use mathlib.Core.Path.{_≡_, refl, sym, ap, ap₂, subst, _∙_}
 use mathlib.Core.Bool.{Bool, true, false, cond, not, _&&_}
-use mathlib.Core.Option.{Option, some}
+use mathlib.Core.Option.{Option, none, some}
 use mathlib.Core.List.{List, [], _∷_, _++_}
 use Prim.Native.Nat.{ℕ, zero, suc, _+_, _-_, _/_, _%_, _^_, _<_, _≤_}
 use native.Mathlib.Decide.{ℕ-discrete}
 use native.Mathlib.Omega.{arith}
 use borrow.Author.Tests.{not-true}
+use lib.Dec.{eqb}
 use Rattle.surface.specs.declared.Surface.{Surface}
 use Rattle.surface.specs.Place.{readPx, onSurface}
 use Rattle.surface.specs.Pixels.{Px, origin}
@@ -31,7 +32,7 @@ use Rattle.line.specs.Asked.{Drawable}
 use Rattle.strokes.specs.Walk.{plainTouches, walkTouches, whole, walks}
 use Rattle.strokes.specs.Mixed.{mixTouches}
 use Rattle.strokes.specs.Asked.{Walkable}
-use Rattle.line.proofs.Sides.{count-le}
+use Rattle.line.proofs.Sides.{either, count-le}
 use Rattle.line.proofs.PointLaws.{point-box, from-cons, from-none}
 use Rattle.line.proofs.DrawLaws.{point-on, on-turn}
 use Rattle.points.proofs.PutLaws.{direct-source}
@@ -46,6 +47,21 @@ module _ (ink : Ink) (pen : Pen) (l : Line) (i e style : ℕ) where
   pub walk-none : e ≤ i → walkTouches ink pen style (pointsFrom l i (e - i)) ≡ []
   unfolding walkTouches
   walk-none h = rw (from-none l i e h)
+
+stipple-bit : (pen : Pen) (style : ℕ) → stippleBit pen style < 2
+unfolding stippleBit
+stipple-bit pen style = either (pen .stippled) (λ e. rw e (omega arith)) (λ e. rw e (omega arith))
+
+-- what a point is given
+bit-given : (ink : Ink) (b : ℕ) → b < 2 → cond (ink .clear && not (eqb b 1)) none (some (cond (eqb b 1) (ink .fore) (ink .back))) ≡ sourced (bitSource ink b)
+unfolding bitSource
+bit-given ink zero h = refl
+bit-given ink (suc zero) h = refl
+bit-given ink (suc (suc b)) h = absurd (omega arith)
+
+pub stipple-given : (ink : Ink) (pen : Pen) (style : ℕ) {bit v : ℕ} → bit ≡ stippleBit pen style → v ≡ cond (eqb bit 1) (ink .fore) (ink .back)
+    → cond (ink .clear && not (eqb bit 1)) none (some v) ≡ sourced (bitSource ink (stippleBit pen style))
+stipple-given ink pen style e f = rw (f, e) (bit-given ink (stippleBit pen style) (stipple-bit pen style))
 
 -- the same where each is given one value
 module _ (v : ℕ) (l : Line) (i e : ℕ) where

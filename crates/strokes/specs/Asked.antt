@@ -7,16 +7,19 @@ use Rattle.surface.specs.declared.Surface.{Surface}
 use Rattle.surface.specs.Place.{onSurface}
 use Rattle.surface.specs.Asked.{Colour}
 use Rattle.surface.specs.Pixels.{origin}
+use Rattle.raster.specs.Masks.{flips}
 use Rattle.ink.specs.declared.Ink.{Ink}
 use Rattle.line.specs.declared.Line.{Line}
 use Rattle.line.specs.Line.{longer, shorter, pointAt, pointCount}
 use Rattle.line.specs.Tread.{AtStep}
 use Rattle.paint.specs.declared.Clip.{Clip}
 use Rattle.paint.specs.Clip.{inClip}
+use Rattle.strokes.specs.declared.Twin.{Twin}
 use Rattle.strokes.specs.declared.Spot.{Spot}
 use Rattle.strokes.specs.declared.Part.{Part}
 use Rattle.line.specs.Asked.{Placed}
 use Rattle.strokes.specs.Walk.{whole}
+use Rattle.strokes.specs.Mixed.{twinOf}
 
 -- the ends of a line are at the origin or after it
 pub record Ahead (l : Line) : Type 0 where
@@ -40,16 +43,23 @@ pub record Mixable (ink : Ink) (len : ℕ) (l : Line) : Type 0 where
   pub keyless : ink .dstKey ≡ false
   pub colour : ink .mono ≡ false
 
+-- what the walk goes by, worked out for points of n bytes; where it goes as if the operation only flips, it does
+pub record Mixing (len n : ℕ) (flip : Bool) (t : Twin) : Type 0 where
+  pub mixable : Mixable (t .ink) len (t .line)
+  pub bytes : n ≡ t .ink .target .bytes
+  pub flipping : flip ≡ true → flips (t .ink .rop0) ≡ true
+  pub worked : t ≡ twinOf (t .ink) (t .line)
+
 -- the walk is at a point of the line, or past its last
 pub record OnSpot (l : Line) (s : Spot) : Type 0 where
   pub within : s .at ≤ pointCount l
   pub walk : s .at < pointCount l → AtStep (longer l) (shorter l) (s .at) (s .tread)
 
--- what is sought from a spot on: what is passed is not so, and where it stops it is
-pub record Sought (c : Clip) (l : Line) (inside : Bool) (from r : Spot) : Type 0 where
+-- what is sought from a point on: what is passed is not so, and where it stops it is
+pub record Sought (c : Clip) (l : Line) (inside : Bool) (from : ℕ) (r : Spot) : Type 0 where
   pub spot : OnSpot l r
-  pub ahead : from .at ≤ r .at
-  pub passed : (i : ℕ) → from .at ≤ i → i < r .at → inClip c (pointAt l i .x) (pointAt l i .y) ≡ not inside
+  pub ahead : from ≤ r .at
+  pub passed : (i : ℕ) → from ≤ i → i < r .at → inClip c (pointAt l i .x) (pointAt l i .y) ≡ not inside
   pub stops : r .at < pointCount l → inClip c (pointAt l (r .at) .x) (pointAt l (r .at) .y) ≡ inside
 
 -- a spot inside the clip, and where the points that follow it are outside again

@@ -1,8 +1,8 @@
--- A line inside the clip whose points get what pattern, colorFore and target make, walked by address: on the target, and on the pattern as on a surface.
+-- A line inside the clip whose points get what pattern, colorFore and target make, walked by address: one number for the place on the target and for the cell of the pattern.
 -- Assumes nothing.
 use mathlib.Core.Bool.{Bool, cond, not, _&&_}
 use mathlib.Core.List.{List, map}
-use Prim.Native.Nat.{ℕ, _+_, _-_, _*_, _%_}
+use Prim.Native.Nat.{ℕ, _+_, _-_, _*_, _%_, _^_}
 use Rattle.surface.specs.declared.Surface.{Surface}
 use Rattle.surface.specs.Place.{surface, byteOf}
 use Rattle.surface.specs.Pixels.{origin}
@@ -19,20 +19,29 @@ use Rattle.line.specs.Line.{longer, pointCount}
 use Rattle.strokes.specs.declared.Twin.{Twin}
 use Rattle.strokes.specs.Walk.{stepsOf, walk}
 
--- the pattern's columns and rows as a surface of one byte a pixel, its rows 65,536 apart: the address of a pixel says its column and its row
-unfoldable pub gridOf : Ink → Surface
-gridOf ink = cond (ink .forced) (surface (ink .patX % 8) 0 1) (surface (ink .patX % 8 + ink .patY % 8 * 65536) 65536 1)
+-- a column of the pattern in the bits from 32 on, and a row in those from 46 on: the forced row is 0
+abbrev pub columnPart : ℕ → ℕ
+columnPart u = u * 2 ^ 32
 
--- both walks at a line's first point, and what their steps add
+abbrev pub rowPart : Ink → ℕ → ℕ
+rowPart ink u = cond (ink .forced) 0 (u * 2 ^ 46)
+
+-- the target and the pattern's grid as one surface: the low 32 bits of a pixel's address there are its address on the target, the others its cell
+abbrev pub pairOf : Ink → Surface
+pairOf ink =
+    surface (ink .target .base + (columnPart (ink .patX % 8) + rowPart ink (ink .patY % 8))) (ink .target .stride + rowPart ink 1) (ink .target .bytes + columnPart 1)
+
+abbrev pub pairAt : Ink → ℕ → ℕ → ℕ
+pairAt ink x y = byteOf (ink .target) x y 0 + columnPart (ink .patX % 8 + x) + rowPart ink (ink .patY % 8 + y)
+
+-- the walk at a line's first point, and what its steps add
 unfoldable pub twinOf : Ink → Line → Twin
 twinOf ink l = record {
   ink = ink;
   line = l;
   quad = quadOf (ink .rop0) (ink .fore);
-  steps = stepsOf (ink .target) l;
-  cells = stepsOf (gridOf ink) l;
-  walk = walk (byteOf (ink .target) (l .x0 - origin) (l .y0 - origin) 0) (longer l);
-  cell = byteOf (gridOf ink) (l .x0 - origin) (l .y0 - origin) 0;
+  steps = stepsOf (pairOf ink .bytes) (pairOf ink .stride) l;
+  walk = walk (pairAt ink (l .x0 - origin) (l .y0 - origin)) (longer l);
   total = pointCount l;
 }
 

@@ -31,18 +31,19 @@ use Rattle.line.specs.Stipple.{repeatCount, size, position, bitNumber, styleOf,
 unfoldable pub shift : Bool → ℕ → ℕ
 shift up u = cond up u ((2 ^ 64 - u) % 2 ^ 64)
 
-abbrev pub across : Surface → Line → ℕ
-across s l = shift (leb (l .x0) (l .x1)) (s .bytes)
+-- where pixels are so many bytes apart, and rows so many
+abbrev pub across : ℕ → Line → ℕ
+across bytes l = shift (leb (l .x0) (l .x1)) bytes
 
-abbrev pub down : Surface → Line → ℕ
-down s l = shift (leb (l .y0) (l .y1)) (s .stride)
+abbrev pub down : ℕ → Line → ℕ
+down stride l = shift (leb (l .y0) (l .y1)) stride
 
 abbrev pub steps : ℕ → ℕ → ℕ → ℕ → Steps
 steps along both limit more = record { along = along; both = both; limit = limit; more = more }
 
-unfoldable pub stepsOf : Surface → Line → Steps
-stepsOf s l =
-    steps (cond (xMajor l) (across s l) (down s l)) ((across s l + down s l) % 2 ^ 64)
+unfoldable pub stepsOf : ℕ → ℕ → Line → Steps
+stepsOf bytes stride l =
+    steps (cond (xMajor l) (across bytes l) (down stride l)) ((across bytes l + down stride l) % 2 ^ 64)
     (2 * longer l - 2 * shorter l) (2 * shorter l)
 
 abbrev pub walk : ℕ → ℕ → Walk

@@ -21,8 +21,8 @@ ghost use Rattle.line.specs.Asked.{Placed, Drawable};
 ghost use Rattle.line.specs.Stipple.{stippleBit, after, styleAfter};
 ghost use Rattle.line.specs.Draw.{lineTouches};
 ghost use Rattle.strokes.specs.Walk.{shift, stepsOf, walkedOn, walk, plainTouches, clipTouches, walkTouches, wordOf, whole, Fields, walks};
-ghost use Rattle.strokes.specs.Mixed.{gridOf, twinOf, mixTouches, mixes};
-ghost use Rattle.strokes.specs.Asked.{Ahead, Walkable, Mixable, OnSpot, Sought, Entered, LeftAt, PartOn};
+ghost use Rattle.strokes.specs.Mixed.{columnPart, rowPart, twinOf, mixTouches, mixes};
+ghost use Rattle.strokes.specs.Asked.{Ahead, Walkable, Mixable, Mixing, OnSpot, Sought, Entered, LeftAt, PartOn};
 
 // Where a walk along a line is: the address of a point's first byte, and the remainder of its steps along the minor axis.
 pub struct Walk {
@@ -47,21 +47,22 @@ pub struct Phase {
 }
 
 // u, or what takes u off in 64 bits.
-fn shifted(up: bool, u: u32) -> usize
+fn shifted(up: bool, u: usize) -> usize
     ensures { λ r. ⌜ r ≡ shift up u ⌝ }
 {
     if up {
-        return surface::wide(u);
+        return u;
     }
-    std::num::wrapping_sub_usize(0, surface::wide(u))
+    std::num::wrapping_sub_usize(0, u)
 }
 
-fn steps_of(s: Surface, l: Line) -> Steps
+// Where pixels are so many bytes apart, and rows so many.
+fn steps_by(bytes: usize, stride: usize, l: Line) -> Steps
     requires { ⌜ Placed l ⌝ }
-    ensures { λ r. ⌜ r ≡ stepsOf s l ⌝ }
+    ensures { λ r. ⌜ r ≡ stepsOf bytes stride l ⌝ }
 {
-    let across = shifted(l.x0 <= l.x1, s.bytes);
-    let down = shifted(l.y0 <= l.y1, s.stride);
+    let across = shifted(l.x0 <= l.x1, bytes);
+    let down = shifted(l.y0 <= l.y1, stride);
     let both = std::num::wrapping_add_usize(across, down);
     let more = 2 * line::short_side(l);
     let limit = 2 * line::long_side(l) - more;
@@ -79,6 +80,13 @@ fn steps_of(s: Surface, l: Line) -> Steps
         limit: limit,
         more: more,
     }
+}
+
+fn steps_of(s: Surface, l: Line) -> Steps
+    requires { ⌜ Placed l ⌝ }
+    ensures { λ r. ⌜ r ≡ stepsOf (s .bytes) (s .stride) l ⌝ }
+{
+    steps_by(surface::wide(s.bytes), surface::wide(s.stride), l)
 }
 
 // The next point.
@@ -169,13 +177,19 @@ fn phase_bit(pen: Pen, p: Phase) -> u32
     1
 }
 
-// The line drawn by address, where each point gets its source.
-fn walk_line(mem: &mut [u8], ink: Ink, l: Line, pen: Pen, style: u32) -> LineDone
-    requires { ⌜ Walkable (ink .target) (length (now mem)) l style ⌝ }
+// What a point is given: colorFore where the stipple is on.
+fn pick(on: bool, fore: u32, back: u32) -> u32
+    ensures { λ r. ⌜ r ≡ cond on fore back ⌝ }
+{
+    if on { fore } else { back }
+}
+
+// The line drawn by address, where each point, of n bytes, gets its source.
+fn stipple_points(mem: &mut [u8], n: u32, ink: Ink, l: Line, pen: Pen, style: u32) -> LineDone
+    requires { ⌜ Walkable (ink .target) (length (now mem)) l style × (n ≡ ink .target .bytes) ⌝ }
     ensures { λ r. ⌜ (tallied (now (mem .exit)) (r .tally) ≡ paint (ink .target) (walkTouches ink pen style (points l)) (state (now (mem .entry)) 0 0)) × (r .style ≡ styleAfter pen (pointCount l) style) ⌝ }
 {
     let s = ink.target;
-    let n = s.bytes;
     let t = steps_of(s, l);
     let mut w = Walk {
         at: surface::close_byte(s, l.x0 - 16384, l.y0 - 16384, 0),
@@ -188,8 +202,9 @@ fn walk_line(mem: &mut [u8], ink: Ink, l: Line, pen: Pen, style: u32) -> LineDon
     };
     let mut i = 0;
     while i < surface::wide(line::point_count(l)) {
-        let source = paint::bit_source(ink, phase_bit(pen, p));
-        tally = paint::put_value_at(mem, w.at, n, source.left, source.value, tally);
+        let on = phase_bit(pen, p) == 1;
+        let v = pick(on, ink.fore, ink.back);
+        tally = paint::put_value_at(mem, w.at, n, ink.clear & !on, v, tally);
         w = walk_on(t, w);
         p = phase_after(pen, p);
         i += 1;
@@ -197,6 +212,20 @@ fn walk_line(mem: &mut [u8], ink: Ink, l: Line, pen: Pen, style: u32) -> LineDon
     LineDone {
         style: style_of(p),
         tally: tally,
+    }
+}
+
+// By the number of bytes, so that each has a loop of its own.
+fn walk_line(mem: &mut [u8], ink: Ink, l: Line, pen: Pen, style: u32) -> LineDone
+    requires { ⌜ Walkable (ink .target) (length (now mem)) l style ⌝ }
+    ensures { λ r. ⌜ (tallied (now (mem .exit)) (r .tally) ≡ paint (ink .target) (walkTouches ink pen style (points l)) (state (now (mem .entry)) 0 0)) × (r .style ≡ styleAfter pen (pointCount l) style) ⌝ }
+{
+    let n = ink.target.bytes;
+    match n {
+        1 => stipple_points(mem, 1, ink, l, pen, style),
+        2 => stipple_points(mem, 2, ink, l, pen, style),
+        3 => stipple_points(mem, 3, ink, l, pen, style),
+        _ => stipple_points(mem, 4, ink, l, pen, style),
     }
 }
 
@@ -225,55 +254,41 @@ fn walk_plain(mem: &mut [u8], ink: Ink, l: Line) -> Tally
     tally
 }
 
-// The pattern as a surface of one byte a pixel whose rows are 65,536 apart, so that an address there says the pattern's column and row.
-fn grid_of(ink: Ink) -> Surface
-    ensures { λ r. ⌜ r ≡ gridOf ink ⌝ }
+// A column of the pattern in the bits from 32 on.
+fn column_part(u: u32) -> usize
+    requires { ⌜ u < 2 ^ 14 ⌝ }
+    ensures { λ r. ⌜ r ≡ columnPart u ⌝ }
 {
-    let across = ink.patX % 8;
+    surface::wide(u) << 32
+}
+
+// A row of it in those from 46 on; the forced row is 0.
+fn row_part(ink: Ink, u: u32) -> usize
+    requires { ⌜ u < 2 ^ 14 ⌝ }
+    ensures { λ r. ⌜ r ≡ rowPart ink u ⌝ }
+{
     if ink.forced {
-        return Surface {
-            base: across,
-            stride: 0,
-            bytes: 1,
-            tiled: false,
-        };
+        return 0;
     }
-    Surface {
-        base: across + ink.patY % 8 * 0x10000,
-        stride: 0x10000,
-        bytes: 1,
-        tiled: false,
-    }
+    surface::wide(u) << 46
 }
 
-// The next point's address on another surface, by the remainder at this point.
-fn also_on(t: Steps, rest: u32, at: usize) -> usize
-    ensures { λ r. ⌜ r ≡ walkedOn t (walk at rest) .at ⌝ }
-{
-    if rest < t.limit {
-        return std::num::wrapping_add_usize(at, t.along);
-    }
-    std::num::wrapping_add_usize(at, t.both)
-}
-
-// The pixel of n bytes of a colour pattern that an address on its grid says.
+// The pixel of n bytes of a colour pattern whose column and row lie there.
 fn cell_of(pattern: &[u8; 256], n: u32, at: usize) -> u32
     requires { ⌜ (0 < n) × (n < 5) ⌝ }
-    ensures { λ r. ⌜ r ≡ patternPixel n (now (pattern .entry)) (at % 8) (at / 0x10000 % 8) ⌝ }
+    ensures { λ r. ⌜ r ≡ patternPixel n (now (pattern .entry)) (at / 2 ^ 32 % 8) (at / 2 ^ 46 % 8) ⌝ }
 {
-    let cell = at / 0x10000 % 8 * 8 + at % 8;
+    let cell = at / 0x4000_0000_0000 % 8 * 8 + at / 0x1_0000_0000 % 8;
     surface::get_bytes(pattern, cell * surface::wide(n), n)
 }
 
-// A line and its ink, with what a walk along it goes by, worked out before: one walk on the target and one on the pattern's grid.
+// A line and its ink, with what a walk along it goes by, worked out before: the walk's address has the pattern's cell in its high bits.
 pub struct Twin {
     pub ink: Ink,
     pub line: Line,
     pub quad: Quad,
     pub steps: Steps,
-    pub cells: Steps,
     pub walk: Walk,
-    pub cell: usize,
     pub total: u32,
 }
 
@@ -282,63 +297,71 @@ fn twin_of(ink: Ink, l: Line) -> Twin
     ensures { λ r. ⌜ r ≡ twinOf ink l ⌝ }
 {
     let s = ink.target;
-    let grid = grid_of(ink);
     let x = l.x0 - 16384;
     let y = l.y0 - 16384;
+    let bytes = surface::wide(s.bytes) + column_part(1);
+    let stride = surface::wide(s.stride) + row_part(ink, 1);
+    let place = surface::close_byte(s, x, y, 0);
+    let column = column_part(ink.patX % 8 + x);
+    let row = row_part(ink, ink.patY % 8 + y);
     Twin {
         ink: ink,
         line: l,
         quad: raster::quad_of(ink.rop0, ink.fore),
-        steps: steps_of(s, l),
-        cells: steps_of(grid, l),
+        steps: steps_by(bytes, stride, l),
         walk: Walk {
-            at: surface::close_byte(s, x, y, 0),
+            at: place + column + row,
             rest: line::long_side(l),
         },
-        cell: surface::close_byte(grid, x, y, 0),
         total: line::point_count(l),
     }
 }
 
 // The line drawn by address, where each point, of n bytes, gets what pattern, colorFore and target make.
-fn mix_points(mem: &mut [u8], n: u32, pattern: &[u8; 256], twin: Twin) -> Tally
-    requires { ⌜ Mixable (twin .ink) (length (now mem)) (twin .line) × (n ≡ twin .ink .target .bytes) × (twin ≡ twinOf (twin .ink) (twin .line)) ⌝ }
+fn mix_points(mem: &mut [u8], n: u32, flip: bool, pattern: &[u8; 256], twin: Twin) -> Tally
+    requires { ⌜ Mixing (length (now mem)) n flip twin ⌝ }
     ensures { λ r. ⌜ tallied (now (mem .exit)) r ≡ paint (twin .ink .target) (mixTouches (twin .ink) (now (pattern .entry)) (points (twin .line))) (state (now (mem .entry)) 0 0) ⌝ }
 {
     let q = twin.quad;
     let t = twin.steps;
-    let g = twin.cells;
     let mut w = twin.walk;
-    let mut z = twin.cell;
     let mut tally = Tally {
         count: 0,
         changed: 0,
     };
     let mut i = 0;
     while i < surface::wide(twin.total) {
-        let old = surface::get_bytes(mem, w.at, n);
-        let p = cell_of(pattern, n, z);
-        let v = raster::merge(q.q0, q.q1, q.q2, q.q3, p, old);
-        tally = paint::put_value_at(mem, w.at, n, false, v, tally);
-        z = also_on(g, w.rest, z);
+        let at = w.at % 0x1_0000_0000;
+        let old = surface::get_bytes(mem, at, n);
+        let p = cell_of(pattern, n, w.at);
+        let v = raster::make(q, flip, p, old);
+        tally = paint::put_value_at(mem, at, n, false, v, tally);
         w = walk_on(t, w);
         i += 1;
     }
     tally
 }
 
-// By the number of bytes, so that each has a loop of its own.
+// By the number of bytes and by what the operation does to the target, so that each has a loop of its own.
 fn walk_mixed(mem: &mut [u8], ink: Ink, pattern: &[u8; 256], l: Line) -> Tally
     requires { ⌜ Mixable ink (length (now mem)) l ⌝ }
     ensures { λ r. ⌜ tallied (now (mem .exit)) r ≡ paint (ink .target) (mixTouches ink (now (pattern .entry)) (points l)) (state (now (mem .entry)) 0 0) ⌝ }
 {
     let twin = twin_of(ink, l);
     let n = ink.target.bytes;
+    if raster::is_flip(ink.rop0) {
+        return match n {
+            1 => mix_points(mem, 1, true, pattern, twin),
+            2 => mix_points(mem, 2, true, pattern, twin),
+            3 => mix_points(mem, 3, true, pattern, twin),
+            _ => mix_points(mem, 4, true, pattern, twin),
+        };
+    }
     match n {
-        1 => mix_points(mem, 1, pattern, twin),
-        2 => mix_points(mem, 2, pattern, twin),
-        3 => mix_points(mem, 3, pattern, twin),
-        _ => mix_points(mem, 4, pattern, twin),
+        1 => mix_points(mem, 1, false, pattern, twin),
+        2 => mix_points(mem, 2, false, pattern, twin),
+        3 => mix_points(mem, 3, false, pattern, twin),
+        _ => mix_points(mem, 4, false, pattern, twin),
     }
 }
 
@@ -348,10 +371,31 @@ pub struct Spot {
     pub tread: Tread,
 }
 
-// From a spot on, the first point that is inside the clip, or the first that is not; past the last where there is none.
-fn seek(c: Clip, l: Line, from: Spot, inside: bool) -> Spot
+// The first point inside the clip; past the last where there is none.
+fn enter(c: Clip, l: Line) -> Spot
+    requires { ⌜ Placed l × Bits12 c ⌝ }
+    ensures { λ r. ⌜ Sought c l true 0 r ⌝ }
+{
+    let n = line::long_side(l);
+    let m = line::short_side(l);
+    let total = line::point_count(l);
+    let mut t = Tread { aside: 0, rest: n };
+    let mut i = 0;
+    while i < total {
+        let p = line::place_point(l, i, t.aside);
+        if paint::covers(c, p.x, p.y) {
+            return Spot { at: i, tread: t };
+        }
+        t = line::tread_on(n, m, t);
+        i += 1;
+    }
+    Spot { at: i, tread: t }
+}
+
+// From a spot on, the first point outside it. The two are apart so that the compiler puts each where it is called.
+fn seek_out(c: Clip, l: Line, from: Spot) -> Spot
     requires { ⌜ Placed l × Bits12 c × OnSpot l from ⌝ }
-    ensures { λ r. ⌜ Sought c l inside from r ⌝ }
+    ensures { λ r. ⌜ Sought c l false (from .at) r ⌝ }
 {
     let n = line::long_side(l);
     let m = line::short_side(l);
@@ -360,8 +404,7 @@ fn seek(c: Clip, l: Line, from: Spot, inside: bool) -> Spot
     let mut i = from.at;
     while i < total {
         let p = line::place_point(l, i, t.aside);
-        let covered = paint::covers(c, p.x, p.y);
-        if (covered & inside) | (!covered & !inside) {
+        if !paint::covers(c, p.x, p.y) {
             return Spot { at: i, tread: t };
         }
         t = line::tread_on(n, m, t);
@@ -398,7 +441,7 @@ fn leave(c: Clip, l: Line, from: Spot) -> u32
             return surface::least(total, from.at + room(l.y0 <= l.y1, c.top, c.bottom, p.y));
         }
     }
-    let out = seek(c, l, from, false);
+    let out = seek_out(c, l, from);
     out.at
 }
 
@@ -442,14 +485,7 @@ fn walk_clipped(mem: &mut [u8], ink: Ink, c: Clip, l: Line) -> Tally
     requires { ⌜ Drawable (ink .target) (length (now mem)) c l × (ink .target .tiled ≡ false) ⌝ }
     ensures { λ r. ⌜ tallied (now (mem .exit)) r ≡ paint (ink .target) (clipTouches (ink .fore) c (points l)) (state (now (mem .entry)) 0 0) ⌝ }
 {
-    let start = Spot {
-        at: 0,
-        tread: Tread {
-            aside: 0,
-            rest: line::long_side(l),
-        },
-    };
-    let first = seek(c, l, start, true);
+    let first = enter(c, l);
     if first.at == line::point_count(l) {
         return Tally {
             count: 0,

@@ -71,11 +71,11 @@ returns-2 c =
     leaves-y (a .c) (a .l) (a .from) (c .before .before .before .before .before .before .before .before .before .before .pre .2) (sym (c .before .before .before .before .before .before .before .x-major .ensures) ∙ c .before .before .before .before .before .before .if1 .left) (ap (λ (p : Point). inClip (a .c) (a .l .x1) (p .y)) (sym here) ∙ sym (c .before .before .before .before .before .covers2 .ensures) ∙ c .before .before .before .before .if3 .taken) _
     (c .least2 .ensures ∙ ap₂ (λ (t r : ℕ). min t (a .from .at + r)) (c .before .before .before .before .before .before .before .before .point-count .ensures) (c .before .before .room2 .ensures ∙ ap (λ (p : Point). cond (leb (a .l .y0) (a .l .y1)) (16384 + a .c .bottom - p .y) (p .y + 1 - (16384 + a .c .top))) here))
 
-seek-requires : tie.Need-seek-requires
-seek-requires c κs = (c .before .before .before .before .pre .0, c .before .before .before .before .pre .1, c .before .before .before .before .pre .2 .spot)
+seek-out-requires : tie.Need-seek-out-requires
+seek-out-requires c κs = (c .before .before .before .before .pre .0, c .before .before .before .before .pre .1, c .before .before .before .before .pre .2 .spot)
 
 returns-3 : tie.Need-returns-3
-returns-3 c = leaves-sought (c .before .before .before .before .before .args .c) (c .before .before .before .before .before .args .l) (c .before .before .before .before .before .args .from) (c .before .before .before .before .before .pre .2) (c .seek .ensures)
+returns-3 c = leaves-sought (c .before .before .before .before .before .args .c) (c .before .before .before .before .before .args .l) (c .before .before .before .before .before .args .from) (c .before .before .before .before .before .pre .2) (c .seek-out .ensures)
 
 pub leave-spec : {M : Type 1} → statement M
 leave-spec =
@@ -94,5 +94,5 @@ leave-spec =
     add-least-2
     least-requires-2
     returns-2
-    seek-requires
+    seek-out-requires
     returns-3)

@@ -1,165 +1,60 @@
--- `strokes::walk_line` meets its contract: what the points that are left do from now on is what all of them do from the start, and the walk is at the next of them.
+-- `strokes::walk_line` meets its contract: at each number of bytes.
 -- Assumes nothing.
 use borrow.Author.Needs.{needs}
 use native.Mathlib.Omega.{arith}
-use mathlib.Core.Path.{_≡_, refl, sym, ap, ap₂, _∙_}
-use mathlib.Core.List.{List, [], _∷_}
-use Prim.Native.Nat.{ℕ, _-_, _<_, _≤_}
-use Rattle.paint.specs.declared.Source.{Source}
-use Rattle.paint.specs.Tally.{tally}
-use Rattle.paint.specs.Paint.{tallied, dab, paint}
-use Rattle.paint.specs.Mix.{bitSource, sourced}
-use Rattle.paint.specs.Clip.{pixelAt}
-use Rattle.surface.proofs.Run.{in-rows, pixel-held}
-use Rattle.line.specs.declared.Point.{Point}
-use Rattle.line.specs.Line.{pointAt, pointCount, pointsFrom, points}
-use Rattle.line.specs.Stipple.{styleAfter}
-use Rattle.strokes.specs.Walk.{walkTouches, wordOf, AtPoint, Fields}
-use Rattle.line.proofs.Sides.{count-le, longer-lt}
-use Rattle.line.proofs.PointLaws.{from-start}
-use Rattle.line.proofs.StippleLaws.{style-start, style-turn, style-done}
-use Rattle.paint.proofs.Tallies.{room-first}
-use Rattle.paint.proofs.Turns.{dab-at}
-use Rattle.paint.proofs.Loops.{Left, left-begins, left-takes, left-ended}
-use Rattle.strokes.proofs.WalkLaws.{steps-small, walk-start, walk-next}
-use Rattle.strokes.proofs.WalkDraw.{walk-left, walk-none}
+use mathlib.Core.Path.{sym}
 use Rattle.strokes.proofs.walk_line.Statement.{statement}
 use Rattle.strokes.proofs.walk_line.Tie as tie
 
-abbrev Inv-loop : tie.InvT-loop
-Inv-loop mem₀ ink l pen style n t w₀ p₀ r₀ i₀ mem w p r i =
-    Left (ink .target) (walkTouches ink pen style (points l)) mem₀ (tally 0 0) i (walkTouches ink pen (wordOf p) (pointsFrom l i (pointCount l - i))) mem r
-    × (styleAfter pen (pointCount l - i) (wordOf p) ≡ styleAfter pen (pointCount l) style)
-    × (i < pointCount l → AtPoint (ink .target) l i w)
-    × Fields p × (i ≤ pointCount l)
+stipple-points-requires : tie.Need-stipple-points-requires
+stipple-points-requires c κs = (c .before .before .before .pre, sym (c .before .match .keys1))
 
-abbrev μ-loop : tie.MeasureT-loop
-μ-loop mem₀ ink l pen style n t w₀ p₀ r₀ i₀ mem w p r i = pointCount l - i
+stipple-points-requires-2 : tie.Need-stipple-points-requires-2
+stipple-points-requires-2 c κs = (c .before .before .before .pre, sym (c .before .match .keys2))
 
-steps-of-requires : tie.Need-steps-of-requires Inv-loop μ-loop
-steps-of-requires c κs = c .before .before .pre .ahead .line
+stipple-points-requires-3 : tie.Need-stipple-points-requires-3
+stipple-points-requires-3 c κs = (c .before .before .before .pre, sym (c .before .match .keys3))
 
-sub-close-byte : tie.Need-sub-close-byte Inv-loop μ-loop
-sub-close-byte c = c .before .before .before .before .pre .ahead .left
+stipple-points-requires-4 : tie.Need-stipple-points-requires-4
+stipple-points-requires-4 c κs = (c .before .before .before .pre, omega (arith, c .before .match .rest, c .before .before .before .pre .surface .some, c .before .before .before .pre .surface .small .bytes))
 
-sub-close-byte-2 : tie.Need-sub-close-byte-2 Inv-loop μ-loop
-sub-close-byte-2 c = c .before .before .before .before .before .pre .ahead .top
-
-close-byte-requires : tie.Need-close-byte-requires Inv-loop μ-loop
-close-byte-requires c κs =
-    let p = c .before .before .before .before .before .pre in
-    (p .surface, p .surface .some, omega (arith, p .ahead .line .x0), omega (arith, p .ahead .line .y0))
-
-long-side-requires : tie.Need-long-side-requires Inv-loop μ-loop
-long-side-requires c κs = search needs
-
-phase-of-requires : tie.Need-phase-of-requires Inv-loop μ-loop
-phase-of-requires c κs = c .before .before .before .before .before .before .before .pre .fields
-
-loop-holds : tie.Need-loop-holds Inv-loop μ-loop
-loop-holds c =
-    let a = c .before .before .before .before .before .before .before .before .args in
-    let e = c .phase-of .ensures .1 in
-    let n = pointCount (a .l) in (
-      left-begins (ap₂ (λ (u : ℕ) (ps : List Point). walkTouches (a .ink) (a .pen) u ps) e (from-start (a .l) n refl)),
-      ap (styleAfter (a .pen) (n - 0)) e ∙ style-start (a .pen) n n (a .style) refl,
-      (λ h. walk-start (a .ink .target) (a .l) _ _ (c .before .before .close-byte .ensures) (c .before .long-side .ensures)),
-      c .phase-of .ensures .0,
-      omega arith,
-    )
-
-point-count-requires : tie.Need-point-count-requires Inv-loop μ-loop
-point-count-requires c κs = c .before .before .before .before .before .before .before .before .before .pre .ahead .line
-
-wide-requires : tie.Need-wide-requires Inv-loop μ-loop
-wide-requires c κs = search needs
-
-phase-bit-requires : tie.Need-phase-bit-requires Inv-loop μ-loop
-phase-bit-requires c κs = c .before .before .before .loop .inv .3
-
-bit-source-requires : tie.Need-bit-source-requires Inv-loop μ-loop
-bit-source-requires c κs = search needs
-
-put-value-at-requires : tie.Need-put-value-at-requires Inv-loop μ-loop
-put-value-at-requires c κs =
-    let a = c .before .before .before .before .before .before .before .before .before .before .before .before .before .before .before .args in
-    let p = c .before .before .before .before .before .before .before .before .before .before .before .before .before .before .before .pre in
-    let k = c .before .before .before .before .before .before .loop in
-    let h : k .i < pointCount (a .l) = omega (arith, c .before .before .before .before .wide .ensures, c .before .before .before .before .before .point-count .ensures) in (
-      rw (k .inv .0 .long) (pixel-held (in-rows (p .flat)) (record { colour = p .surface; on = p .on (k .i) h }) _ (k .inv .2 h .at)),
-      room-first (k .inv .0 .upto) (omega (arith, longer-lt (p .ahead .line), count-le (a .l))),
-    )
-
-walk-on-requires : tie.Need-walk-on-requires Inv-loop μ-loop
-walk-on-requires c κs = rw (c .before .before .before .before .before .before .before .before .before .before .before .before .before .before .before .steps-of .ensures) (steps-small (c .before .before .before .before .before .before .before .before .before .before .before .before .before .before .before .before .before .before .args .ink .target) (c .before .before .before .before .before .before .before .before .before .before .before .before .before .before .before .before .before .before .args .l) (c .before .before .before .before .before .before .before .before .before .before .before .before .before .before .before .before .before .before .pre .ahead .line))
-
-phase-after-requires : tie.Need-phase-after-requires Inv-loop μ-loop
-phase-after-requires c κs = c .before .before .before .before .before .before .before .before .before .before .loop .inv .3
-
-add-i : tie.Need-add-i Inv-loop μ-loop
-add-i c = omega (arith, c .before .before .before .before .before .before .before .before .before .wide .ensures, c .before .before .before .before .before .before .before .before .before .before .point-count .ensures)
-
-loop-less : tie.Need-loop-less Inv-loop μ-loop
-loop-less c = omega (arith, c .before .before .before .before .before .before .before .before .before .wide .ensures, c .before .before .before .before .before .before .before .before .before .before .point-count .ensures)
-
-loop-again : tie.Need-loop-again Inv-loop μ-loop
-unfolding paint walkTouches
-loop-again c =
-    let a = c .before .before .before .before .before .before .before .before .before .before .before .before .before .before .before .before .before .before .before .before .args in
-    let p = c .before .before .before .before .before .before .before .before .before .before .before .before .before .before .before .before .before .before .before .before .pre in
-    let k = c .before .before .before .before .before .before .before .before .before .before .before .loop in
-    let s = a .ink .target in
-    let h : k .i < pointCount (a .l) = omega (arith, c .before .before .before .before .before .before .before .before .before .wide .ensures, c .before .before .before .before .before .before .before .before .before .before .point-count .ensures) in
-    let at = k .inv .2 h in
-    let q = pointAt (a .l) (k .i) in
-    let put = c .before .before .before .before .put-value-at .ensures ∙ dab-at s (in-rows (p .flat)) (pixelAt (q .x) (q .y)) _ (sourced (c .before .before .before .before .before .before .bit-source .result)) (tallied (k .mem) (k .tally)) (at .at)
-    ∙ ap (λ (source : Source). dab s (pixelAt (q .x) (q .y)) (sourced source) (tallied (k .mem) (k .tally))) (c .before .before .before .before .before .before .bit-source .ensures ∙ ap (bitSource (a .ink)) (c .before .before .before .before .before .before .before .phase-bit .ensures)) in (
-      left-takes (k .inv .0) (walkTouches (a .ink) (a .pen) (wordOf (k .p)) (q ∷ [])) (walk-left (a .ink) (a .pen) (a .l) (k .i) (pointCount (a .l)) (wordOf (k .p)) h (c .phase-after .ensures .1))
-          (omega arith) put,
-      style-turn (a .pen) (k .i) (pointCount (a .l)) (wordOf (k .p)) _ h (c .phase-after .ensures .1) ∙ k .inv .1,
-      (λ g. rw (c .before .walk-on .ensures, c .before .before .before .before .before .before .before .before .before .before .before .before .before .before .before .before .before .steps-of .ensures) (walk-next s (p .flat) (p .surface .small) (a .l) (p .ahead) (k .i) (omega (arith, count-le (a .l))) (k .w) at)),
-      c .phase-after .ensures .0,
-      omega arith,
-    )
-
-style-of-requires : tie.Need-style-of-requires Inv-loop μ-loop
-style-of-requires c κs = c .before .before .before .loop .inv .3
-
-same-length : tie.Need-same-length Inv-loop μ-loop
+same-length : tie.Need-same-length
 same-length c = search needs
 
-returns : tie.Need-returns Inv-loop μ-loop
-returns c =
-    let a = c .before .before .before .before .before .before .before .before .before .before .before .before .before .args in
-    let k = c .before .before .before .before .loop in
-    let h : pointCount (a .l) ≤ k .i = omega (arith, c .before .before .wide .ensures, c .before .before .before .point-count .ensures) in (
-      left-ended (k .inv .0) (walk-none (a .ink) (a .pen) (a .l) (k .i) (pointCount (a .l)) (wordOf (k .p)) h),
-      c .style-of .ensures ∙ sym (style-done (a .pen) (k .i) (pointCount (a .l)) (wordOf (k .p)) h) ∙ k .inv .1,
-    )
+returns : tie.Need-returns
+returns c = c .before .before .stipple-points .ensures
+
+same-length-2 : tie.Need-same-length-2
+same-length-2 c = search needs
+
+returns-2 : tie.Need-returns-2
+returns-2 c = c .before .before .stipple-points2 .ensures
+
+same-length-3 : tie.Need-same-length-3
+same-length-3 c = search needs
+
+returns-3 : tie.Need-returns-3
+returns-3 c = c .before .before .stipple-points3 .ensures
+
+same-length-4 : tie.Need-same-length-4
+same-length-4 c = search needs
+
+returns-4 : tie.Need-returns-4
+returns-4 c = c .before .before .stipple-points4 .ensures
 
 pub walk-line-spec : {M : Type 1} → statement M
 walk-line-spec =
     tie.close
     (tie.spec
-    Inv-loop
-    μ-loop
-    steps-of-requires
-    sub-close-byte
-    sub-close-byte-2
-    close-byte-requires
-    long-side-requires
-    phase-of-requires
-    loop-holds
-    point-count-requires
-    wide-requires
-    phase-bit-requires
-    bit-source-requires
-    put-value-at-requires
-    walk-on-requires
-    phase-after-requires
-    add-i
-    loop-less
-    loop-again
-    style-of-requires
+    stipple-points-requires
+    stipple-points-requires-2
+    stipple-points-requires-3
+    stipple-points-requires-4
     same-length
-    returns)
+    returns
+    same-length-2
+    returns-2
+    same-length-3
+    returns-3
+    same-length-4
+    returns-4)

@@ -21,7 +21,7 @@ use Rattle.line.proofs.Sides.{count-le, longer-lt}
 use Rattle.line.proofs.TreadLaws.{way-placed, way-point}
 use Rattle.line.proofs.PointLaws.{InBox, point-box}
 use Rattle.strokes.specs.Walk.{walk, plainTouches, AtPoint}
-use Rattle.strokes.proofs.WalkLaws.{Shown, steps-small, step-next}
+use Rattle.strokes.proofs.WalkLaws.{Shown, small-low, steps-small, step-next}
 use Rattle.strokes.proofs.WalkDraw.{plain-left, plain-none}
 use Rattle.strokes.proofs.walk_part.Statement.{statement}
 use Rattle.strokes.proofs.walk_part.Tie as tie
@@ -78,7 +78,7 @@ put-value-at-requires c κs =
     )
 
 walk-on-requires : tie.Need-walk-on-requires Inv-loop μ-loop
-walk-on-requires c κs = rw (c .before .before .before .before .before .before .before .before .before .before .before .before .steps-of .ensures) (steps-small (c .before .before .before .before .before .before .before .before .before .before .before .before .before .before .before .before .before .args .ink .target) (c .before .before .before .before .before .before .before .before .before .before .before .before .before .before .before .before .before .args .part .line) (c .before .before .before .before .before .before .before .before .before .before .before .before .before .before .before .before .before .pre .line))
+walk-on-requires c κs = rw (c .before .before .before .before .before .before .before .before .before .before .before .before .steps-of .ensures) (steps-small _ _ (c .before .before .before .before .before .before .before .before .before .before .before .before .before .before .before .before .before .args .part .line) (c .before .before .before .before .before .before .before .before .before .before .before .before .before .before .before .before .before .pre .line))
 
 add-i : tie.Need-add-i Inv-loop μ-loop
 add-i c = omega (arith, c .before .before .before .before .before .before .wide2 .ensures)
@@ -100,7 +100,7 @@ loop-again c =
     let shown : (i : ℕ) → a .part .from .at ≤ i → i < a .part .past → Shown (pointAt l i) = λ i g f. let o = pre .near i g f in record { x = o .0; y = o .1 } in (
       left-takes (k .inv .0) (plainTouches (a .ink .fore) (q ∷ [])) (plain-left (a .ink .fore) l (k .i) (a .part .past) h) (omega arith)
           (c .before .before .before .put-value-at .ensures ∙ dab-at s (in-rows (pre .flat)) (pixelAt (q .x) (q .y)) _ (some (a .ink .fore)) (tallied (k .mem) (k .tally)) (at .at)),
-      (λ g. rw (c .walk-on .ensures, c .before .before .before .before .before .before .before .before .before .before .before .before .before .steps-of .ensures) (step-next s (pre .flat) (pre .surface .small) l (pre .line) (k .i) (omega (arith, count-le l, pre .upto)) (shown (k .i) (k .inv .2) h) (shown (k .i + 1) (omega (arith, k .inv .2)) g) (k .w) at)),
+      (λ g. rw (c .walk-on .ensures, c .before .before .before .before .before .before .before .before .before .before .before .before .before .steps-of .ensures) (step-next s (pre .flat) (small-low (pre .surface .small)) l (pre .line) (k .i) (omega (arith, count-le l, pre .upto)) (shown (k .i) (k .inv .2) h) (shown (k .i + 1) (omega (arith, k .inv .2)) g) (k .w) at)),
       omega (arith, k .inv .2),
       omega arith,
     )

@@ -17,7 +17,7 @@ use Rattle.line.proofs.PointLaws.{from-start}
 use Rattle.paint.proofs.Tallies.{room-first}
 use Rattle.paint.proofs.Turns.{dab-at}
 use Rattle.paint.proofs.Loops.{Left, left-begins, left-takes, left-ended}
-use Rattle.strokes.proofs.WalkLaws.{steps-small, walk-start, walk-next}
+use Rattle.strokes.proofs.WalkLaws.{small-low, steps-small, walk-start, walk-next}
 use Rattle.strokes.proofs.WalkDraw.{plain-left, plain-none}
 use Rattle.strokes.proofs.walk_plain.Statement.{statement}
 use Rattle.strokes.proofs.walk_plain.Tie as tie
@@ -74,7 +74,7 @@ put-value-at-requires c κs =
 walk-on-requires : tie.Need-walk-on-requires Inv-loop μ-loop
 walk-on-requires c κs =
     let b = c .before .before .before .before .before .before .before .before .before .before .before .before .before .before .before in
-    rw (c .before .before .before .before .before .before .before .before .before .before .before .before .steps-of .ensures) (steps-small (b .args .ink .target) (b .args .l) (b .pre .ahead .line))
+    rw (c .before .before .before .before .before .before .before .before .before .before .before .before .steps-of .ensures) (steps-small _ _ (b .args .l) (b .pre .ahead .line))
 
 add-i : tie.Need-add-i Inv-loop μ-loop
 add-i c = omega (arith, c .before .before .before .before .before .before .wide .ensures, c .before .before .before .before .before .before .before .point-count .ensures)
@@ -95,7 +95,7 @@ loop-again c =
     let q = pointAt (a .l) (k .i) in (
       left-takes (k .inv .0) (plainTouches (a .ink .fore) (q ∷ [])) (plain-left (a .ink .fore) (a .l) (k .i) (pointCount (a .l)) h) (omega arith)
           (c .before .before .before .put-value-at .ensures ∙ dab-at s (in-rows (p .flat)) (pixelAt (q .x) (q .y)) _ (some (a .ink .fore)) (tallied (k .mem) (k .tally)) (at .at)),
-      (λ g. rw (c .walk-on .ensures, c .before .before .before .before .before .before .before .before .before .before .before .before .before .steps-of .ensures) (walk-next s (p .flat) (p .surface .small) (a .l) (p .ahead) (k .i) (omega (arith, count-le (a .l))) (k .w) at)),
+      (λ g. rw (c .walk-on .ensures, c .before .before .before .before .before .before .before .before .before .before .before .before .before .steps-of .ensures) (walk-next s (p .flat) (small-low (p .surface .small)) (a .l) (p .ahead) (k .i) (omega (arith, count-le (a .l))) (k .w) at)),
       omega arith,
     )
 
