@@ -20,10 +20,6 @@ chosen p s d m =
     (muxed d (muxed p (m 7) (m 3)) (muxed p (m 6) (m 2)))
     (muxed d (muxed p (m 5) (m 1)) (muxed p (m 4) (m 0)))
 
--- what the code computes, at n bits
-unfoldable tree : ℕ → ℕ → ℕ → ℕ → ℕ → ℕ
-tree n code p s d = chosen p s d (mask n code)
-
 -- a choice at the lowest bit, and above it
 muxed-odd : (s a b : ℕ) → muxed s a b % 2 ≡ muxed (s % 2) (a % 2) (b % 2)
 unfolding muxed
@@ -77,6 +73,21 @@ choose-off : (a b : ℕ) → muxed 0 a b ≡ b
 unfolding muxed
 choose-off a b = xor-zero-r b
 
+-- eight masks of a code by three bits of choice, in whatever order these are asked: the raster operation, where it is at each choice of three bits
+module _ (code : ℕ) (by : ℕ → ℕ → ℕ → (ℕ → ℕ) → ℕ)
+    (half : (p s d : ℕ) (m : ℕ → ℕ) → by p s d m / 2 ≡ by (p / 2) (s / 2) (d / 2) (λ k. m k / 2))
+    (odd : (p s d : ℕ) (m : ℕ → ℕ) → by p s d m % 2 ≡ by (p % 2) (s % 2) (d % 2) (λ k. m k % 2))
+    (none : (p s d : ℕ) → by p s d (λ k. 0) ≡ 0)
+    (bits : (p s d : ℕ) → Bit p → Bit s → Bit d → by p s d (λ k. code / 2 ^ k % 2) ≡ ropBit code p s d) where
+  masks-are : (n p s d : ℕ) → by p s d (mask n code) ≡ ropBits n code p s d
+  unfolding ropBits
+  masks-are zero p s d = ap (by p s d) (λ i k. mask-zero code k i) ∙ none p s d
+  masks-are (suc n) p s d =
+      sym (div-add-mod' (by p s d (mask (suc n) code)) 2)
+      ∙ join (half p s d _ ∙ ap (by (p / 2) (s / 2) (d / 2)) (λ i k. mask-half n code k i) ∙ masks-are n (p / 2) (s / 2) (d / 2))
+      (odd p s d _ ∙ ap (by (p % 2) (s % 2) (d % 2)) (λ i k. mask-odd n code k i) ∙ bits _ _ _ (bit p) (bit s) (bit d))
+
+-- the pattern's choice first
 chosen-bit : (code : ℕ) {p s d : ℕ} → Bit p → Bit s → Bit d → chosen p s d (λ k. code / 2 ^ k % 2) ≡ ropBit code p s d
 unfolding ropBit
 chosen-bit code =
@@ -84,34 +95,16 @@ chosen-bit code =
     (simp choose-off) (simp (choose-on, choose-off)) (simp (choose-on, choose-off)) (simp (choose-on, choose-off))
     (simp (choose-on, choose-off)) (simp (choose-on, choose-off)) (simp (choose-on, choose-off)) (simp choose-on)
 
-tree-odd : (n code p s d : ℕ) → tree (suc n) code p s d % 2 ≡ ropBit code (p % 2) (s % 2) (d % 2)
-unfolding tree
-tree-odd n code p s d = simp (muxed-odd, mask-odd) (chosen-bit code (bit p) (bit s) (bit d))
-
-tree-half : (n code p s d : ℕ) → tree (suc n) code p s d / 2 ≡ tree n code (p / 2) (s / 2) (d / 2)
-unfolding tree
-tree-half n code p s d = simp (muxed-half, mask-half)
-
-tree-is : (n code p s d : ℕ) → tree n code p s d ≡ ropBits n code p s d
-unfolding tree ropBits
-tree-is zero code p s d = simp (mask-zero, muxed-zero)
-tree-is (suc n) code p s d =
-    sym (div-add-mod' (tree (suc n) code p s d) 2)
-    ∙ join (tree-half n code p s d ∙ tree-is n code (p / 2) (s / 2) (d / 2)) (tree-odd n code p s d)
-
 pub merged-is : (code p s d : ℕ) → merged (laid 32 code 0 p) (laid 32 code 1 p) (laid 32 code 2 p) (laid 32 code 3 p) s d ≡ ropBits 32 code p s d
-unfolding merged laid tree
-merged-is code p s d = tree-is 32 code p s d
+unfolding merged laid
+merged-is code = masks-are code chosen (λ p s d m. simp muxed-half) (λ p s d m. simp muxed-odd) (λ p s d. simp muxed-zero) (λ p s d. chosen-bit code) 32
 
--- ---- the same with the source's choice first
+-- the source's choice first
 abbrev sidedBy : ℕ → ℕ → ℕ → (ℕ → ℕ) → ℕ
 sidedBy p s d m =
     muxed p
     (muxed d (muxed s (m 7) (m 5)) (muxed s (m 6) (m 4)))
     (muxed d (muxed s (m 3) (m 1)) (muxed s (m 2) (m 0)))
-
-unfoldable sides : ℕ → ℕ → ℕ → ℕ → ℕ → ℕ
-sides n code p s d = sidedBy p s d (mask n code)
 
 sided-bit : (code : ℕ) {p s d : ℕ} → Bit p → Bit s → Bit d → sidedBy p s d (λ k. code / 2 ^ k % 2) ≡ ropBit code p s d
 unfolding ropBit
@@ -120,16 +113,9 @@ sided-bit code =
     (simp choose-off) (simp (choose-on, choose-off)) (simp (choose-on, choose-off)) (simp (choose-on, choose-off))
     (simp (choose-on, choose-off)) (simp (choose-on, choose-off)) (simp (choose-on, choose-off)) (simp choose-on)
 
-sides-is : (n code p s d : ℕ) → sides n code p s d ≡ ropBits n code p s d
-unfolding sides ropBits
-sides-is zero code p s d = simp (mask-zero, muxed-zero)
-sides-is (suc n) code p s d =
-    sym (div-add-mod' (sides (suc n) code p s d) 2)
-    ∙ join (simp (muxed-half, mask-half) (sides-is n code (p / 2) (s / 2) (d / 2))) (simp (muxed-odd, mask-odd) (sided-bit code (bit p) (bit s) (bit d)))
-
 quad-is : (code p s d : ℕ) → merged (quadOf code s .q0) (quadOf code s .q1) (quadOf code s .q2) (quadOf code s .q3) p d ≡ ropBits 32 code p s d
-unfolding merged quadOf sides
-quad-is code p s d = sides-is 32 code p s d
+unfolding merged quadOf
+quad-is code = masks-are code sidedBy (λ p s d m. simp muxed-half) (λ p s d m. simp muxed-odd) (λ p s d. simp muxed-zero) (λ p s d. sided-bit code) 32
 
 -- ---- an operation that only flips bits of the target
 and-first : (a b : Bool) → (a && b) ≡ true → a ≡ true
