@@ -38,9 +38,9 @@ use Rattle.acts.specs.Deed.{Made, made, Deed, judged}
 
 -- ---- a verdict, and what follows from it
 module _ (d : Deed) (b : Bank) (k : Blit) (m : List ℕ) (u : ℕ) (e : u ≡ d .verdict) where
-  pub judged-no : (u ≡ 0 → ⊥) → record { verdict = u; makes = made b k (state m 0 0) } ≡ judged d b k m
+  pub judged-no : {b′ : Bank} → b′ ≡ b → (u ≡ 0 → ⊥) → record { verdict = u; makes = made b′ k (state m 0 0) } ≡ judged d b k m
   unfolding judged
-  judged-no n = rw (← e, ne-eqb u 0 n)
+  judged-no p n = rw (← e, ne-eqb u 0 n, p)
 
   pub judged-yes : (x : Made) → u ≡ 0 → x ≡ d .makes → record { verdict = 0; makes = x } ≡ judged d b k m
   unfolding judged

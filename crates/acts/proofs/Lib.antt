@@ -3,3 +3,4 @@ pub mod Cases
 pub mod Numbers
 pub mod Order
 pub mod Feeding
+pub mod Once

@@ -13,6 +13,8 @@ use Rattle.line.specs.Stipple.{styleAfter}
 use Rattle.line.specs.Draw.{lineTouches}
 use Rattle.host.specs.Host.{byWord, wordsOf}
 use Rattle.host.specs.Draw.{hostTouches}
+use Rattle.registers.specs.declared.Regs.{Regs}
+use Rattle.registers.specs.Regs.{putReg}
 use Rattle.bank.specs.declared.Bank.{Bank}
 use Rattle.bank.specs.Bank.{stored}
 use Rattle.positions.specs.Position.{steppedXY}
@@ -20,6 +22,7 @@ use Rattle.command.specs.Decode.{target, inkOf, fillTask, copyTask, stretchOf, 
 use Rattle.cuts.specs.Cut.{bit, number, clipOf, fillCut, copyOrder, covered}
 use Rattle.table.specs.Table.{fillVerdict, copyVerdict, stretchVerdict, hostVerdict, lineVerdict}
 use Rattle.acts.specs.declared.Blit.{Blit}
+use Rattle.acts.specs.declared.Ends.{Ends}
 use Rattle.acts.specs.declared.Act.{Act}
 
 -- ---- registers and host blit
@@ -72,9 +75,17 @@ pub record Deed : Type 0 where
   pub verdict : ℕ
   pub makes : Made
 
--- what a function of this crate left
-abbrev pub deed : Act → List ℕ → Deed
-deed a m = record { verdict = a .number; makes = made (a .bank) (a .blit) (tallied m (a .tally)) }
+-- registers and pattern together
+abbrev pub bankOf : Regs → List ℕ → Bank
+bankOf r p = record { regs = r; pattern = p }
+
+-- a bank with the three registers that a command can change: lineStyle, srcXY and dstXY
+unfoldable pub withEnds : Bank → Ends → Bank
+withEnds b e = bankOf (putReg 0x40 (e .lineStyle) (putReg 0x5c (e .srcXY) (putReg 0x6c (e .dstXY) (b .regs)))) (b .pattern)
+
+-- what a function of this crate left of a bank
+abbrev pub deed : Bank → Act → List ℕ → Deed
+deed b a m = record { verdict = a .number; makes = made (withEnds b (a .ends)) (a .blit) (tallied m (a .tally)) }
 
 -- refused: registers, host blit and memory as they were given
 unfoldable pub judged : Deed → Bank → Blit → List ℕ → Deed

@@ -1,13 +1,14 @@
 // The commands: each carried out on the registers and the memory, or refused by the number of its row in the table of answers.
-use bank::Bank;
 use paint::Tally;
+use registers::Regs;
 ghost use mathlib.Core.Path.{_≡_};
-ghost use Prim.Native.Nat.{_+_, _^_, _≤_, min};
+ghost use mathlib.Core.List.{List};
+ghost use Prim.Native.Nat.{ℕ, _+_, _^_, _≤_, min};
 ghost use lib.ListN.{length};
 ghost use Rattle.paint.specs.Tally.{tally};
 ghost use Rattle.paint.specs.Paint.{tallied};
 ghost use Rattle.host.specs.Host.{lastOf};
-ghost use Rattle.acts.specs.Deed.{noBlit, rectEnded, lineEnded, touchedByWord, paintedBy, deed, judged, filling, copying, stretching, lining, opening, feeding, carrying, aimed, starting};
+ghost use Rattle.acts.specs.Deed.{noBlit, rectEnded, lineEnded, touchedByWord, paintedBy, bankOf, withEnds, deed, judged, filling, copying, stretching, lining, opening, feeding, carrying, aimed, starting};
 ghost use Rattle.acts.specs.Fed.{touchedByWords, blitAfter, feedEnded, fed, feedingRun};
 ghost use Rattle.acts.specs.Asked.{Feeds};
 
@@ -18,10 +19,17 @@ pub struct Blit {
     pub waiting: bool,
 }
 
-// What became of a command: the row that refuses it, or 0; the registers and the host blit after it; the tally of the pixels written.
+// The registers that a command can change.
+pub struct Ends {
+    pub lineStyle: u32,
+    pub srcXY: u32,
+    pub dstXY: u32,
+}
+
+// What became of a command: the row that refuses it, or 0; those registers and the host blit after it; the tally of the pixels written.
 pub struct Act {
     pub number: u32,
-    pub bank: Bank,
+    pub ends: Ends,
     pub blit: Blit,
     pub tally: Tally,
 }
@@ -36,10 +44,31 @@ pub fn no_blit() -> Blit
     }
 }
 
-fn end_rect(bank: Bank) -> Bank
-    ensures { λ r. ⌜ r ≡ rectEnded bank ⌝ }
+// The registers that a command can change, as they are.
+fn ends_of(regs: Regs) -> Ends
+    ensures { λ r. ⌜ ((p : List ℕ) → withEnds (bankOf regs p) r ≡ bankOf regs p) ⌝ }
 {
-    let regs = bank.regs;
+    Ends {
+        lineStyle: regs.lineStyle,
+        srcXY: regs.srcXY,
+        dstXY: regs.dstXY,
+    }
+}
+
+// The registers with those that a command left.
+pub fn with_ends(regs: Regs, e: Ends) -> Regs
+    ensures { λ r. ⌜ ((p : List ℕ) → bankOf r p ≡ withEnds (bankOf regs p) e) ⌝ }
+{
+    let mut r = regs;
+    r.lineStyle = e.lineStyle;
+    r.srcXY = e.srcXY;
+    r.dstXY = e.dstXY;
+    r
+}
+
+fn end_rect(regs: Regs) -> Ends
+    ensures { λ r. ⌜ ((p : List ℕ) → withEnds (bankOf regs p) r ≡ rectEnded (bankOf regs p)) ⌝ }
+{
     let c = regs.command;
     let xy = positions::step_xy(
         regs.dstXY,
@@ -47,24 +76,30 @@ fn end_rect(bank: Bank) -> Bank
         c / 0x400 % 2 == 1,
         c / 0x800 % 2 == 1,
     );
-    bank.store(0x6c, xy)
+    Ends {
+        lineStyle: regs.lineStyle,
+        srcXY: regs.srcXY,
+        dstXY: registers::kept_bits(0x6c, xy),
+    }
 }
 
-fn end_line(bank: Bank, style: u32) -> Bank
-    ensures { λ r. ⌜ r ≡ lineEnded bank style ⌝ }
+fn end_line(regs: Regs, style: u32) -> Ends
+    ensures { λ r. ⌜ ((p : List ℕ) → withEnds (bankOf regs p) r ≡ lineEnded (bankOf regs p) style) ⌝ }
 {
-    let xy = bank.regs.dstXY;
-    let styled = bank.store(0x40, style);
-    styled.store(0x5c, xy)
+    Ends {
+        lineStyle: registers::kept_bits(0x40, style),
+        srcXY: registers::kept_bits(0x5c, regs.dstXY),
+        dstXY: regs.dstXY,
+    }
 }
 
 // A command that paints nothing: refused by the row of that number, or 0 where none refuses it.
-fn unpainted(number: u32, bank: Bank, blit: Blit) -> Act
-    ensures { λ r. ⌜ r ≡ record { number = number; bank = bank; blit = blit; tally = tally 0 0 } ⌝ }
+fn unpainted(number: u32, ends: Ends, blit: Blit) -> Act
+    ensures { λ r. ⌜ r ≡ record { number = number; ends = ends; blit = blit; tally = tally 0 0 } ⌝ }
 {
     Act {
         number: number,
-        bank: bank,
+        ends: ends,
         blit: blit,
         tally: Tally {
             count: 0,
@@ -73,100 +108,94 @@ fn unpainted(number: u32, bank: Bank, blit: Blit) -> Act
     }
 }
 
-fn fill(bank: Bank, blit: Blit, mem: &mut [u8]) -> Act
-    ensures { λ r. ⌜ deed r (now (mem .exit)) ≡ judged (filling bank blit (now (mem .entry))) bank blit (now (mem .entry)) ⌝ }
+fn fill(regs: Regs, pattern: &[u8; 256], blit: Blit, mem: &mut [u8]) -> Act
+    ensures { λ r. ⌜ deed (bankOf regs (now (pattern .entry))) r (now (mem .exit)) ≡ judged (filling (bankOf regs (now (pattern .entry))) blit (now (mem .entry))) (bankOf regs (now (pattern .entry))) blit (now (mem .entry)) ⌝ }
 {
-    let regs = bank.regs;
     let verdict = table::fill_verdict(mem.len(), regs);
     if verdict != 0 {
-        return unpainted(verdict, bank, blit);
+        return unpainted(verdict, ends_of(regs), blit);
     }
     let cut = cuts::fill_cut(regs);
     let task = command::fill_task(regs);
-    let pattern = bank.pattern;
-    let tally = rect::fill_rect(mem, task, pattern, cut.w, cut.h);
+    let cells = *pattern;
+    let tally = rect::fill_rect(mem, task, cells, cut.w, cut.h);
     Act {
         number: 0,
-        bank: end_rect(bank),
+        ends: end_rect(regs),
         blit: blit,
         tally: tally,
     }
 }
 
-fn copy(bank: Bank, blit: Blit, mem: &mut [u8]) -> Act
-    ensures { λ r. ⌜ deed r (now (mem .exit)) ≡ judged (copying bank blit (now (mem .entry))) bank blit (now (mem .entry)) ⌝ }
+fn copy(regs: Regs, pattern: &[u8; 256], blit: Blit, mem: &mut [u8]) -> Act
+    ensures { λ r. ⌜ deed (bankOf regs (now (pattern .entry))) r (now (mem .exit)) ≡ judged (copying (bankOf regs (now (pattern .entry))) blit (now (mem .entry))) (bankOf regs (now (pattern .entry))) blit (now (mem .entry)) ⌝ }
 {
-    let regs = bank.regs;
     let verdict = table::copy_verdict(mem.len(), regs);
     if verdict != 0 {
-        return unpainted(verdict, bank, blit);
+        return unpainted(verdict, ends_of(regs), blit);
     }
     let c = cuts::copy_cut(regs);
     let task = command::copy_task(regs);
-    let pattern = bank.pattern;
+    let cells = *pattern;
     let toLeft = cuts::from_right(regs);
     let toTop = cuts::from_bottom(regs);
-    let tally = rect::copy_rect(mem, task, pattern, c.w, c.h, toLeft, toTop);
+    let tally = rect::copy_rect(mem, task, cells, c.w, c.h, toLeft, toTop);
     Act {
         number: 0,
-        bank: end_rect(bank),
+        ends: end_rect(regs),
         blit: blit,
         tally: tally,
     }
 }
 
-fn stretch(bank: Bank, blit: Blit, mem: &mut [u8]) -> Act
-    ensures { λ r. ⌜ deed r (now (mem .exit)) ≡ judged (stretching bank blit (now (mem .entry))) bank blit (now (mem .entry)) ⌝ }
+fn stretch(regs: Regs, pattern: &[u8; 256], blit: Blit, mem: &mut [u8]) -> Act
+    ensures { λ r. ⌜ deed (bankOf regs (now (pattern .entry))) r (now (mem .exit)) ≡ judged (stretching (bankOf regs (now (pattern .entry))) blit (now (mem .entry))) (bankOf regs (now (pattern .entry))) blit (now (mem .entry)) ⌝ }
 {
-    let regs = bank.regs;
     let verdict = table::stretch_verdict(mem.len(), regs);
     if verdict != 0 {
-        return unpainted(verdict, bank, blit);
+        return unpainted(verdict, ends_of(regs), blit);
     }
     let c = cuts::fill_cut(regs);
     let t = command::decode_stretch(regs);
-    let pattern = bank.pattern;
-    let tally = stretch::paint_stretch(mem, t, pattern, c.x, c.y, c.w, c.h);
-    let stepped = end_rect(bank);
+    let cells = *pattern;
+    let tally = stretch::paint_stretch(mem, t, cells, c.x, c.y, c.w, c.h);
+    let stepped = end_rect(regs);
     Act {
         number: 0,
-        bank: stepped,
+        ends: stepped,
         blit: blit,
         tally: tally,
     }
 }
 
-fn draw(bank: Bank, blit: Blit, mem: &mut [u8]) -> Act
-    ensures { λ r. ⌜ deed r (now (mem .exit)) ≡ judged (lining bank blit (now (mem .entry))) bank blit (now (mem .entry)) ⌝ }
+fn draw(regs: Regs, pattern: &[u8; 256], blit: Blit, mem: &mut [u8]) -> Act
+    ensures { λ r. ⌜ deed (bankOf regs (now (pattern .entry))) r (now (mem .exit)) ≡ judged (lining (bankOf regs (now (pattern .entry))) blit (now (mem .entry))) (bankOf regs (now (pattern .entry))) blit (now (mem .entry)) ⌝ }
 {
-    let regs = bank.regs;
     let verdict = table::line_verdict(mem.len(), regs);
     if verdict != 0 {
-        return unpainted(verdict, bank, blit);
+        return unpainted(verdict, ends_of(regs), blit);
     }
     let ink = command::decode_ink(regs);
     let clip = cuts::decode_clip(regs);
     let l = command::decode_line(regs);
     let pen = command::decode_pen(regs);
-    let pattern = bank.pattern;
-    let drawn = strokes::paint_line(mem, ink, &pattern, clip, l, pen, regs.lineStyle);
+    let drawn = strokes::paint_line(mem, ink, pattern, clip, l, pen, regs.lineStyle);
     let tally = drawn.tally;
     Act {
         number: 0,
-        bank: end_line(bank, drawn.style),
+        ends: end_line(regs, drawn.style),
         blit: blit,
         tally: tally,
     }
 }
 
 // Opens the host blit that the registers hold.
-fn begin(bank: Bank, blit: Blit, mem: &[u8]) -> Act
-    ensures { λ r. ⌜ deed r (now (mem .entry)) ≡ judged (opening bank (now (mem .entry))) bank blit (now (mem .entry)) ⌝ }
+fn begin(regs: Regs, blit: Blit, mem: &[u8]) -> Act
+    ensures { λ r. ⌜ ((p : List ℕ) → deed (bankOf regs p) r (now (mem .entry)) ≡ judged (opening (bankOf regs p) (now (mem .entry))) (bankOf regs p) blit (now (mem .entry))) ⌝ }
 {
-    let regs = bank.regs;
     let verdict = table::host_verdict(mem.len(), regs);
     if verdict != 0 {
-        return unpainted(verdict, bank, blit);
+        return unpainted(verdict, ends_of(regs), blit);
     }
     let feed = command::decode_feed(regs);
     if 0 < host::words_needed(feed) {
@@ -175,17 +204,16 @@ fn begin(bank: Bank, blit: Blit, mem: &[u8]) -> Act
             taken: 0,
             last: 0,
         };
-        return unpainted(0, bank, opened);
+        return unpainted(0, ends_of(regs), opened);
     }
-    unpainted(0, end_rect(bank), no_blit())
+    unpainted(0, end_rect(regs), no_blit())
 }
 
 // The pixels that a word of data finishes; the tally of those written.
-fn paint_word(bank: Bank, blit: Blit, mem: &mut [u8], word: u32) -> Tally
-    requires { ⌜ Feeds bank blit (length (now mem)) 1 ⌝ }
-    ensures { λ r. ⌜ tallied (now (mem .exit)) r ≡ paintedBy bank (touchedByWord bank blit word) (now (mem .entry)) ⌝ }
+fn paint_word(regs: Regs, pattern: &[u8; 256], blit: Blit, mem: &mut [u8], word: u32) -> Tally
+    requires { ⌜ Feeds (bankOf regs (now pattern)) blit (length (now mem)) 1 ⌝ }
+    ensures { λ r. ⌜ tallied (now (mem .exit)) r ≡ paintedBy (bankOf regs (now (pattern .entry))) (touchedByWord (bankOf regs (now (pattern .entry))) blit word) (now (mem .entry)) ⌝ }
 {
-    let regs = bank.regs;
     let feed = command::decode_feed(regs);
     let clip = cuts::decode_clip(regs);
     let taken = blit.taken;
@@ -199,16 +227,15 @@ fn paint_word(bank: Bank, blit: Blit, mem: &mut [u8], word: u32) -> Tally
         return plain::plain_word(mem, plain, clip, feed, taken, last, word, none);
     }
     let ink = command::decode_ink(regs);
-    let pattern = bank.pattern;
-    host::host_word(mem, ink, pattern, clip, feed, taken, last, word, none)
+    let cells = *pattern;
+    host::host_word(mem, ink, cells, clip, feed, taken, last, word, none)
 }
 
 // The pixels that some words of data finish.
-fn paint_words(bank: Bank, blit: Blit, mem: &mut [u8], words: &[u32]) -> Tally
-    requires { ⌜ Feeds bank blit (length (now mem)) (length (now words)) ⌝ }
-    ensures { λ r. ⌜ tallied (now (mem .exit)) r ≡ paintedBy bank (touchedByWords bank blit (now (words .entry))) (now (mem .entry)) ⌝ }
+fn paint_words(regs: Regs, pattern: &[u8; 256], blit: Blit, mem: &mut [u8], words: &[u32]) -> Tally
+    requires { ⌜ Feeds (bankOf regs (now pattern)) blit (length (now mem)) (length (now words)) ⌝ }
+    ensures { λ r. ⌜ tallied (now (mem .exit)) r ≡ paintedBy (bankOf regs (now (pattern .entry))) (touchedByWords (bankOf regs (now (pattern .entry))) blit (now (words .entry))) (now (mem .entry)) ⌝ }
 {
-    let regs = bank.regs;
     let feed = command::decode_feed(regs);
     let clip = cuts::decode_clip(regs);
     let taken = blit.taken;
@@ -218,30 +245,29 @@ fn paint_words(bank: Bank, blit: Blit, mem: &mut [u8], words: &[u32]) -> Tally
         return plain::plain_words(mem, plain, clip, feed, taken, last, words);
     }
     let ink = command::decode_ink(regs);
-    let pattern = bank.pattern;
-    host::host_words(mem, ink, pattern, clip, feed, taken, last, words)
+    let cells = *pattern;
+    host::host_words(mem, ink, cells, clip, feed, taken, last, words)
 }
 
 // A word of data for the host blit that the registers hold, opened or not yet.
-fn feed(bank: Bank, blit: Blit, mem: &mut [u8], word: u32) -> Act
-    ensures { λ r. ⌜ deed r (now (mem .exit)) ≡ judged (feeding bank blit (now (mem .entry)) word) bank blit (now (mem .entry)) ⌝ }
+fn feed(regs: Regs, pattern: &[u8; 256], blit: Blit, mem: &mut [u8], word: u32) -> Act
+    ensures { λ r. ⌜ deed (bankOf regs (now (pattern .entry))) r (now (mem .exit)) ≡ judged (feeding (bankOf regs (now (pattern .entry))) blit (now (mem .entry)) word) (bankOf regs (now (pattern .entry))) blit (now (mem .entry)) ⌝ }
 {
-    let regs = bank.regs;
     let verdict = table::host_verdict(mem.len(), regs);
     if verdict != 0 {
-        return unpainted(verdict, bank, blit);
+        return unpainted(verdict, ends_of(regs), blit);
     }
     let feed = command::decode_feed(regs);
     let words = host::words_needed(feed);
     let taken = blit.taken;
     if words <= taken {
-        return unpainted(0, end_rect(bank), no_blit());
+        return unpainted(0, end_rect(regs), no_blit());
     }
-    let tally = paint_word(bank, blit, mem, word);
+    let tally = paint_word(regs, pattern, blit, mem, word);
     if taken + 1 < words {
         return Act {
             number: 0,
-            bank: bank,
+            ends: ends_of(regs),
             blit: Blit {
                 waiting: true,
                 taken: taken + 1,
@@ -252,57 +278,60 @@ fn feed(bank: Bank, blit: Blit, mem: &mut [u8], word: u32) -> Act
     }
     Act {
         number: 0,
-        bank: end_rect(bank),
+        ends: end_rect(regs),
         blit: no_blit(),
         tally: tally,
     }
 }
 
 // The command that the registers hold.
-pub fn carry(bank: Bank, blit: Blit, mem: &mut [u8]) -> Act
-    ensures { λ r. ⌜ deed r (now (mem .exit)) ≡ judged (carrying bank blit (now (mem .entry))) bank blit (now (mem .entry)) ⌝ }
+pub fn carry(regs: Regs, pattern: &[u8; 256], blit: Blit, mem: &mut [u8]) -> Act
+    ensures { λ r. ⌜ deed (bankOf regs (now (pattern .entry))) r (now (mem .exit)) ≡ judged (carrying (bankOf regs (now (pattern .entry))) blit (now (mem .entry))) (bankOf regs (now (pattern .entry))) blit (now (mem .entry)) ⌝ }
 {
-    let number = bank.regs.command % 16;
+    let number = regs.command % 16;
     match number {
-        0 => unpainted(0, bank, blit),
-        1 => copy(bank, blit, mem),
-        2 => stretch(bank, blit, mem),
-        3 => begin(bank, blit, mem),
-        5 => fill(bank, blit, mem),
-        6 | 7 => draw(bank, blit, mem),
-        _ => unpainted(4, bank, blit),
+        0 => unpainted(0, ends_of(regs), blit),
+        1 => copy(regs, pattern, blit, mem),
+        2 => stretch(regs, pattern, blit, mem),
+        3 => begin(regs, blit, mem),
+        5 => fill(regs, pattern, blit, mem),
+        6 | 7 => draw(regs, pattern, blit, mem),
+        _ => unpainted(4, ends_of(regs), blit),
     }
 }
 
 // A launch write's word in the register that the command takes it from.
-fn aim(bank: Bank, word: u32) -> Bank
-    ensures { λ r. ⌜ r ≡ aimed bank word ⌝ }
+fn aim(regs: Regs, word: u32) -> Regs
+    ensures { λ r. ⌜ ((p : List ℕ) → bankOf r p ≡ aimed (bankOf regs p) word) ⌝ }
 {
-    let number = bank.regs.command % 16;
-    match number {
-        1 | 2 => bank.store(0x5c, word),
-        5 | 6 | 7 => bank.store(0x6c, word),
-        _ => bank,
+    let number = regs.command % 16;
+    let mut next = regs;
+    if (number == 1) | (number == 2) {
+        next.srcXY = registers::kept_bits(0x5c, word);
     }
+    if (5 <= number) & (number < 8) {
+        next.dstXY = registers::kept_bits(0x6c, word);
+    }
+    next
 }
 
 // The command started with a launch write's word. A host blit takes its words by `feed`.
-pub fn start(bank: Bank, blit: Blit, mem: &mut [u8], word: u32) -> Act
-    ensures { λ r. ⌜ deed r (now (mem .exit)) ≡ judged (carrying (aimed bank word) blit (now (mem .entry))) (aimed bank word) blit (now (mem .entry)) ⌝ }
+pub fn start(regs: Regs, pattern: &[u8; 256], blit: Blit, mem: &mut [u8], word: u32) -> Act
+    ensures { λ r. ⌜ deed (bankOf regs (now (pattern .entry))) r (now (mem .exit)) ≡ judged (carrying (aimed (bankOf regs (now (pattern .entry))) word) blit (now (mem .entry))) (aimed (bankOf regs (now (pattern .entry))) word) blit (now (mem .entry)) ⌝ }
 {
-    let next = aim(bank, word);
-    carry(next, blit, mem)
+    let next = aim(regs, word);
+    carry(next, pattern, blit, mem)
 }
 
 // A launch write: data for a host blit, or the command started with its word.
-pub fn launch(bank: Bank, blit: Blit, mem: &mut [u8], word: u32) -> Act
-    ensures { λ r. ⌜ deed r (now (mem .exit)) ≡ judged (starting bank blit (now (mem .entry)) word) (aimed bank word) blit (now (mem .entry)) ⌝ }
+pub fn launch(regs: Regs, pattern: &[u8; 256], blit: Blit, mem: &mut [u8], word: u32) -> Act
+    ensures { λ r. ⌜ deed (bankOf regs (now (pattern .entry))) r (now (mem .exit)) ≡ judged (starting (bankOf regs (now (pattern .entry))) blit (now (mem .entry)) word) (aimed (bankOf regs (now (pattern .entry))) word) blit (now (mem .entry)) ⌝ }
 {
-    let number = bank.regs.command % 16;
+    let number = regs.command % 16;
     if number == 3 {
-        return feed(bank, blit, mem, word);
+        return feed(regs, pattern, blit, mem, word);
     }
-    start(bank, blit, mem, word)
+    start(regs, pattern, blit, mem, word)
 }
 
 // What became of words of data: the row that refuses them, or 0; the host blit after those that were used; their tally, and how many they are.
@@ -364,10 +393,9 @@ fn undrawn(number: u32, blit: Blit, used: usize) -> Fed
 
 // Words of data for the host blit that the registers hold, opened or not yet: those up to its end, with one verdict for all of them. A blit that needs no
 // words uses up one.
-pub fn feed_run(bank: Bank, blit: Blit, mem: &mut [u8], words: &[u32]) -> Fed
-    ensures { λ r. ⌜ fed r (now (mem .exit)) ≡ feedingRun bank blit (now (mem .entry)) (now (words .entry)) ⌝ }
+pub fn feed_run(regs: Regs, pattern: &[u8; 256], blit: Blit, mem: &mut [u8], words: &[u32]) -> Fed
+    ensures { λ r. ⌜ fed r (now (mem .exit)) ≡ feedingRun (bankOf regs (now (pattern .entry))) blit (now (mem .entry)) (now (words .entry)) ⌝ }
 {
-    let regs = bank.regs;
     let verdict = table::host_verdict(mem.len(), regs);
     if verdict != 0 {
         return undrawn(verdict, blit, 0);
@@ -380,7 +408,7 @@ pub fn feed_run(bank: Bank, blit: Blit, mem: &mut [u8], words: &[u32]) -> Fed
     }
     let n = reach(needed - taken, words.len());
     let part = &words[..n];
-    let tally = paint_words(bank, blit, mem, part);
+    let tally = paint_words(regs, pattern, blit, mem, part);
     Fed {
         number: 0,
         blit: blit_after(blit, part, needed),
@@ -390,11 +418,11 @@ pub fn feed_run(bank: Bank, blit: Blit, mem: &mut [u8], words: &[u32]) -> Fed
 }
 
 // The registers once a host blit has had its words: stepped where it waits for no more.
-pub fn end_feed(bank: Bank, blit: Blit) -> Bank
-    ensures { λ r. ⌜ r ≡ feedEnded bank blit ⌝ }
+pub fn end_feed(regs: Regs, blit: Blit) -> Regs
+    ensures { λ r. ⌜ ((p : List ℕ) → bankOf r p ≡ feedEnded (bankOf regs p) blit) ⌝ }
 {
     if blit.waiting {
-        return bank;
+        return regs;
     }
-    end_rect(bank)
+    with_ends(regs, end_rect(regs))
 }

@@ -6,11 +6,12 @@ use mathlib.Core.List.{List}
 use Prim.Native.Nat.{ℕ, _<_}
 use native.Mathlib.Omega.{arith}
 use lib.Dec.{eqb}
+use Rattle.registers.specs.declared.Regs.{Regs}
 use Rattle.bank.specs.declared.Bank.{Bank}
 use Rattle.paint.specs.Paint.{state}
 use Rattle.acts.specs.declared.Blit.{Blit}
 use Rattle.acts.specs.declared.Act.{Act}
-use Rattle.acts.specs.Deed.{made, Deed, deed, judged}
+use Rattle.acts.specs.Deed.{made, bankOf, withEnds, Deed, deed, judged}
 use Rattle.acts.proofs.Cases.{by-test, picked}
 use Rattle.engine.specs.declared.Engine.{Engine}
 use Rattle.engine.specs.declared.Answer.{Answer}
@@ -26,11 +27,12 @@ outcome r m = step (r .engine) m (r .answer)
 abbrev settling : Engine → Deed → Step
 settling e d = cond (eqb (d .verdict) 0) (making e (d .makes)) (step e (d .makes .left .mem) (refusal (d .verdict)))
 
-settled-deed : (e : Engine) (a : Act) (m : List ℕ) → outcome (settled e a) m ≡ settling e (deed a m)
+settled-deed : (e : Engine) (r : Regs) (a : Act) (m : List ℕ) → outcome (settled e r a) m ≡ settling e (deed (bankOf r (e .bank .pattern)) a m)
 unfolding settled
-settled-deed e a m =
+settled-deed e r a m =
+    let b = bankOf r (e .bank .pattern) in
     by-test
-    (λ t. outcome (cond t (record { engine = record { bank = a .bank; blit = a .blit; opened = e .opened }; answer = Taken (a .tally .count) (a .tally .changed) }) (record { engine = e; answer = refusal (a .number) })) m ≡ cond t (making e (deed a m .makes)) (step e m (refusal (a .number)))) (eqb (a .number) 0)
+    (λ t. outcome (cond t (record { engine = record { bank = withEnds b (a .ends); blit = a .blit; opened = e .opened }; answer = Taken (a .tally .count) (a .tally .changed) }) (record { engine = e; answer = refusal (a .number) })) m ≡ cond t (making e (deed b a m .makes)) (step e m (refusal (a .number)))) (eqb (a .number) 0)
     (λ _. refl) (λ _. refl)
 
 judged-settling : (e : Engine) (d : Deed) (b : Bank) (k : Blit) (m : List ℕ) → settling e (judged d b k m) ≡ judging e e m d
@@ -40,10 +42,10 @@ judged-settling e d b k m =
     (λ t. eqb (d .verdict) 0 ≡ t → settling e (cond t d (record { verdict = d .verdict; makes = made b k (state m 0 0) })) ≡ cond t (making e (d .makes)) (step e m (refusal (d .verdict))))
     (eqb (d .verdict) 0) (λ _ h. rw h) (λ _ h. rw h) refl
 
-pub settled-as : (e : Engine) (a : Act) (left : List ℕ) (d : Deed) (b : Bank) (k : Blit) (m : List ℕ) {r : Outcome} → r ≡ settled e a → deed a left ≡ judged d b k m
-    → outcome r left ≡ judging e e m d
-settled-as e a left d b k m p q =
-    ap (λ (r : Outcome). outcome r left) p ∙ settled-deed e a left ∙ ap (settling e) q ∙ judged-settling e d b k m
+pub settled-as : (e : Engine) (r : Regs) (a : Act) (left : List ℕ) (d : Deed) (b : Bank) (k : Blit) (m : List ℕ) {o : Outcome} → o ≡ settled e r a
+    → deed (bankOf r (e .bank .pattern)) a left ≡ judged d b k m → outcome o left ≡ judging e e m d
+settled-as e r a left d b k m p q =
+    ap (λ (o : Outcome). outcome o left) p ∙ settled-deed e r a left ∙ ap (settling e) q ∙ judged-settling e d b k m
 
 -- ---- a refusal counts nothing and changed nothing, and its number is not 0
 refusal-each : (P : Answer → Type 0) (n : ℕ) → P NotBuilt → P Format → P Host → P Off → P Meet → P (refusal n)

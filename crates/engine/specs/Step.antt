@@ -16,7 +16,7 @@ use Rattle.registers.specs.Offsets.{placeOf}
 use Rattle.cuts.specs.Cut.{bit}
 use Rattle.acts.specs.declared.Blit.{Blit}
 use Rattle.acts.specs.declared.Act.{Act}
-use Rattle.acts.specs.Deed.{noBlit, Made, Deed, carrying, starting}
+use Rattle.acts.specs.Deed.{noBlit, Made, bankOf, withEnds, Deed, carrying, starting}
 use Rattle.engine.specs.declared.Outcome.{Outcome}
 use Rattle.engine.specs.declared.Engine.{Engine}
 use Rattle.engine.specs.declared.Answer.{Answer}
@@ -141,9 +141,12 @@ written e m o d =
 abbrev pub readFrom : Engine → ℕ → Reading
 readFrom e o = readAt (e .bank) o
 
--- ---- what a command left of the engine
-unfoldable pub settled : Engine → Act → Outcome
-settled e a =
+-- ---- what a command that had these registers left of the engine
+unfoldable pub settled : Engine → Regs → Act → Outcome
+settled e r a =
     cond (eqb (a .number) 0)
-    (record { engine = record { bank = a .bank; blit = a .blit; opened = e .opened }; answer = Taken (a .tally .count) (a .tally .changed) })
+    (record {
+      engine = record { bank = withEnds (bankOf r (e .bank .pattern)) (a .ends); blit = a .blit; opened = e .opened };
+      answer = Taken (a .tally .count) (a .tally .changed);
+    })
     (record { engine = e; answer = refusal (a .number) })

@@ -4,6 +4,7 @@ use acts::Blit;
 use bank::Bank;
 use bank::Reading;
 use registers::Place;
+use registers::Regs;
 ghost use mathlib.Core.Path.{_≡_};
 ghost use Rattle.engine.specs.Step.{numberOf, countOf, changedOf, refusal, freshEngine, settled, step, launched, commanded, toRegister, toPattern, written, readFrom};
 
@@ -117,9 +118,9 @@ impl Engine {
         bank.read(offset)
     }
 
-    // What becomes of the engine by a command: refused, it stays.
-    fn settle(self, act: Act) -> Outcome
-        ensures { λ r. ⌜ r ≡ settled self act ⌝ }
+    // What becomes of the engine by a command that had these registers: refused, it stays.
+    fn settle(self, regs: Regs, act: Act) -> Outcome
+        ensures { λ r. ⌜ r ≡ settled self regs act ⌝ }
     {
         if act.number != 0 {
             return Outcome {
@@ -127,11 +128,15 @@ impl Engine {
                 answer: refuse(act.number),
             };
         }
-        let bank = act.bank;
+        let next = acts::with_ends(regs, act.ends);
+        let pattern = self.bank.pattern;
         let blit = act.blit;
         Outcome {
             engine: Engine {
-                bank: bank,
+                bank: Bank {
+                    regs: next,
+                    pattern: pattern,
+                },
                 blit: blit,
                 opened: self.opened,
             },
@@ -142,10 +147,11 @@ impl Engine {
     fn launch(self, mem: &mut [u8], word: u32) -> Outcome
         ensures { λ r. ⌜ step (r .engine) (now (mem .exit)) (r .answer) ≡ launched self (now (mem .entry)) word ⌝ }
     {
-        let bank = self.bank;
+        let regs = self.bank.regs;
+        let pattern = self.bank.pattern;
         let blit = self.blit;
-        let act = acts::launch(bank, blit, mem, word);
-        self.settle(act)
+        let act = acts::launch(regs, &pattern, blit, mem, word);
+        self.settle(regs, act)
     }
 
     fn take_command(self, mem: &mut [u8], word: u32) -> Outcome
@@ -160,8 +166,10 @@ impl Engine {
             opened: self.opened,
         };
         if word / 0x100 % 2 == 1 {
-            let act = acts::carry(bank, resting, mem);
-            return self.settle(act);
+            let regs = bank.regs;
+            let pattern = self.bank.pattern;
+            let act = acts::carry(regs, &pattern, resting, mem);
+            return self.settle(regs, act);
         }
         Outcome {
             engine: next,

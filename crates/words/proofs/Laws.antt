@@ -18,7 +18,7 @@ use Rattle.paint.specs.Paint.{tallied, state}
 use Rattle.bank.specs.declared.Bank.{Bank}
 use Rattle.acts.specs.declared.Act.{Act}
 use Rattle.acts.specs.declared.Blit.{Blit}
-use Rattle.acts.specs.Deed.{made, Deed, deed, judged, carrying, aimed, starting}
+use Rattle.acts.specs.Deed.{made, withEnds, Deed, deed, judged, carrying, aimed, starting}
 use Rattle.acts.proofs.Cases.{by-test}
 use Rattle.acts.proofs.Numbers.{aimed-starts}
 use Rattle.engine.specs.declared.Answer.the-variants.{Memory}
@@ -85,12 +85,12 @@ unfolding judged
 judged-verdict d b k m = by-test (λ u. cond u d (record { verdict = d .verdict; makes = made b k (state m 0 0) }) .verdict ≡ d .verdict) (eqb (d .verdict) 0) (λ _. refl) (λ _. refl)
 
 module _ (t : Ran) (w : ℕ) (fits : Fits t) (other : number (regs (t .engine)) ≡ 3 → ⊥) (a : Act) (m′ : List ℕ)
-    (p : deed a m′
+    (p : deed (t .engine .bank) a m′
     ≡ judged (carrying (aimed (t .engine .bank) w) (t .engine .blit) (t .memory)) (aimed (t .engine .bank) w) (t .engine .blit) (t .memory)) where
   begun : Deed
   begun = starting (t .engine .bank) (t .engine .blit) (t .memory) w
 
-  begun-judged : deed a m′ ≡ judged begun (aimed (t .engine .bank) w) (t .engine .blit) (t .memory)
+  begun-judged : deed (t .engine .bank) a m′ ≡ judged begun (aimed (t .engine .bank) w) (t .engine .blit) (t .memory)
   unfolding begun
   begun-judged =
       p ∙ ap (λ (d : Deed). judged d (aimed (t .engine .bank) w) (t .engine .blit) (t .memory)) (aimed-starts (t .engine .bank) (t .engine .blit) (t .memory) w other)
@@ -109,7 +109,7 @@ module _ (t : Ran) (w : ℕ) (fits : Fits t) (other : number (regs (t .engine)) 
 
   pub start-goes : a .number ≡ 0
       → record {
-        engine = record { bank = a .bank; blit = a .blit; opened = t .engine .opened };
+        engine = record { bank = withEnds (t .engine .bank) (a .ends); blit = a .blit; opened = t .engine .opened };
         memory = m′;
         number = 0;
         taken = t .taken + 1;
@@ -120,8 +120,8 @@ module _ (t : Ran) (w : ℕ) (fits : Fits t) (other : number (regs (t .engine)) 
   start-goes z =
       let zero′ : begun .verdict ≡ 0 = sym begun-number ∙ z in
       let taken : judged begun (aimed (t .engine .bank) w) (t .engine .blit) (t .memory) ≡ begun = rw zero′ in
-      let made′ : begun .makes ≡ made (a .bank) (a .blit) (tallied m′ (a .tally)) = ap (λ (d : Deed). d .makes) (sym (begun-judged ∙ taken)) in
-      let here : launching t w ≡ making (t .engine) (made (a .bank) (a .blit) (tallied m′ (a .tally))) = fits-launched t w fits ∙ rw (zero′, made′) in
+      let made′ : begun .makes ≡ made (withEnds (t .engine .bank) (a .ends)) (a .blit) (tallied m′ (a .tally)) = ap (λ (d : Deed). d .makes) (sym (begun-judged ∙ taken)) in
+      let here : launching t w ≡ making (t .engine) (made (withEnds (t .engine .bank) (a .ends)) (a .blit) (tallied m′ (a .tally))) = fits-launched t w fits ∙ rw (zero′, made′) in
       rw here
 
 -- ---- a turn of the loop

@@ -1,22 +1,21 @@
 -- `acts::end_line` meets its contract: two stores.
 -- Assumes nothing.
 use borrow.Author.Needs.{needs}
-use mathlib.Core.Path.{ap, _∙_}
-use Rattle.bank.specs.declared.Bank.{Bank}
+use Rattle.registers.specs.Regs.{putReg}
 use Rattle.bank.specs.Bank.{stored}
-use Rattle.acts.specs.Deed.{lineEnded}
+use Rattle.acts.specs.Deed.{lineEnded, withEnds}
 use Rattle.acts.proofs.end_line.Statement.{statement}
 use Rattle.acts.proofs.end_line.Tie as tie
 
-store-requires : tie.Need-store-requires
-store-requires c κs = search needs
+kept-bits-requires : tie.Need-kept-bits-requires
+kept-bits-requires c κs = search needs
 
-store-requires-2 : tie.Need-store-requires-2
-store-requires-2 c κs = search needs
+kept-bits-requires-2 : tie.Need-kept-bits-requires-2
+kept-bits-requires-2 c κs = search needs
 
 returns : tie.Need-returns
-unfolding lineEnded
-returns c = (c .store2 .ensures) ∙ ap (λ (b : Bank). stored b 0x5c (c .before .before .args .bank .regs .dstXY)) (c .before .store .ensures)
+unfolding lineEnded withEnds stored putReg
+returns c p = rw (c .before .kept-bits .ensures, c .kept-bits2 .ensures)
 
 pub end-line-spec : {M : Type 1} → statement M
-end-line-spec = tie.close (tie.spec store-requires store-requires-2 returns)
+end-line-spec = tie.close (tie.spec kept-bits-requires kept-bits-requires-2 returns)

@@ -11,11 +11,14 @@ refuse-requires c κs = search needs
 
 returns : tie.Need-returns
 unfolding settled
-returns c = rw ((c .refuse .ensures), ne-eqb _ _ (c .before .if1 .taken))
+returns c = rw (c .refuse .ensures, ne-eqb _ _ (c .before .if1 .taken))
+
+with-ends-requires : tie.Need-with-ends-requires
+with-ends-requires c κs = search needs
 
 returns-2 : tie.Need-returns-2
 unfolding settled
-returns-2 c = rw (eq-eqb _ _ (c .before .before .if1 .left))
+returns-2 c = rw (eq-eqb _ _ (c .before .before .before .if1 .left), c .before .before .with-ends .ensures (c .before .before .before .before .before .args .self .bank .pattern))
 
 pub settle-spec : {M : Type 1} → statement M
-settle-spec = tie.close (tie.spec refuse-requires returns returns-2)
+settle-spec = tie.close (tie.spec refuse-requires returns with-ends-requires returns-2)
