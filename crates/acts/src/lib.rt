@@ -1,4 +1,5 @@
 // The commands: each carried out on the registers and the memory, or refused by the number of its row in the table of answers.
+use bank::Bank;
 use paint::Tally;
 use registers::Regs;
 ghost use mathlib.Core.Path.{_≡_};
@@ -210,9 +211,9 @@ fn begin(regs: Regs, blit: Blit, mem: &[u8]) -> Act
 }
 
 // The pixels that a word of data finishes; the tally of those written.
-fn paint_word(regs: Regs, pattern: &[u8; 256], blit: Blit, mem: &mut [u8], word: u32) -> Tally
-    requires { ⌜ Feeds (bankOf regs (now pattern)) blit (length (now mem)) 1 ⌝ }
-    ensures { λ r. ⌜ tallied (now (mem .exit)) r ≡ paintedBy (bankOf regs (now (pattern .entry))) (touchedByWord (bankOf regs (now (pattern .entry))) blit word) (now (mem .entry)) ⌝ }
+fn paint_word(regs: Regs, pattern: [u8; 256], blit: Blit, mem: &mut [u8], word: u32) -> Tally
+    requires { ⌜ Feeds (bankOf regs pattern) blit (length (now mem)) 1 ⌝ }
+    ensures { λ r. ⌜ tallied (now (mem .exit)) r ≡ paintedBy (bankOf regs pattern) (touchedByWord (bankOf regs pattern) blit word) (now (mem .entry)) ⌝ }
 {
     let feed = command::decode_feed(regs);
     let clip = cuts::decode_clip(regs);
@@ -227,7 +228,7 @@ fn paint_word(regs: Regs, pattern: &[u8; 256], blit: Blit, mem: &mut [u8], word:
         return plain::plain_word(mem, plain, clip, feed, taken, last, word, none);
     }
     let ink = command::decode_ink(regs);
-    let cells = *pattern;
+    let cells = pattern;
     host::host_word(mem, ink, cells, clip, feed, taken, last, word, none)
 }
 
@@ -250,8 +251,8 @@ fn paint_words(regs: Regs, pattern: &[u8; 256], blit: Blit, mem: &mut [u8], word
 }
 
 // A word of data for the host blit that the registers hold, opened or not yet.
-fn feed(regs: Regs, pattern: &[u8; 256], blit: Blit, mem: &mut [u8], word: u32) -> Act
-    ensures { λ r. ⌜ deed (bankOf regs (now (pattern .entry))) r (now (mem .exit)) ≡ judged (feeding (bankOf regs (now (pattern .entry))) blit (now (mem .entry)) word) (bankOf regs (now (pattern .entry))) blit (now (mem .entry)) ⌝ }
+fn feed(regs: Regs, pattern: [u8; 256], blit: Blit, mem: &mut [u8], word: u32) -> Act
+    ensures { λ r. ⌜ deed (bankOf regs pattern) r (now (mem .exit)) ≡ judged (feeding (bankOf regs pattern) blit (now (mem .entry)) word) (bankOf regs pattern) blit (now (mem .entry)) ⌝ }
 {
     let verdict = table::host_verdict(mem.len(), regs);
     if verdict != 0 {
@@ -324,14 +325,15 @@ pub fn start(regs: Regs, pattern: &[u8; 256], blit: Blit, mem: &mut [u8], word: 
 }
 
 // A launch write: data for a host blit, or the command started with its word.
-pub fn launch(regs: Regs, pattern: &[u8; 256], blit: Blit, mem: &mut [u8], word: u32) -> Act
-    ensures { λ r. ⌜ deed (bankOf regs (now (pattern .entry))) r (now (mem .exit)) ≡ judged (starting (bankOf regs (now (pattern .entry))) blit (now (mem .entry)) word) (aimed (bankOf regs (now (pattern .entry))) word) blit (now (mem .entry)) ⌝ }
+pub fn launch(regs: Regs, pattern: [u8; 256], blit: Blit, mem: &mut [u8], word: u32) -> Act
+    ensures { λ r. ⌜ deed (bankOf regs pattern) r (now (mem .exit)) ≡ judged (starting (bankOf regs pattern) blit (now (mem .entry)) word) (aimed (bankOf regs pattern) word) blit (now (mem .entry)) ⌝ }
 {
     let number = regs.command % 16;
     if number == 3 {
         return feed(regs, pattern, blit, mem, word);
     }
-    start(regs, pattern, blit, mem, word)
+    let lent = pattern;
+    start(regs, &lent, blit, mem, word)
 }
 
 // What became of words of data: the row that refuses them, or 0; the host blit after those that were used; their tally, and how many they are.
@@ -393,9 +395,10 @@ fn undrawn(number: u32, blit: Blit, used: usize) -> Fed
 
 // Words of data for the host blit that the registers hold, opened or not yet: those up to its end, with one verdict for all of them. A blit that needs no
 // words uses up one.
-pub fn feed_run(regs: Regs, pattern: &[u8; 256], blit: Blit, mem: &mut [u8], words: &[u32]) -> Fed
-    ensures { λ r. ⌜ fed r (now (mem .exit)) ≡ feedingRun (bankOf regs (now (pattern .entry))) blit (now (mem .entry)) (now (words .entry)) ⌝ }
+pub fn feed_run(bank: Bank, blit: Blit, mem: &mut [u8], words: &[u32]) -> Fed
+    ensures { λ r. ⌜ fed r (now (mem .exit)) ≡ feedingRun bank blit (now (mem .entry)) (now (words .entry)) ⌝ }
 {
+    let regs = bank.regs;
     let verdict = table::host_verdict(mem.len(), regs);
     if verdict != 0 {
         return undrawn(verdict, blit, 0);
@@ -408,7 +411,7 @@ pub fn feed_run(regs: Regs, pattern: &[u8; 256], blit: Blit, mem: &mut [u8], wor
     }
     let n = reach(needed - taken, words.len());
     let part = &words[..n];
-    let tally = paint_words(regs, pattern, blit, mem, part);
+    let tally = paint_words(regs, &bank.pattern, blit, mem, part);
     Fed {
         number: 0,
         blit: blit_after(blit, part, needed),
@@ -418,11 +421,16 @@ pub fn feed_run(regs: Regs, pattern: &[u8; 256], blit: Blit, mem: &mut [u8], wor
 }
 
 // The registers once a host blit has had its words: stepped where it waits for no more.
-pub fn end_feed(regs: Regs, blit: Blit) -> Regs
-    ensures { λ r. ⌜ ((p : List ℕ) → bankOf r p ≡ feedEnded (bankOf regs p) blit) ⌝ }
+pub fn end_feed(bank: Bank, blit: Blit) -> Bank
+    ensures { λ r. ⌜ r ≡ feedEnded bank blit ⌝ }
 {
     if blit.waiting {
-        return regs;
+        return bank;
     }
-    with_ends(regs, end_rect(regs))
+    let regs = bank.regs;
+    let pattern = bank.pattern;
+    Bank {
+        regs: with_ends(regs, end_rect(regs)),
+        pattern: pattern,
+    }
 }

@@ -150,7 +150,7 @@ impl Engine {
         let regs = self.bank.regs;
         let pattern = self.bank.pattern;
         let blit = self.blit;
-        let act = acts::launch(regs, &pattern, blit, mem, word);
+        let act = acts::launch(regs, pattern, blit, mem, word);
         self.settle(regs, act)
     }
 

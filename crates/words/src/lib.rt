@@ -3,7 +3,6 @@ use acts::Blit;
 use bank::Bank;
 use engine::Engine;
 use paint::Tally;
-use registers::Regs;
 ghost use mathlib.Core.Path.{_≡_};
 ghost use Prim.Native.Nat.{_+_, _%_, _^_, _<_};
 ghost use Rattle.words.specs.Words.{ran, ranOf};
@@ -34,15 +33,12 @@ fn add(t: Sums, n: usize, tally: Tally) -> Sums
     }
 }
 
-fn ended(regs: Regs, pattern: [u8; 256], blit: Blit, opened: usize, number: u32, sums: Sums) -> Run
-    ensures { λ r. ⌜ r ≡ record { engine = record { bank = record { regs = regs; pattern = pattern }; blit = blit; opened = opened }; number = number; sums = sums } ⌝ }
+fn ended(bank: Bank, blit: Blit, opened: usize, number: u32, sums: Sums) -> Run
+    ensures { λ r. ⌜ r ≡ record { engine = record { bank = bank; blit = blit; opened = opened }; number = number; sums = sums } ⌝ }
 {
     Run {
         engine: Engine {
-            bank: Bank {
-                regs: regs,
-                pattern: pattern,
-            },
+            bank: bank,
             blit: blit,
             opened: opened,
         },
@@ -56,8 +52,7 @@ pub fn take_run(e: Engine, mem: &mut [u8], words: &[u32]) -> Run
     ensures { λ r. ⌜ ranOf r (now (mem .exit)) ≡ ran e (now (mem .entry)) (now (words .entry)) ⌝ }
 {
     let opened = e.opened;
-    let pattern = e.bank.pattern;
-    let mut regs = e.bank.regs;
+    let mut bank = e.bank;
     let mut blit = e.blit;
     let mut sums = Sums {
         taken: 0,
@@ -67,29 +62,29 @@ pub fn take_run(e: Engine, mem: &mut [u8], words: &[u32]) -> Run
     while sums.taken < words.len() {
         let at = sums.taken;
         if 0x100_0000 < mem.len() {
-            return ended(regs, pattern, blit, opened, 1, sums);
+            return ended(bank, blit, opened, 1, sums);
         }
         if mem.len() != opened {
-            return ended(regs, pattern, blit, opened, 1, sums);
+            return ended(bank, blit, opened, 1, sums);
         }
-        if regs.command % 16 == 3 {
-            let fed = acts::feed_run(regs, &pattern, blit, mem, &words[at..]);
+        if bank.regs.command % 16 == 3 {
+            let fed = acts::feed_run(bank, blit, mem, &words[at..]);
             if fed.number != 0 {
-                return ended(regs, pattern, blit, opened, fed.number, sums);
+                return ended(bank, blit, opened, fed.number, sums);
             }
             let rest = fed.blit;
-            regs = acts::end_feed(regs, rest);
+            bank = acts::end_feed(bank, rest);
             blit = rest;
             sums = add(sums, fed.used, fed.tally);
         } else {
-            let act = acts::start(regs, &pattern, blit, mem, words[at]);
+            let act = acts::start(bank.regs, &bank.pattern, blit, mem, words[at]);
             if act.number != 0 {
-                return ended(regs, pattern, blit, opened, act.number, sums);
+                return ended(bank, blit, opened, act.number, sums);
             }
-            regs = acts::with_ends(regs, act.ends);
+            bank.regs = acts::with_ends(bank.regs, act.ends);
             blit = act.blit;
             sums = add(sums, 1, act.tally);
         }
     }
-    ended(regs, pattern, blit, opened, 0, sums)
+    ended(bank, blit, opened, 0, sums)
 }

@@ -8,7 +8,7 @@ use Rattle.acts.proofs.end_feed.Tie as tie
 
 returns : tie.Need-returns
 unfolding feedEnded
-returns c p = rw (c .if1 .taken)
+returns c = rw (c .if1 .taken)
 
 end-rect-requires : tie.Need-end-rect-requires
 end-rect-requires c κs = search needs
@@ -18,7 +18,7 @@ with-ends-requires c κs = search needs
 
 returns-2 : tie.Need-returns-2
 unfolding feedEnded
-returns-2 c p = rw (c .before .before .if1 .left) (c .with-ends .ensures p ∙ c .before .end-rect .ensures p)
+returns-2 c = let p = c .before .before .before .before .before .args .bank .pattern in rw (c .before .before .before .before .if1 .left) (c .with-ends .ensures p ∙ c .before .end-rect .ensures p)
 
 pub end-feed-spec : {M : Type 1} → statement M
 end-feed-spec = tie.close (tie.spec returns end-rect-requires with-ends-requires returns-2)

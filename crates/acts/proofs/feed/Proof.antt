@@ -23,9 +23,9 @@ unpainted-requires c κs = search needs
 returns : tie.Need-returns
 returns c =
     let a = c .before .before .before .before .before .args in
-    let b = bankOf (a .regs) (a .pattern .now) in
+    let b = bankOf (a .regs) (a .pattern) in
     ap (λ (r : Act). deed b r (a .mem .now)) (c .unpainted .ensures)
-    ∙ judged-no _ b (a .blit) (a .mem .now) (c .before .before .before .host-verdict .result) (c .before .before .before .host-verdict .ensures) (c .before .ends-of .ensures (a .pattern .now)) (c .before .before .if1 .taken)
+    ∙ judged-no _ b (a .blit) (a .mem .now) (c .before .before .before .host-verdict .result) (c .before .before .before .host-verdict .ensures) (c .before .ends-of .ensures (a .pattern)) (c .before .before .if1 .taken)
 
 decode-feed-requires : tie.Need-decode-feed-requires
 decode-feed-requires c κs = search needs
@@ -45,10 +45,10 @@ unpainted-requires-2 c κs = search needs
 returns-2 : tie.Need-returns-2
 returns-2 c =
     let a = c .before .before .before .before .before .before .before .before .before .args in
-    let b = bankOf (a .regs) (a .pattern .now) in
+    let b = bankOf (a .regs) (a .pattern) in
     ap (λ (r : Act). deed b r (a .mem .now)) (c .unpainted2 .ensures)
     ∙ judged-yes _ b (a .blit) (a .mem .now) (c .before .before .before .before .before .before .before .host-verdict .result) (c .before .before .before .before .before .before .before .host-verdict .ensures) _ (c .before .before .before .before .before .before .if1 .left)
-    (rw (← c .before .before .before .before .before .decode-feed .ensures, ← c .before .before .before .before .words-needed .ensures, le-ltb _ _ (c .before .before .before .if2 .taken), c .before .before .end-rect .ensures (a .pattern .now), c .before .no-blit .ensures))
+    (rw (← c .before .before .before .before .before .decode-feed .ensures, ← c .before .before .before .before .words-needed .ensures, le-ltb _ _ (c .before .before .before .if2 .taken), c .before .before .end-rect .ensures (a .pattern), c .before .no-blit .ensures))
 
 paint-word-requires : tie.Need-paint-word-requires
 paint-word-requires c κs =
@@ -74,9 +74,9 @@ same-length c = search needs
 returns-3 : tie.Need-returns-3
 returns-3 c =
     let a = c .before .before .before .before .before .before .before .before .before .before .before .before .args in
-    let b = bankOf (a .regs) (a .pattern .now) in
+    let b = bankOf (a .regs) (a .pattern) in
     judged-yes _ b (a .blit) (a .mem .now) (c .before .before .before .before .before .before .before .before .before .before .host-verdict .result) (c .before .before .before .before .before .before .before .before .before .before .host-verdict .ensures) _ (c .before .before .before .before .before .before .before .before .before .if1 .left)
-    (rw (c .before .before .before .before .paint-word .ensures, ← c .before .before .before .before .before .before .before .before .decode-feed .ensures, ← c .before .before .before .before .before .before .before .words-needed .ensures, lt-ltb _ _ (c .before .before .before .before .before .before .if2 .left), lt-ltb _ _ (c .before .if3 .taken), c .ends-of2 .ensures (a .pattern .now)))
+    (rw (c .before .before .before .before .paint-word .ensures, ← c .before .before .before .before .before .before .before .before .decode-feed .ensures, ← c .before .before .before .before .before .before .before .words-needed .ensures, lt-ltb _ _ (c .before .before .before .before .before .before .if2 .left), lt-ltb _ _ (c .before .if3 .taken), c .ends-of2 .ensures (a .pattern)))
 
 end-rect-requires-2 : tie.Need-end-rect-requires-2
 end-rect-requires-2 c κs = search needs
@@ -90,9 +90,9 @@ same-length-2 c = search needs
 returns-4 : tie.Need-returns-4
 returns-4 c =
     let a = c .before .before .before .before .before .before .before .before .before .before .before .before .before .args in
-    let b = bankOf (a .regs) (a .pattern .now) in
+    let b = bankOf (a .regs) (a .pattern) in
     judged-yes _ b (a .blit) (a .mem .now) (c .before .before .before .before .before .before .before .before .before .before .before .host-verdict .result) (c .before .before .before .before .before .before .before .before .before .before .before .host-verdict .ensures) _ (c .before .before .before .before .before .before .before .before .before .before .if1 .left)
-    (rw (c .before .before .before .before .before .paint-word .ensures, ← c .before .before .before .before .before .before .before .before .before .decode-feed .ensures, ← c .before .before .before .before .before .before .before .before .words-needed .ensures, lt-ltb _ _ (c .before .before .before .before .before .before .before .if2 .left), le-ltb _ _ (c .before .before .if3 .left), c .before .end-rect2 .ensures (a .pattern .now), c .no-blit2 .ensures))
+    (rw (c .before .before .before .before .before .paint-word .ensures, ← c .before .before .before .before .before .before .before .before .before .decode-feed .ensures, ← c .before .before .before .before .before .before .before .before .words-needed .ensures, lt-ltb _ _ (c .before .before .before .before .before .before .before .if2 .left), le-ltb _ _ (c .before .before .if3 .left), c .before .end-rect2 .ensures (a .pattern), c .no-blit2 .ensures))
 
 pub feed-spec : {M : Type 1} → statement M
 feed-spec =

@@ -3,19 +3,13 @@
 use borrow.Author.Needs.{needs}
 use mathlib.Core.Path.{_≡_, sym, ap, _∙_}
 use Rattle.host.specs.Host.{wordsOf}
-use Rattle.bank.specs.declared.Bank.{Bank}
 use Rattle.command.specs.Decode.{feedOf}
 use Rattle.acts.specs.declared.Fed.{Fed}
-use Rattle.acts.specs.Deed.{bankOf}
 use Rattle.acts.specs.Fed.{fed}
 use Rattle.acts.proofs.Laws.{feed-ready}
 use Rattle.acts.proofs.Feeding.{fed-refused, fed-none, part-long, part-feeds, fed-some}
 use Rattle.acts.proofs.feed_run.Statement.{statement}
 use Rattle.acts.proofs.feed_run.Tie as tie
-
--- registers and pattern at the start
-abbrev bank : tie.Start → Bank
-bank c = bankOf (c .args .regs) (c .args .pattern .now)
 
 host-verdict-requires : tie.Need-host-verdict-requires
 host-verdict-requires c κs = search needs
@@ -25,19 +19,19 @@ undrawn-requires c κs = search needs
 
 returns : tie.Need-returns
 returns c =
-    let s = c .before .before .before .before .before in
+    let s = c .before .before .before .before .before .before in
     let a = s .args in
     ap (λ (r : Fed). fed r (a .mem .now)) (c .undrawn .ensures)
-    ∙ fed-refused (bank s) (a .blit) (a .mem .now) (a .words .now) (c .before .before .host-verdict .ensures) (c .before .if1 .taken)
+    ∙ fed-refused (a .t1) (a .blit) (a .mem .now) (a .words .now) (c .before .before .host-verdict .ensures) (c .before .if1 .taken)
 
 decode-feed-requires : tie.Need-decode-feed-requires
 decode-feed-requires c κs = search needs
 
 words-needed-requires : tie.Need-words-needed-requires
-words-needed-requires c κs = feed-ready (c .before .before .before .before .before .args .regs) (c .decode-feed .ensures)
+words-needed-requires c κs = feed-ready (c .before .before .before .before .before .before .args .t1 .regs) (c .decode-feed .ensures)
 
 -- the words that the blit needs
-needed : (c : tie.After-words-needed) → c .words-needed .result ≡ wordsOf (feedOf (c .before .before .before .before .before .before .args .regs))
+needed : (c : tie.After-words-needed) → c .words-needed .result ≡ wordsOf (feedOf (c .before .before .before .before .before .before .before .args .t1 .regs))
 needed c = c .words-needed .ensures ∙ ap wordsOf (c .before .decode-feed .ensures)
 
 no-blit-requires : tie.Need-no-blit-requires
@@ -49,10 +43,10 @@ undrawn-requires-2 c κs = search needs
 returns-2 : tie.Need-returns-2
 returns-2 c =
     let w = c .before .before .before in
-    let s = c .before .before .before .before .before .before .before .before .before in
+    let s = c .before .before .before .before .before .before .before .before .before .before in
     let a = s .args in
     ap (λ (r : Fed). fed r (a .mem .now)) (c .undrawn2 .ensures)
-    ∙ fed-none (bank s) (a .blit) (a .mem .now) (a .words .now) (c .before .before .before .before .before .before .host-verdict .ensures) (c .before .before .before .before .before .if1 .left) (needed w) (c .before .before .if2 .taken) (c .before .no-blit .ensures)
+    ∙ fed-none (a .t1) (a .blit) (a .mem .now) (a .words .now) (c .before .before .before .before .before .before .host-verdict .ensures) (c .before .before .before .before .before .if1 .left) (needed w) (c .before .before .if2 .taken) (c .before .no-blit .ensures)
 
 sub-reach : tie.Need-sub-reach
 sub-reach c = search needs
@@ -63,23 +57,23 @@ reach-requires c κs = search needs
 slice-aggregate-part : tie.Need-slice-aggregate-part
 slice-aggregate-part c =
     let w = c .before .before .before in
-    let s = c .before .before .before .before .before .before .before .before .before in
+    let s = c .before .before .before .before .before .before .before .before .before .before in
     let a = s .args in
-    sym (part-long (bank s) (a .blit) (a .mem .now) (a .words .now) (c .before .before .before .before .before .before .host-verdict .ensures) (c .before .before .before .before .before .if1 .left) (needed w) (c .before .before .if2 .left) (c .before .reach .ensures))
+    sym (part-long (a .t1) (a .blit) (a .mem .now) (a .words .now) (c .before .before .before .before .before .before .host-verdict .ensures) (c .before .before .before .before .before .if1 .left) (needed w) (c .before .before .if2 .left) (c .before .reach .ensures))
 
 paint-words-requires : tie.Need-paint-words-requires
 paint-words-requires c κs =
-    let w = c .before .before .before .before in
-    let s = c .before .before .before .before .before .before .before .before .before .before in
+    let w = c .before .before .before .before .before .before in
+    let s = c .before .before .before .before .before .before .before .before .before .before .before .before .before in
     let a = s .args in
-    part-feeds (bank s) (a .blit) (a .mem .now) (a .words .now) (c .before .before .before .before .before .before .before .host-verdict .ensures) (c .before .before .before .before .before .before .if1 .left) (needed w) (c .before .before .before .if2 .left) (c .before .before .reach .ensures)
+    part-feeds (a .t1) (a .blit) (a .mem .now) (a .words .now) (c .before .before .before .before .before .before .before .before .before .host-verdict .ensures) (c .before .before .before .before .before .before .before .before .if1 .left) (needed w) (c .before .before .before .before .before .if2 .left) (c .before .before .before .before .reach .ensures)
 
 blit-after-requires : tie.Need-blit-after-requires
 blit-after-requires c κs =
-    let w = c .before .before .before .before .before .before .before in
-    let s = c .before .before .before .before .before .before .before .before .before .before .before .before .before in
+    let w = c .before .before .before .before .before .before .before .before .before in
+    let s = c .before .before .before .before .before .before .before .before .before .before .before .before .before .before .before .before in
     let a = s .args in
-    let part = part-feeds (bank s) (a .blit) (a .mem .now) (a .words .now) (c .before .before .before .before .before .before .before .before .before .before .host-verdict .ensures) (c .before .before .before .before .before .before .before .before .before .if1 .left) (needed w) (c .before .before .before .before .before .before .if2 .left) (c .before .before .before .before .before .reach .ensures) in
+    let part = part-feeds (a .t1) (a .blit) (a .mem .now) (a .words .now) (c .before .before .before .before .before .before .before .before .before .before .before .before .host-verdict .ensures) (c .before .before .before .before .before .before .before .before .before .before .before .if1 .left) (needed w) (c .before .before .before .before .before .before .before .before .if2 .left) (c .before .before .before .before .before .before .before .reach .ensures) in
     rw (needed w) (part .all)
 
 same-length : tie.Need-same-length
@@ -87,10 +81,10 @@ same-length c = search needs
 
 returns-3 : tie.Need-returns-3
 returns-3 c =
-    let w = c .before .before .before .before .before .before .before .before in
-    let s = c .before .before .before .before .before .before .before .before .before .before .before .before .before .before in
+    let w = c .before .before .before .before .before .before .before .before .before .before in
+    let s = c .before .before .before .before .before .before .before .before .before .before .before .before .before .before .before .before .before in
     let a = s .args in
-    fed-some (bank s) (a .blit) (a .mem .now) (a .words .now) (c .before .before .before .before .before .before .before .before .before .before .before .host-verdict .ensures) (c .before .before .before .before .before .before .before .before .before .before .if1 .left) (needed w) (c .before .before .before .before .before .before .before .if2 .left) (c .before .before .before .before .before .before .reach .ensures)
+    fed-some (a .t1) (a .blit) (a .mem .now) (a .words .now) (c .before .before .before .before .before .before .before .before .before .before .before .before .before .host-verdict .ensures) (c .before .before .before .before .before .before .before .before .before .before .before .before .if1 .left) (needed w) (c .before .before .before .before .before .before .before .before .before .if2 .left) (c .before .before .before .before .before .before .before .before .reach .ensures)
     (c .blit-after .ensures) (c .before .before .before .paint-words .ensures)
 
 pub feed-run-spec : {M : Type 1} → statement M

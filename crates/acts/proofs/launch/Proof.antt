@@ -25,10 +25,10 @@ same-length-2 c = search needs
 
 returns-2 : tie.Need-returns-2
 returns-2 c =
-    let a = c .before .before .before .before .before .before .before .args in
-    let b = bankOf (a .regs) (a .pattern .now) in
+    let a = c .before .before .before .before .before .before .before .before .args in
+    let b = bankOf (a .regs) (a .pattern) in
     c .before .before .start .ensures
-    ∙ ap (λ (d : Deed). judged d (aimed b (a .word)) (a .blit) (a .mem .now)) (aimed-starts b (a .blit) (a .mem .now) (a .word) (c .before .before .before .before .if1 .left))
+    ∙ ap (λ (d : Deed). judged d (aimed b (a .word)) (a .blit) (a .mem .now)) (aimed-starts b (a .blit) (a .mem .now) (a .word) (c .before .before .before .before .before .if1 .left))
 
 pub launch-spec : {M : Type 1} → statement M
 launch-spec =

@@ -34,7 +34,7 @@ same-length c = search needs
 returns : tie.Need-returns
 returns c =
     let a = c .before .before .before .before .before .before .before .before .before .before .args in
-    plain-drawn (a .regs) (a .pattern .now) (a .mem .now) (λ f. byWord f (a .blit .last) (a .word) (a .blit .taken)) _ (c .before .before .before .before .before .before .before .decode-clip .ensures) (c .before .before .before .before .before .before .before .before .decode-feed .ensures)
+    plain-drawn (a .regs) (a .pattern) (a .mem .now) (λ f. byWord f (a .blit .last) (a .word) (a .blit .taken)) _ (c .before .before .before .before .before .before .before .decode-clip .ensures) (c .before .before .before .before .before .before .before .before .decode-feed .ensures)
     (c .before .before .before .before .before .before .is-plain .ensures) (c .before .before .before .before .before .if1 .taken) (c .before .before .before .before .decode-plain .ensures) (c .before .before .plain-word .ensures)
 
 decode-ink-requires : tie.Need-decode-ink-requires
@@ -42,9 +42,9 @@ decode-ink-requires c κs = search needs
 
 host-word-requires : tie.Need-host-word-requires
 host-word-requires c κs =
-    let b = c .before .before .before .before .before .before .before .before in
-    let o = ink-opened (b .args .regs) (length (b .args .mem .now)) (c .before .before .before .before .before .decode-clip .ensures) (c .before .before .before .before .before .before .decode-feed .ensures) (b .pre .fine) (omega (arith, b .pre .more))
-    (c .before .before .decode-ink .ensures) in
+    let b = c .before .before .before .before .before .before .before in
+    let o = ink-opened (b .args .regs) (length (b .args .mem .now)) (c .before .before .before .before .decode-clip .ensures) (c .before .before .before .before .before .decode-feed .ensures) (b .pre .fine) (omega (arith, b .pre .more))
+    (c .before .decode-ink .ensures) in
     (record { opened = o; few = omega (arith, words-few (b .args .regs), b .pre .more) }, omega arith)
 
 same-length-2 : tie.Need-same-length-2
@@ -52,9 +52,9 @@ same-length-2 c = search needs
 
 returns-2 : tie.Need-returns-2
 returns-2 c =
-    let a = c .before .before .before .before .before .before .before .before .before .before .before .args in
-    ink-drawn (a .regs) (a .pattern .now) (a .mem .now) (λ f. byWord f (a .blit .last) (a .word) (a .blit .taken)) _ (c .before .before .before .before .before .before .before .before .decode-clip .ensures) (c .before .before .before .before .before .before .before .before .before .decode-feed .ensures)
-    (c .before .before .before .before .before .decode-ink .ensures) (c .before .before .host-word .ensures)
+    let a = c .before .before .before .before .before .before .before .before .before .before .args in
+    ink-drawn (a .regs) (a .pattern) (a .mem .now) (λ f. byWord f (a .blit .last) (a .word) (a .blit .taken)) _ (c .before .before .before .before .before .before .before .decode-clip .ensures) (c .before .before .before .before .before .before .before .before .decode-feed .ensures)
+    (c .before .before .before .before .decode-ink .ensures) (c .before .before .host-word .ensures)
 
 pub paint-word-spec : {M : Type 1} → statement M
 paint-word-spec =

@@ -6,9 +6,8 @@ use mathlib.Core.Path.{_≡_, refl, ap, subst⁻¹, _∙_}
 use mathlib.Core.List.{List}
 use Prim.Native.Nat.{ℕ, _-_, _<_}
 use lib.ListN.{length, drop, getD}
-use Rattle.registers.specs.declared.Regs.{Regs}
+use Rattle.bank.specs.declared.Bank.{Bank}
 use Rattle.acts.specs.declared.Blit.{Blit}
-use Rattle.acts.specs.Deed.{bankOf}
 use Rattle.acts.specs.Fed.{fed, feedingRun}
 use Rattle.words.specs.declared.Sums.{Sums}
 use Rattle.words.specs.Words.{Ran, ranFrom}
@@ -18,32 +17,22 @@ use Rattle.words.proofs.take_run.Statement.{statement}
 use Rattle.words.proofs.take_run.Tie as tie
 
 -- the run between two turns
-abbrev sofar : ℕ → List ℕ → List ℕ → Regs → Blit → Sums → Ran
-sofar opened p m r k t = record {
-  engine = record { bank = bankOf r p; blit = k; opened = opened };
-  memory = m;
-  number = 0;
-  taken = t .taken;
-  count = t .count;
-  changed = t .changed;
-}
+abbrev sofar : ℕ → List ℕ → Bank → Blit → Sums → Ran
+sofar opened m b k t = record { engine = record { bank = b; blit = k; opened = opened }; memory = m; number = 0; taken = t .taken; count = t .count; changed = t .changed }
 
 abbrev Inv-loop : tie.InvT-loop
-Inv-loop mem₀ words opened pattern regs₀ blit₀ sums₀ mem regs blit sums =
-    (ranFrom (sofar opened pattern mem regs blit sums) (drop (sums .taken) words) ≡ ranFrom (sofar opened pattern mem₀ regs₀ blit₀ sums₀) (drop (sums₀ .taken) words)) × (length mem ≡ length mem₀)
+Inv-loop mem₀ words opened bank₀ blit₀ sums₀ mem bank blit sums =
+    (ranFrom (sofar opened mem bank blit sums) (drop (sums .taken) words) ≡ ranFrom (sofar opened mem₀ bank₀ blit₀ sums₀) (drop (sums₀ .taken) words)) × (length mem ≡ length mem₀)
 
 abbrev μ-loop : tie.MeasureT-loop
-μ-loop mem₀ words opened pattern regs₀ blit₀ sums₀ mem regs blit sums = length words - sums .taken
+μ-loop mem₀ words opened bank₀ blit₀ sums₀ mem bank blit sums = length words - sums .taken
 
--- the words of the run, the pattern, and what was done of it when a turn begins
+-- the words of the run, and what was done of it when a turn begins
 abbrev W : tie.At-loop Inv-loop μ-loop → List ℕ
-W c = c .before .before .before .before .before .before .args .words .now
-
-abbrev P : tie.At-loop Inv-loop μ-loop → List ℕ
-P c = c .before .before .before .before .before .before .args .e .bank .pattern
+W c = c .before .before .before .before .before .args .words .now
 
 abbrev S : tie.At-loop Inv-loop μ-loop → Ran
-S c = sofar (c .before .before .before .before .before .before .args .e .opened) (P c) (c .loop .mem) (c .loop .regs) (c .loop .blit) (c .loop .sums)
+S c = sofar (c .before .before .before .before .before .args .e .opened) (c .loop .mem) (c .loop .bank) (c .loop .blit) (c .loop .sums)
 
 loop-holds : tie.Need-loop-holds Inv-loop μ-loop
 loop-holds c = (refl, refl)
@@ -91,35 +80,34 @@ feed-run-requires : tie.Need-feed-run-requires Inv-loop μ-loop
 feed-run-requires c κs = search needs
 
 -- what was fed of the words that are left
-was-fed : (c : tie.After-feed-run Inv-loop μ-loop) → let l = c .before .before .before .before .before .before .before .before .before .before in Turned (W l) (S l) (fed (c .feed-run .result) (c .feed-run .last .1 .1 .1 .0))
+was-fed : (c : tie.After-feed-run Inv-loop μ-loop) → let l = c .before .before .before .before .before .before .before .before in Turned (W l) (S l) (fed (c .feed-run .result) (c .feed-run .last .1 .1 .0))
 was-fed c =
-    let e = c .before .before .before .before .before .before in
-    let l = e .before .before .before .before in
-    subst⁻¹ (Turned (W l) (S l)) (c .feed-run .ensures ∙ ap (feedingRun (bankOf (l .loop .regs) (P l)) (l .loop .blit) (l .loop .mem)) (part-rest (W l) (l .loop .sums .taken)))
-    (turned (W l) (S l) (fits e) (c .before .before .before .before .if4 .taken) (e .before .before .if1 .taken))
+    let l = c .before .before .before .before .before .before .before .before in
+    subst⁻¹ (Turned (W l) (S l)) (c .feed-run .ensures ∙ ap (feedingRun (l .loop .bank) (l .loop .blit) (l .loop .mem)) (part-rest (W l) (l .loop .sums .taken)))
+    (turned (W l) (S l) (fits (c .before .before .before .before)) (c .before .before .before .if4 .taken) (c .before .before .before .before .before .before .if1 .taken))
 
 ended-requires-3 : tie.Need-ended-requires-3 Inv-loop μ-loop
 ended-requires-3 c κs = search needs
 
 same-length-3 : tie.Need-same-length-3 Inv-loop μ-loop
-same-length-3 c = c .before .before .before .before .before .feed-run .kept .1 .1 .1 .0 ∙ c .before .before .before .before .before .before .before .before .before .before .before .before .before .before .before .loop .inv .1
+same-length-3 c = c .before .before .before .before .before .feed-run .kept .1 .1 .0 ∙ c .before .before .before .before .before .before .before .before .before .before .before .before .before .loop .inv .1
 
 returns-3 : tie.Need-returns-3 Inv-loop μ-loop
-returns-3 c = rw (c .ended3 .ensures) (was-fed (c .before .before .before .before .before) .stops (c .before .if5 .taken) .stops (c .before .if5 .taken) ∙ c .before .before .before .before .before .before .before .before .before .before .before .before .before .before .before .loop .inv .0)
+returns-3 c = rw (c .ended3 .ensures) (was-fed (c .before .before .before .before .before) .stops (c .before .if5 .taken) .stops (c .before .if5 .taken) ∙ c .before .before .before .before .before .before .before .before .before .before .before .before .before .loop .inv .0)
 
 end-feed-requires : tie.Need-end-feed-requires Inv-loop μ-loop
 end-feed-requires c κs = search needs
 
 add-requires : tie.Need-add-requires Inv-loop μ-loop
-add-requires c κs = omega (arith, was-fed (c .before .before .before .before .before .before) .within, c .before .before .before .before .before .before .before .before .before .before .before .before .before .before .before .before .before .before .before .before .before .before .good .1 .1 .0)
+add-requires c κs = omega (arith, was-fed (c .before .before .before .before .before .before) .within, c .before .before .before .before .before .before .before .before .before .before .before .before .before .before .before .before .before .before .before .good .1 .1 .0)
 
 loop-less : tie.Need-loop-less Inv-loop μ-loop
-loop-less c = rw (c .add .ensures) (omega (arith, was-fed (c .before .before .before .before .before .before .before) .goes (c .before .before .before .if5 .left) .more refl, c .before .before .before .before .before .before .before .before .before .before .before .before .before .before .before .if1 .taken))
+loop-less c = rw (c .add .ensures) (omega (arith, was-fed (c .before .before .before .before .before .before .before) .goes (c .before .before .before .if5 .left) .more refl, c .before .before .before .before .before .before .before .before .before .before .before .before .before .if1 .taken))
 
 loop-again : tie.Need-loop-again Inv-loop μ-loop
 loop-again c =
-    let l = c .before .before .before .before .before .before .before .before .before .before .before .before .before .before .before .before .before in
-    rw (c .add .ensures, c .before .end-feed .ensures (P l)) (was-fed (c .before .before .before .before .before .before .before) .goes (c .before .before .before .if5 .left) .goes refl ∙ l .loop .inv .0, c .before .before .before .before .before .before .before .feed-run .kept .1 .1 .1 .0 ∙ l .loop .inv .1)
+    let l = c .before .before .before .before .before .before .before .before .before .before .before .before .before .before .before in
+    rw (c .add .ensures, c .before .end-feed .ensures) (was-fed (c .before .before .before .before .before .before .before) .goes (c .before .before .before .if5 .left) .goes refl ∙ l .loop .inv .0, c .before .before .before .before .before .before .before .feed-run .kept .1 .1 .0 ∙ l .loop .inv .1)
 
 mul-start : tie.Need-mul-start Inv-loop μ-loop
 mul-start c = search needs
@@ -131,37 +119,35 @@ start-requires : tie.Need-start-requires Inv-loop μ-loop
 start-requires c κs = search needs
 
 -- the word that was started
-some : (c : tie.After-start Inv-loop μ-loop) → let l = c .before .before .before .before .before .before .before .before .before .before in l .loop .sums .taken < length (W l)
-some c = c .before .before .before .before .before .before .before .before .if1 .taken
+some : (c : tie.After-start Inv-loop μ-loop) → let l = c .before .before .before .before .before .before .before .before .before .before .before in l .loop .sums .taken < length (W l)
+some c = c .before .before .before .before .before .before .before .before .before .if1 .taken
 
 ended-requires-4 : tie.Need-ended-requires-4 Inv-loop μ-loop
 ended-requires-4 c κs = search needs
 
 same-length-4 : tie.Need-same-length-4 Inv-loop μ-loop
-same-length-4 c = c .before .before .before .before .before .start .kept .1 .1 .1 .0 ∙ c .before .before .before .before .before .before .before .before .before .before .before .before .before .before .before .loop .inv .1
+same-length-4 c = c .before .before .before .before .before .start .kept .1 .1 .1 .0 ∙ c .before .before .before .before .before .before .before .before .before .before .before .before .before .before .before .before .loop .inv .1
 
 returns-4 : tie.Need-returns-4 Inv-loop μ-loop
 returns-4 c =
-    let s = c .before .before .before .before .before in
-    let l = c .before .before .before .before .before .before .before .before .before .before .before .before .before .before .before in
+    let l = c .before .before .before .before .before .before .before .before .before .before .before .before .before .before .before .before in
     rw (c .ended4 .ensures)
-    (went-word (W l) (S l) (some s) (start-stops (S l) _ (fits (c .before .before .before .before .before .before .before .before .before .before .before)) (c .before .before .before .before .before .before .before .before .before .if4 .left) (s .start .result) _ (s .start .ensures) (c .before .if6 .taken)) .stops (c .before .if6 .taken) ∙ l .loop .inv .0)
+    (went-word (W l) (S l) (some (c .before .before .before .before .before)) (start-stops (S l) _ (fits (c .before .before .before .before .before .before .before .before .before .before .before .before)) (c .before .before .before .before .before .before .before .before .before .before .before .if4 .left) (c .before .before .before .before .before .start .result) _ (c .before .before .before .before .before .start .ensures) (c .before .if6 .taken)) .stops (c .before .if6 .taken) ∙ l .loop .inv .0)
 
 with-ends-requires : tie.Need-with-ends-requires Inv-loop μ-loop
 with-ends-requires c κs = search needs
 
 add-requires-2 : tie.Need-add-requires-2 Inv-loop μ-loop
-add-requires-2 c κs = omega (arith, some (c .before .before .before .before .before .before), c .before .before .before .before .before .before .before .before .before .before .before .before .before .before .before .before .before .before .before .before .before .before .good .1 .1 .0)
+add-requires-2 c κs = omega (arith, some (c .before .before .before .before .before .before .before), c .before .before .before .before .before .before .before .before .before .before .before .before .before .before .before .before .before .before .before .before .before .before .before .good .1 .1 .0)
 
 loop-less-2 : tie.Need-loop-less-2 Inv-loop μ-loop
-loop-less-2 c = rw (c .add2 .ensures) (omega (arith, some (c .before .before .before .before .before .before .before)))
+loop-less-2 c = rw (c .add2 .ensures) (omega (arith, some (c .before .before .before .before .before .before .before .before)))
 
 loop-again-2 : tie.Need-loop-again-2 Inv-loop μ-loop
 loop-again-2 c =
-    let s = c .before .before .before .before .before .before .before in
-    let l = c .before .before .before .before .before .before .before .before .before .before .before .before .before .before .before .before .before in
-    rw (c .add2 .ensures, c .before .before .with-ends .ensures (P l))
-    (went-word (W l) (S l) (some s) (start-goes (S l) _ (fits (c .before .before .before .before .before .before .before .before .before .before .before .before .before)) (c .before .before .before .before .before .before .before .before .before .before .before .if4 .left) (s .start .result) _ (s .start .ensures) (c .before .before .before .if6 .left)) .goes refl ∙ l .loop .inv .0, s .start .kept .1 .1 .1 .0 ∙ l .loop .inv .1)
+    let l = c .before .before .before .before .before .before .before .before .before .before .before .before .before .before .before .before .before .before .before in
+    rw (c .add2 .ensures, c .before .before .with-ends .ensures (l .loop .bank .pattern))
+    (went-word (W l) (S l) (some (c .before .before .before .before .before .before .before .before)) (start-goes (S l) _ (fits (c .before .before .before .before .before .before .before .before .before .before .before .before .before .before .before)) (c .before .before .before .before .before .before .before .before .before .before .before .before .before .before .if4 .left) (c .before .before .before .before .before .before .before .before .start .result) _ (c .before .before .before .before .before .before .before .before .start .ensures) (c .before .before .before .before .if6 .left)) .goes refl ∙ l .loop .inv .0, c .before .before .before .before .before .before .before .before .start .kept .1 .1 .1 .0 ∙ l .loop .inv .1)
 
 ended-requires-5 : tie.Need-ended-requires-5 Inv-loop μ-loop
 ended-requires-5 c κs = search needs
