@@ -11,6 +11,7 @@ use borrow.Author.Tests.{eqb-true}
 use lib.Bits.{bitAnd, bitXor, differ, and-shr, and-mod, xor-step, xor-shr, xor-mod, and-zero-r, xor-zero-r}
 use Rattle.raster.specs.Rop.{ropBit, ropBits}
 use Rattle.raster.specs.Masks.{mask, muxed, laid, merged, quadOf, turns, flips, quadMade}
+use Rattle.surface.proofs.OnLaws.{and-left, and-right}
 use Rattle.colour.proofs.Bits.{Bit, off, on, bit, eight, join}
 
 -- eight values by three bits of choice
@@ -118,15 +119,6 @@ unfolding merged quadOf
 quad-is code = masks-are code sidedBy (λ p s d m. simp muxed-half) (λ p s d m. simp muxed-odd) (λ p s d. simp muxed-zero) (λ p s d. sided-bit code) 32
 
 -- ---- an operation that only flips bits of the target
-and-first : (a b : Bool) → (a && b) ≡ true → a ≡ true
-and-first true b e = refl
-and-first false b e = e
-
-and-second : (a b : Bool) → (a && b) ≡ true → b ≡ true
-and-second true b e = e
-and-second false true e = refl
-and-second false false e = e
-
 other : {y z : ℕ} → Bit y → y + z ≡ 1 → differ 1 y ≡ z
 other off e = omega arith
 other on e = omega arith
@@ -136,19 +128,19 @@ module _ (code : ℕ) (can : flips code ≡ true) where
   turned c e = eqb-true (c % 2 + c / 2 % 2) 1 e
 
   three : ((turns code && turns (code / 4)) && turns (code / 16)) ≡ true
-  three = and-first _ (turns (code / 64)) can
+  three = and-left _ (turns (code / 64)) can
 
   two : (turns code && turns (code / 4)) ≡ true
-  two = and-first _ (turns (code / 16)) three
+  two = and-left _ (turns (code / 16)) three
 
   flip-bit : {p s d : ℕ} → Bit p → Bit s → Bit d → differ d (ropBit code p s 0) ≡ ropBit code p s d
   unfolding ropBit
   flip-bit =
       eight (λ p s d. differ d (code / 2 ^ (4 * p + 2 * s + 0) % 2) ≡ code / 2 ^ (4 * p + 2 * s + d) % 2)
-      refl (other (bit (code / 1)) (omega (arith, turned code (and-first _ (turns (code / 4)) two))))
-      refl (other (bit (code / 4)) (omega (arith, turned (code / 4) (and-second (turns code) _ two))))
-      refl (other (bit (code / 16)) (omega (arith, turned (code / 16) (and-second (turns code && turns (code / 4)) _ three))))
-      refl (other (bit (code / 64)) (omega (arith, turned (code / 64) (and-second ((turns code && turns (code / 4)) && turns (code / 16)) _ can))))
+      refl (other (bit (code / 1)) (omega (arith, turned code (and-left _ (turns (code / 4)) two))))
+      refl (other (bit (code / 4)) (omega (arith, turned (code / 4) (and-right (turns code) _ two))))
+      refl (other (bit (code / 16)) (omega (arith, turned (code / 16) (and-right (turns code && turns (code / 4)) _ three))))
+      refl (other (bit (code / 64)) (omega (arith, turned (code / 64) (and-right ((turns code && turns (code / 4)) && turns (code / 16)) _ can))))
 
   rop-bit : (p s d : ℕ) → ropBit code p s d < 2
   unfolding ropBit

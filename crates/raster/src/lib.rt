@@ -72,7 +72,7 @@ pub fn is_flip(code: u32) -> bool
 }
 
 // What it makes of pattern and target; where it only flips, by what it makes of target 0.
-pub fn make(q: Quad, flip: bool, p: u32, d: u32) -> u32
+pub fn by_quad(q: Quad, flip: bool, p: u32, d: u32) -> u32
     ensures { λ r. ⌜ r ≡ quadMade flip q p d ⌝ }
 {
     if flip {

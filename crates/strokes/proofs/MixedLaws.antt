@@ -29,8 +29,8 @@ use Rattle.line.specs.Line.{pointAt, pointsFrom, points}
 use Rattle.line.specs.Asked.{Drawable}
 use Rattle.line.proofs.Sides.{either}
 use Rattle.line.proofs.PointLaws.{from-cons, from-none}
-use Rattle.strokes.specs.declared.Twin.{Twin}
-use Rattle.strokes.specs.Mixed.{rowPart, pairOf, pairAt, twinOf, mixTouches, mixes}
+use Rattle.strokes.specs.declared.Track.{Track}
+use Rattle.strokes.specs.Mixed.{rowPart, pairOf, pairAt, trackOf, mixTouches, mixes}
 use Rattle.strokes.specs.Asked.{Mixable, Mixing}
 use Rattle.strokes.proofs.WalkLaws.{Low}
 use Rattle.strokes.proofs.WalkDraw.{inside-walkable}
@@ -112,16 +112,16 @@ pub no-flip : (b : Bool) → false ≡ true → b ≡ true
 no-flip true e = refl
 no-flip false e = e
 
-module _ (ink : Ink) (l : Line) (t : Twin) (e : t ≡ twinOf ink l) where
-  pub twin-mixing : {len n : ℕ} {flip : Bool} → Mixable ink len l → n ≡ ink .target .bytes → (flip ≡ true → flips (ink .rop0) ≡ true) → Mixing len n flip t
-  unfolding twinOf
-  twin-mixing {len} {n} {flip} can bytes flipping =
+module _ (ink : Ink) (l : Line) (t : Track) (e : t ≡ trackOf ink l) where
+  pub track-mixing : {len n : ℕ} {flip : Bool} → Mixable ink len l → n ≡ ink .target .bytes → (flip ≡ true → flips (ink .rop0) ≡ true) → Mixing len n flip t
+  unfolding trackOf
+  track-mixing {len} {n} {flip} can bytes flipping =
       subst⁻¹ (Mixing len n flip) e (record { mixable = can; bytes = bytes; flipping = flipping; worked = refl })
 
-  pub twin-drawn : (pattern m : List ℕ)
+  pub track-drawn : (pattern m : List ℕ)
       → paint (t .ink .target) (mixTouches (t .ink) pattern (points (t .line))) (state m 0 0) ≡ paint (ink .target) (mixTouches ink pattern (points l)) (state m 0 0)
-  unfolding twinOf
-  twin-drawn pattern m = ap (λ (u : Twin). paint (u .ink .target) (mixTouches (u .ink) pattern (points (u .line))) (state m 0 0)) e
+  unfolding trackOf
+  track-drawn pattern m = ap (λ (u : Track). paint (u .ink .target) (mixTouches (u .ink) pattern (points (u .line))) (state m 0 0)) e
 
 -- ---- when a line is walked so
 module _ (ink : Ink) (c : Clip) (l : Line) (pen : Pen) (can : mixes ink c l pen ≡ true) where

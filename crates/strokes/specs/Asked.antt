@@ -14,12 +14,12 @@ use Rattle.line.specs.Line.{longer, shorter, pointAt, pointCount}
 use Rattle.line.specs.Tread.{AtStep}
 use Rattle.paint.specs.declared.Clip.{Clip}
 use Rattle.paint.specs.Clip.{inClip}
-use Rattle.strokes.specs.declared.Twin.{Twin}
+use Rattle.strokes.specs.declared.Track.{Track}
 use Rattle.strokes.specs.declared.Spot.{Spot}
 use Rattle.strokes.specs.declared.Part.{Part}
 use Rattle.line.specs.Asked.{Placed}
 use Rattle.strokes.specs.Walk.{whole}
-use Rattle.strokes.specs.Mixed.{twinOf}
+use Rattle.strokes.specs.Mixed.{trackOf}
 
 -- the ends of a line are at the origin or after it
 pub record Ahead (l : Line) : Type 0 where
@@ -44,11 +44,11 @@ pub record Mixable (ink : Ink) (len : ℕ) (l : Line) : Type 0 where
   pub colour : ink .mono ≡ false
 
 -- what the walk goes by, worked out for points of n bytes; where it goes as if the operation only flips, it does
-pub record Mixing (len n : ℕ) (flip : Bool) (t : Twin) : Type 0 where
+pub record Mixing (len n : ℕ) (flip : Bool) (t : Track) : Type 0 where
   pub mixable : Mixable (t .ink) len (t .line)
   pub bytes : n ≡ t .ink .target .bytes
   pub flipping : flip ≡ true → flips (t .ink .rop0) ≡ true
-  pub worked : t ≡ twinOf (t .ink) (t .line)
+  pub worked : t ≡ trackOf (t .ink) (t .line)
 
 -- the walk is at a point of the line, or past its last
 pub record OnSpot (l : Line) (s : Spot) : Type 0 where

@@ -16,7 +16,7 @@ use Rattle.line.specs.declared.Point.{Point}
 use Rattle.line.specs.declared.Line.{Line}
 use Rattle.line.specs.declared.Pen.{Pen}
 use Rattle.line.specs.Line.{longer, pointCount}
-use Rattle.strokes.specs.declared.Twin.{Twin}
+use Rattle.strokes.specs.declared.Track.{Track}
 use Rattle.strokes.specs.Walk.{stepsOf, walk}
 
 -- a column of the pattern in the bits from 32 on, and a row in those from 46 on: the forced row is 0
@@ -35,8 +35,8 @@ abbrev pub pairAt : Ink → ℕ → ℕ → ℕ
 pairAt ink x y = byteOf (ink .target) x y 0 + columnPart (ink .patX % 8 + x) + rowPart ink (ink .patY % 8 + y)
 
 -- the walk at a line's first point, and what its steps add
-unfoldable pub twinOf : Ink → Line → Twin
-twinOf ink l = record {
+unfoldable pub trackOf : Ink → Line → Track
+trackOf ink l = record {
   ink = ink;
   line = l;
   quad = quadOf (ink .rop0) (ink .fore);

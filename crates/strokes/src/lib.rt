@@ -21,7 +21,7 @@ ghost use Rattle.line.specs.Asked.{Placed, Drawable};
 ghost use Rattle.line.specs.Stipple.{stippleBit, after, styleAfter};
 ghost use Rattle.line.specs.Draw.{lineTouches};
 ghost use Rattle.strokes.specs.Walk.{shift, stepsOf, walkedOn, walk, plainTouches, clipTouches, walkTouches, wordOf, whole, Fields, walks};
-ghost use Rattle.strokes.specs.Mixed.{columnPart, rowPart, twinOf, mixTouches, mixes};
+ghost use Rattle.strokes.specs.Mixed.{columnPart, rowPart, trackOf, mixTouches, mixes};
 ghost use Rattle.strokes.specs.Asked.{Ahead, Walkable, Mixable, Mixing, OnSpot, Sought, Entered, LeftAt, PartOn};
 
 // Where a walk along a line is: the address of a point's first byte, and the remainder of its steps along the minor axis.
@@ -283,7 +283,7 @@ fn cell_of(pattern: &[u8; 256], n: u32, at: usize) -> u32
 }
 
 // A line and its ink, with what a walk along it goes by, worked out before: the walk's address has the pattern's cell in its high bits.
-pub struct Twin {
+pub struct Track {
     pub ink: Ink,
     pub line: Line,
     pub quad: Quad,
@@ -292,9 +292,9 @@ pub struct Twin {
     pub total: u32,
 }
 
-fn twin_of(ink: Ink, l: Line) -> Twin
+fn track_of(ink: Ink, l: Line) -> Track
     requires { ⌜ Colour (ink .target) × Ahead l ⌝ }
-    ensures { λ r. ⌜ r ≡ twinOf ink l ⌝ }
+    ensures { λ r. ⌜ r ≡ trackOf ink l ⌝ }
 {
     let s = ink.target;
     let x = l.x0 - 16384;
@@ -304,7 +304,7 @@ fn twin_of(ink: Ink, l: Line) -> Twin
     let place = surface::close_byte(s, x, y, 0);
     let column = column_part(ink.patX % 8 + x);
     let row = row_part(ink, ink.patY % 8 + y);
-    Twin {
+    Track {
         ink: ink,
         line: l,
         quad: raster::quad_of(ink.rop0, ink.fore),
@@ -318,23 +318,23 @@ fn twin_of(ink: Ink, l: Line) -> Twin
 }
 
 // The line drawn by address, where each point, of n bytes, gets what pattern, colorFore and target make.
-fn mix_points(mem: &mut [u8], n: u32, flip: bool, pattern: &[u8; 256], twin: Twin) -> Tally
-    requires { ⌜ Mixing (length (now mem)) n flip twin ⌝ }
-    ensures { λ r. ⌜ tallied (now (mem .exit)) r ≡ paint (twin .ink .target) (mixTouches (twin .ink) (now (pattern .entry)) (points (twin .line))) (state (now (mem .entry)) 0 0) ⌝ }
+fn mix_points(mem: &mut [u8], n: u32, flip: bool, pattern: &[u8; 256], track: Track) -> Tally
+    requires { ⌜ Mixing (length (now mem)) n flip track ⌝ }
+    ensures { λ r. ⌜ tallied (now (mem .exit)) r ≡ paint (track .ink .target) (mixTouches (track .ink) (now (pattern .entry)) (points (track .line))) (state (now (mem .entry)) 0 0) ⌝ }
 {
-    let q = twin.quad;
-    let t = twin.steps;
-    let mut w = twin.walk;
+    let q = track.quad;
+    let t = track.steps;
+    let mut w = track.walk;
     let mut tally = Tally {
         count: 0,
         changed: 0,
     };
     let mut i = 0;
-    while i < surface::wide(twin.total) {
+    while i < surface::wide(track.total) {
         let at = w.at % 0x1_0000_0000;
         let old = surface::get_bytes(mem, at, n);
         let p = cell_of(pattern, n, w.at);
-        let v = raster::make(q, flip, p, old);
+        let v = raster::by_quad(q, flip, p, old);
         tally = paint::put_value_at(mem, at, n, false, v, tally);
         w = walk_on(t, w);
         i += 1;
@@ -347,21 +347,21 @@ fn walk_mixed(mem: &mut [u8], ink: Ink, pattern: &[u8; 256], l: Line) -> Tally
     requires { ⌜ Mixable ink (length (now mem)) l ⌝ }
     ensures { λ r. ⌜ tallied (now (mem .exit)) r ≡ paint (ink .target) (mixTouches ink (now (pattern .entry)) (points l)) (state (now (mem .entry)) 0 0) ⌝ }
 {
-    let twin = twin_of(ink, l);
+    let track = track_of(ink, l);
     let n = ink.target.bytes;
     if raster::is_flip(ink.rop0) {
         return match n {
-            1 => mix_points(mem, 1, true, pattern, twin),
-            2 => mix_points(mem, 2, true, pattern, twin),
-            3 => mix_points(mem, 3, true, pattern, twin),
-            _ => mix_points(mem, 4, true, pattern, twin),
+            1 => mix_points(mem, 1, true, pattern, track),
+            2 => mix_points(mem, 2, true, pattern, track),
+            3 => mix_points(mem, 3, true, pattern, track),
+            _ => mix_points(mem, 4, true, pattern, track),
         };
     }
     match n {
-        1 => mix_points(mem, 1, false, pattern, twin),
-        2 => mix_points(mem, 2, false, pattern, twin),
-        3 => mix_points(mem, 3, false, pattern, twin),
-        _ => mix_points(mem, 4, false, pattern, twin),
+        1 => mix_points(mem, 1, false, pattern, track),
+        2 => mix_points(mem, 2, false, pattern, track),
+        3 => mix_points(mem, 3, false, pattern, track),
+        _ => mix_points(mem, 4, false, pattern, track),
     }
 }
 

@@ -1,13 +1,13 @@
--- `strokes::twin_of` meets its contract: each part as it is worked out.
+-- `strokes::track_of` meets its contract: each part as it is worked out.
 -- Assumes nothing.
 use borrow.Author.Needs.{needs}
 use native.Mathlib.Omega.{arith}
 use Prim.Native.Nat.{_+_, _-_, _%_}
-use Rattle.strokes.specs.Mixed.{twinOf}
+use Rattle.strokes.specs.Mixed.{trackOf}
 use Rattle.strokes.proofs.WalkLaws.{small-low}
 use Rattle.strokes.proofs.MixedLaws.{row-small}
-use Rattle.strokes.proofs.twin_of.Statement.{statement}
-use Rattle.strokes.proofs.twin_of.Tie as tie
+use Rattle.strokes.proofs.track_of.Statement.{statement}
+use Rattle.strokes.proofs.track_of.Tie as tie
 
 sub-x : tie.Need-sub-x
 sub-x c = search needs
@@ -82,11 +82,11 @@ point-count-requires : tie.Need-point-count-requires
 point-count-requires c κs = c .before .before .before .before .before .before .before .before .before .before .before .before .before .before .before .pre .1 .line
 
 returns : tie.Need-returns
-unfolding twinOf
+unfolding trackOf
 returns c = rw (c .before .before .steps-by .ensures, c .before .before .before .before .before .before .before .before .before .before .before .before .wide .ensures, c .before .before .before .before .before .before .before .before .before .before .before .column-part .ensures, c .before .before .before .before .before .before .before .before .before .before .wide2 .ensures, c .before .before .before .before .before .before .before .before .before .row-part .ensures, c .before .before .before .before .before .before .before .before .close-byte .ensures, c .before .before .before .before .before .before .column-part2 .ensures, c .before .before .before .before .row-part2 .ensures, c .before .before .before .quad-of .ensures, c .before .long-side .ensures, c .point-count .ensures)
 
-pub twin-of-spec : {M : Type 1} → statement M
-twin-of-spec =
+pub track-of-spec : {M : Type 1} → statement M
+track-of-spec =
     tie.close
     (tie.spec
     sub-x
