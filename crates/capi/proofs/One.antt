@@ -1,6 +1,6 @@
 -- Each contract says what the outcome equals, and so allows one.
 -- Assumes nothing.
-use Rattle.engine.proofs.One.{settled}
+use Rattle.basics.proofs.One.{settled}
 use Rattle.state.specs.Layout.{stateSize}
 use Rattle.capi.specs.Calls.{writtenTo, ranTo, openedTo, readOf, partOf}
 use Rattle.capi.specs.Promises.{OneSize, OneOpening, OneCall, OneRunCall, OneReading, OnePart}

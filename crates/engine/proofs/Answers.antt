@@ -10,7 +10,7 @@ use Rattle.bank.specs.Bank.{readPlace, readNumber, readValue}
 use Rattle.engine.specs.declared.Engine.{Engine}
 use Rattle.engine.specs.Step.{numberOf, countOf, changedOf}
 use Rattle.engine.specs.Promises.{OneNumber, OneCount, OneChanged, unread, ReadAnswered}
-use Rattle.engine.proofs.One.{settled}
+use Rattle.basics.proofs.One.{settled}
 
 pub one-number : OneNumber
 one-number a x y = settled (numberOf a) x y

@@ -1,14 +1,10 @@
 -- Each contract says what the outcome equals, and so allows one.
 -- Assumes nothing.
-use mathlib.Core.Path.{_≡_, sym, _∙_}
 use lib.ListN.{length}
 use Rattle.views.specs.View.{viewAnswer, viewStart, viewed, further}
+use Rattle.basics.proofs.One.{settled}
 use Rattle.engine.specs.Step.{freshEngine, readFrom, written}
 use Rattle.engine.specs.Promises.{OneOutcome, OneFresh, OneReading, OneView, OneViewAnswer}
-
--- the one law for a contract that is an equation
-pub settled : {A : Type 0} (f x y : A) → x ≡ f → y ≡ f → x ≡ y
-settled f x y p q = p ∙ sym q
 
 pub one-outcome : OneOutcome
 one-outcome e m o d x y = settled (written e m o d) x y

@@ -22,7 +22,8 @@ use Rattle.surface.proofs.Rects.{rect-length}
 use Rattle.spans.proofs.Corner.{rect-corner}
 use Rattle.registers.specs.declared.Regs.{Regs}
 use Rattle.engine.specs.Step.{regs}
-use Rattle.ppm.specs.Text.{Page, page, each, put, said, digit, digits, decimal, numeral}
+use Rattle.basics.specs.Each.{each}
+use Rattle.ppm.specs.Text.{Page, page, put, said, digit, digits, decimal, numeral}
 use Rattle.ppm.specs.Picture.{shade, line, lines, header, noPicture, left, top, right, bottom, target, pixels, shows, picture}
 use Rattle.picture.specs.Player.{Sheet, refusal, shortWrite, printed}
 use Rattle.ppm.proofs.PictureLaws.{shown, rect-shown}

@@ -11,7 +11,7 @@ use Rattle.engine.specs.declared.Answer.{Answer}
 use Rattle.engine.specs.Step.{Step, step, numberOf, written}
 use Rattle.engine.proofs.Frame.{write-left}
 use Rattle.picture.specs.declared.Player.{Player}
-use Rattle.ppm.specs.Text.{each}
+use Rattle.basics.specs.Each.{each}
 use Rattle.picture.specs.Player.{Sheet, sheet, shifted, counted, wrote, arrived, taken, fed, start}
 
 pub wrote-by : (p : Player) (w : ℕ) (e : Engine) (m : List ℕ) (a : Answer) (n k : ℕ) (st : Step) → step e m a ≡ st → n ≡ numberOf a → k ≡ counted n (p .played)

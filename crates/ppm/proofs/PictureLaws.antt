@@ -17,10 +17,11 @@ use Rattle.formats.specs.Format.{targetNamed}
 use Rattle.surface.proofs.OnLaws.{and-left, and-right}
 use Rattle.formats.proofs.FormatLaws.{target-colour}
 use Rattle.registers.specs.declared.Regs.{Regs}
-use Rattle.ppm.specs.Text.{Page, each, put, said}
+use Rattle.basics.specs.Each.{each}
+use Rattle.ppm.specs.Text.{Page, put, said}
 use Rattle.ppm.specs.Picture.{shade, line, lines, header, noPicture, left, top, right, bottom, target, pixels, shows, picture}
 use Rattle.ppm.specs.Asked.{RowOn, RectOn}
-use Rattle.ppm.proofs.TextLaws.{each-append}
+use Rattle.basics.proofs.EachLaws.{each-append}
 
 module _ (s : Surface) where
   -- ---- on the surface

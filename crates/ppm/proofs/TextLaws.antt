@@ -1,33 +1,17 @@
--- Laws of text put byte by byte: what a turn of a loop leaves to be said, and numbers place by place.
+-- Laws of text put byte by byte: numbers place by place, texts one after the other, and what fits.
 -- Assumes nothing.
 use mathlib.Core.Path.{_≡_, refl, sym, ap, subst⁻¹, _∙_}
 use mathlib.Core.Bool.{Bool, true, false, cond}
 use mathlib.Core.List.{List, [], _∷_, _++_}
 use Prim.Native.Nat.{ℕ, zero, suc, _+_, _-_, _/_, _^_, _<_, _≤_}
 use native.Mathlib.Nat.{pow-suc, pow-le-pow-right, mul-div-cancel}
-use native.Mathlib.Numerals.{add-one}
 use native.Mathlib.Omega.{arith}
 use lib.Dec.{ltb}
-use lib.ListN.{length, getD, set, drop, length-set, drop-of-length-le}
+use lib.ListN.{length, set, length-set}
 use borrow.Author.Tests.{ltb-true}
-use lib.Seq.{drop-cons}
-use Rattle.ppm.specs.Text.{Page, page, each, put, said, digit, digits}
-
--- ---- one after the other
-module _ {S : Type 0} (f : ℕ → S → S) where
-  pub each-append : (t u : List ℕ) (s : S) → each f (t ++ u) s ≡ each f u (each f t s)
-  unfolding each
-  each-append [] u s = refl
-  each-append (b ∷ t) u s = each-append t u (f b s)
-
-  -- a turn of a loop takes the number at i
-  pub each-again : (t : List ℕ) (i : ℕ) (s s′ : S) → i < length t → s′ ≡ f (getD t i 0) s → each f (drop (i + 1) t) s′ ≡ each f (drop i t) s
-  unfolding each
-  each-again t i s s′ h e = rw (add-one, drop-cons t i 0 h, e)
-
-  pub each-ends : (t : List ℕ) (i : ℕ) (s : S) → length t ≤ i → s ≡ each f (drop i t) s
-  unfolding each
-  each-ends t i s h = rw (drop-of-length-le t h)
+use Rattle.basics.specs.Each.{each}
+use Rattle.basics.proofs.EachLaws.{each-append}
+use Rattle.ppm.specs.Text.{Page, page, put, said, digit, digits}
 
 -- ---- numbers
 power-below : (k : ℕ) → 10 ^ suc k / 10 ≡ 10 ^ k

@@ -5,6 +5,7 @@ use mathlib.Core.List.{List, [], _∷_, _++_}
 use Prim.Native.Nat.{ℕ, zero, suc, _+_, _/_, _%_, _^_}
 use lib.Dec.{ltb}
 use lib.ListN.{length, set}
+use Rattle.basics.specs.Each.{each}
 
 -- a buffer, and how many of its bytes are used
 pub record Page : Type 0 where
@@ -17,11 +18,6 @@ page b n = record { bytes = b; used = n }
 -- one byte more
 unfoldable pub put : ℕ → Page → Page
 put b p = cond (ltb (p .used) (length (p .bytes))) (page (set (p .bytes) (p .used) b) (p .used + 1)) p
-
--- a list's numbers taken one after the other
-unfoldable pub each : {S : Type 0} → (ℕ → S → S) → List ℕ → S → S
-each take [] s = s
-each take (b ∷ t) s = each take t (take b s)
 
 -- a whole text
 abbrev pub said : List ℕ → Page → Page

@@ -14,7 +14,7 @@ use Rattle.engine.specs.declared.Engine.{Engine}
 use Rattle.engine.specs.Step.{numberOf, regs, written}
 use Rattle.engine.specs.Writes.{Run, played, counted, changes}
 use Rattle.engine.proofs.Count.{no-more-changed}
-use Rattle.engine.proofs.One.{settled}
+use Rattle.basics.proofs.One.{settled}
 use Rattle.engine.proofs.Most.{count-fits}
 use Rattle.words.specs.Words.{Ran, started, launching, isTaken, further, stopped, ranFrom, ran}
 use Rattle.words.specs.Promises.{OneRun, EmptyRun, AnyLaunch, RunPlayed, SumsWhole, RunStops, joined, RunSplit, RestOfBlit}

@@ -5,7 +5,7 @@ use mathlib.Core.Path.{_≡_, refl, _∙_}
 use Prim.Native.Nat.{_-_}
 use lib.ListN.{length, drop}
 use Rattle.ppm.specs.Text.{page, put, said}
-use Rattle.ppm.proofs.TextLaws.{each-again, each-ends}
+use Rattle.basics.proofs.EachLaws.{each-again, each-ends}
 use Rattle.ppm.proofs.say.Statement.{statement}
 use Rattle.ppm.proofs.say.Tie as tie
 

@@ -1,7 +1,8 @@
 -- `ppm::say_digit` meets its contract: by the test for a place above the number's first digit.
 -- Assumes nothing.
 use borrow.Author.Needs.{needs}
-use Rattle.ppm.specs.Text.{each, digit}
+use Rattle.basics.specs.Each.{each}
+use Rattle.ppm.specs.Text.{digit}
 use Rattle.ppm.proofs.say_digit.Statement.{statement}
 use Rattle.ppm.proofs.say_digit.Tie as tie
 

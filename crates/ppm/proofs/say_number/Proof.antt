@@ -5,8 +5,10 @@ use mathlib.Core.Path.{_≡_, refl, sym, ap, _∙_}
 use mathlib.Core.List.{[], _∷_}
 use Prim.Native.Nat.{_/_, _^_}
 use lib.ListN.{length}
-use Rattle.ppm.specs.Text.{page, each, put, said, digits, decimal, numeral}
-use Rattle.ppm.proofs.TextLaws.{each-append, power-some, power-again, digits-again, digits-end}
+use Rattle.basics.specs.Each.{each}
+use Rattle.ppm.specs.Text.{page, put, said, digits, decimal, numeral}
+use Rattle.basics.proofs.EachLaws.{each-append}
+use Rattle.ppm.proofs.TextLaws.{power-some, power-again, digits-again, digits-end}
 use Rattle.ppm.proofs.say_number.Statement.{statement}
 use Rattle.ppm.proofs.say_number.Tie as tie
 

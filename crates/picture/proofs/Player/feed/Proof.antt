@@ -5,7 +5,7 @@ use mathlib.Core.Path.{_≡_, refl, _∙_}
 use Prim.Native.Nat.{_-_}
 use lib.ListN.{length, drop}
 use Rattle.picture.specs.Player.{sheet, taken, fed}
-use Rattle.ppm.proofs.TextLaws.{each-again, each-ends}
+use Rattle.basics.proofs.EachLaws.{each-again, each-ends}
 use Rattle.picture.proofs.Player.feed.Statement.{statement}
 use Rattle.picture.proofs.Player.feed.Tie as tie
 
