@@ -1,0 +1,7 @@
+pub mod SkipLaws
+pub mod NextLaws
+pub mod RestLaws
+pub mod CallLaws
+pub mod Holding
+pub mod Room
+pub mod Promises
