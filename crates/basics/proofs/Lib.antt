@@ -1,2 +1,3 @@
 pub mod EachLaws
 pub mod One
+pub mod WordLaws

@@ -4,7 +4,7 @@ use mathlib.Core.Path.{_≡_, refl, sym, ap, _∙_}
 use mathlib.Core.Bool.{Bool, true, false, cond, _&&_, and-eq-true-iff}
 use mathlib.Core.List.{List, [], _∷_}
 use Prim.Native.Nat.{ℕ, zero, suc, _+_, _-_, _*_, _/_, _%_, _^_, _<_, _≤_}
-use native.Mathlib.Nat.{not-suc-le-zero, le-of-suc-le-suc, eq-or-lt-of-le, add-zero, div-div-eq-div-mul, div-add-mod'}
+use native.Mathlib.Nat.{not-suc-le-zero, le-of-suc-le-suc, eq-or-lt-of-le, add-zero}
 use mathlib.Core.Logic.{⊎-elim}
 use native.Mathlib.Omega.{arith}
 use lib.Dec.{eqb, ltb}
@@ -16,7 +16,9 @@ use Rattle.registers.specs.Kept.{oneOf}
 use Rattle.registers.proofs.Arms.{Each, each-map, of-each}
 use Rattle.engine.specs.declared.Engine.{Engine}
 use Rattle.acts.proofs.Cases.{by-test, picked}
-use Rattle.state.specs.Layout.{stateSize, patternAt, mark, wordAt, byteOf, slot, byteIn, encoded, regsIn, patternIn, decoded, isState, Bytes}
+use Rattle.basics.specs.Word.{wordAt}
+use Rattle.basics.proofs.WordLaws.{four-bytes}
+use Rattle.state.specs.Layout.{stateSize, patternAt, mark, byteOf, slot, byteIn, encoded, regsIn, patternIn, decoded, isState, Bytes}
 use Rattle.capi.specs.Promises.{BytesBack, Fits, EngineBack, StaysState}
 use Rattle.state.proofs.Places.{Word, same-bytes, encoded-length, encoded-byte}
 
@@ -213,12 +215,6 @@ pub bytes-kept : BytesBack
 bytes-kept s t b = bytes-back s (opened s t b)
 
 -- ---- the engine that an engine's bytes hold
-
-four-bytes : (d : ℕ) → d < 2 ^ 32 → d % 2 ^ 8 + d / 2 ^ 8 % 2 ^ 8 * 2 ^ 8 + d / 2 ^ 16 % 2 ^ 8 * 2 ^ 16 + d / 2 ^ 24 % 2 ^ 8 * 2 ^ 24 ≡ d
-four-bytes d f =
-    let s : d / 2 ^ 16 * 2 ^ 8 + d / 2 ^ 8 % 2 ^ 8 ≡ d / 2 ^ 8 = rw (div-div-eq-div-mul d (2 ^ 8) (2 ^ 8)) at (div-add-mod' (d / 2 ^ 8) (2 ^ 8)) in
-    let t : d / 2 ^ 24 * 2 ^ 8 + d / 2 ^ 16 % 2 ^ 8 ≡ d / 2 ^ 16 = rw (div-div-eq-div-mul d (2 ^ 16) (2 ^ 8)) at (div-add-mod' (d / 2 ^ 16) (2 ^ 8)) in
-    omega arith
 
 -- byte k of the word at o
 word-byte : (e : Engine) (o k : ℕ) → Word o → k < 4 → getD (encoded e) (o + k) 0 ≡ byteOf (slot e o) k

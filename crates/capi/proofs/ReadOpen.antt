@@ -20,7 +20,8 @@ use Rattle.registers.proofs.RegsLaws.{registers, get-zero}
 use Rattle.registers.proofs.OffsetLaws.{register-listed, pattern-word}
 use Rattle.engine.specs.Step.{freshEngine, readFrom}
 use Rattle.acts.proofs.Cases.{by-test}
-use Rattle.state.specs.Layout.{stateSize, patternAt, wordAt, byteOf, slot, byteIn, encoded, regsIn, patternIn, decoded, isState, withSlots, fixedSlots}
+use Rattle.basics.specs.Word.{wordAt}
+use Rattle.state.specs.Layout.{stateSize, patternAt, byteOf, slot, byteIn, encoded, regsIn, patternIn, decoded, isState, withSlots, fixedSlots}
 use Rattle.capi.specs.Calls.{packed, packedReading, readOf, opening, openedTo}
 use Rattle.state.proofs.Places.{Word, slots-laid}
 use Rattle.capi.proofs.Changes.{none-of}

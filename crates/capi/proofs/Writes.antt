@@ -21,7 +21,8 @@ use Rattle.engine.specs.declared.Answer.{Answer}
 use Rattle.engine.specs.declared.Answer.the-variants.{Taken, Memory, Waiting}
 use Rattle.engine.specs.Step.{Step, step, changedOf, withBank, storedIn, toRegister, toPattern, written}
 use Rattle.acts.proofs.Cases.{by-test}
-use Rattle.state.specs.Layout.{stateSize, patternAt, withWord, byteOf, slot, byteIn, encoded, decoded, isState, Bytes, withSlots, commandSlots}
+use Rattle.basics.specs.Word.{withWord}
+use Rattle.state.specs.Layout.{stateSize, patternAt, byteOf, slot, byteIn, encoded, decoded, isState, Bytes, withSlots, commandSlots}
 use Rattle.capi.specs.Calls.{packed, Call, call, packedAnswer, called, writtenTo, Opening, opening, plainly}
 use Rattle.capi.specs.Asked.{Draws}
 use Rattle.state.proofs.Places.{Word, word-own, word-other, word-length, encoded-length, encoded-byte, same-bytes}

@@ -11,7 +11,8 @@ use Rattle.bank.specs.Bank.{readNumber, readValue}
 use Rattle.engine.specs.declared.Answer.{Answer}
 use Rattle.engine.specs.Step.{Step, numberOf, countOf, changedOf, freshEngine, written, readFrom}
 use Rattle.words.specs.Words.{Ran, ran}
-use Rattle.state.specs.Layout.{stateSize, wordAt, withWord, encoded, decoded, openedIn, isState}
+use Rattle.basics.specs.Word.{wordAt, withWord}
+use Rattle.state.specs.Layout.{stateSize, encoded, decoded, openedIn, isState}
 
 -- the number of a state that open did not make
 abbrev pub notState : ℕ

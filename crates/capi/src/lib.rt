@@ -27,10 +27,10 @@ fn put_plain(s: &mut [u8], len: usize, at: usize, word: u32) -> u64
     if len != state::opened_for(s) {
         return 0x1_0000_0000;
     }
-    if state::word_at(s, 4) == 1 {
+    if basics::word_at(s, 4) == 1 {
         return 0x3_0000_0000;
     }
-    state::put_word(s, at, word);
+    basics::put_word(s, at, word);
     0
 }
 
@@ -65,9 +65,9 @@ pub extern "C" fn rimebarrow_open(state: &mut [u8], size: usize) -> u32
         return 255;
     }
     state::clear(state);
-    state::put_word(state, 0, 0x656d_6952);
-    state::put_word(state, 0x74, (size % 0x1_0000_0000) as u32);
-    state::put_word(state, 0x78, (size / 0x1_0000_0000) as u32);
+    basics::put_word(state, 0, 0x656d_6952);
+    basics::put_word(state, 0x74, (size % 0x1_0000_0000) as u32);
+    basics::put_word(state, 0x78, (size / 0x1_0000_0000) as u32);
     0
 }
 
@@ -145,8 +145,8 @@ pub extern "C" fn rimebarrow_read(state: &[u8], offset: u32) -> u64
     }
     let place = registers::find_place(offset);
     match place {
-        Place::Register => state::word_at(state, offset as usize) as u64,
-        Place::Pattern(at) => state::word_at(state, 0x7c + at) as u64,
+        Place::Register => basics::word_at(state, offset as usize) as u64,
+        Place::Pattern(at) => basics::word_at(state, 0x7c + at) as u64,
         Place::Launch => 0x2_0000_0000,
         Place::Nowhere => 0x2_0000_0000,
     }

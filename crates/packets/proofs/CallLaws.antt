@@ -12,16 +12,17 @@ use lib.ListN.{length, getD, take, drop, set, length-append, length-drop}
 use lib.Seq.{drop-cons, drop-drop}
 use borrow.Author.Tests.{eqb-true, lt-ltb, ltb-true, ltb-false}
 use Rattle.basics.specs.Each.{each}
+use Rattle.basics.specs.Word.{wordAt}
 use Rattle.packets.specs.declared.Rest.{Rest}
 use Rattle.packets.specs.declared.Reader.{Reader}
 use Rattle.packets.specs.declared.Event.{Event}
 use Rattle.packets.specs.declared.Event.the-variants.{Nothing, Write, Closed}
 use Rattle.packets.specs.declared.Next.{Next}
-use Rattle.packets.specs.Reader.{between, shifted, worded, took, heard, word, isBetween, next, nextOf}
+use Rattle.packets.specs.Reader.{between, shifted, worded, took, isBetween, next, nextOf}
 use Rattle.packets.specs.Delivery.{Note, nine, wrote, Writer}
 use Rattle.packets.specs.Answers.{Lent, lent, room, put, Call, call, noting, isFull, tookOne, tookAll, wordsOf, holding}
 use Rattle.packets.proofs.NextLaws.{four}
-use Rattle.packets.proofs.Promises.{spelling}
+use Rattle.packets.proofs.Promises.{word, spelling}
 
 -- ---- a turn of the loop
 
@@ -83,10 +84,10 @@ module _ {S : Type 0} (write : Writer S) where
     after n = noting write (n .event) (n .reader) s l (n .used)
 
     word-turn : (isBetween r && room l && leb 4 (length piece - u)) ≡ true
-        → Turned piece (call r s l u) (after (next (worded (r .rest) (word (getD piece u 0) (getD piece (u + 1) 0) (getD piece (u + 2) 0) (getD piece (u + 3) 0))) (u + 4)))
-    unfolding each after
+        → Turned piece (call r s l u) (after (next (worded (r .rest) (wordAt piece u)) (u + 4)))
+    unfolding each after wordAt
     word-turn e =
-        let h = worded (r .rest) (word (getD piece u 0) (getD piece (u + 1) 0) (getD piece (u + 2) 0) (getD piece (u + 3) 0)) in
+        let h = worded (r .rest) (wordAt piece u) in
         let both = and-eq-true-iff (isBetween r) (room l) .0 (and-eq-true-iff (isBetween r && room l) (leb 4 (length piece - u)) .0 e .0) in
         let more = four (isBetween r && room l) (length piece - u) e in
         let used = noting-used (h .event) (h .reader) s l (u + 4) in
@@ -118,7 +119,7 @@ module _ {S : Type 0} (write : Writer S) where
       where
         by-test : (t : Bool) → (isBetween r && room l && leb 4 (length piece - u)) ≡ t
             → Turned piece (call r s l u)
-            (after (cond t (next (worded (r .rest) (word (getD piece u 0) (getD piece (u + 1) 0) (getD piece (u + 2) 0) (getD piece (u + 3) 0))) (u + 4)) (next (took (getD piece u 0) r) (u + 1))))
+            (after (cond t (next (worded (r .rest) (wordAt piece u)) (u + 4)) (next (took (getD piece u 0) r) (u + 1))))
         by-test true e = word-turn e
         by-test false e = byte-turn f
 

@@ -7,9 +7,10 @@ use Prim.Native.Nat.{ℕ, _+_, _-_, _≤_}
 use lib.Dec.{leb}
 use lib.ListN.{length, getD}
 use borrow.Author.Tests.{leb-true}
+use Rattle.basics.specs.Word.{wordAt}
 use Rattle.packets.specs.declared.Reader.{Reader}
 use Rattle.packets.specs.declared.Heard.{Heard}
-use Rattle.packets.specs.Reader.{worded, took, word, isBetween, next, nextOf}
+use Rattle.packets.specs.Reader.{worded, took, isBetween, next, nextOf}
 
 -- four bytes are left
 pub four : (t : Bool) (n : ℕ) → (t && leb 4 n) ≡ true → 4 ≤ n
@@ -17,7 +18,7 @@ four t n h = leb-true 4 n (and-eq-true-iff t (leb 4 n) .0 h .1)
 
 module _ (r : Reader) (piece : List ℕ) (i : ℕ) (room : Bool) where
   pub next-word : {t : Bool} {w : ℕ} {h : Heard} → t ≡ isBetween r → (t && room && leb 4 (length piece - i)) ≡ true
-      → w ≡ word (getD piece i 0) (getD piece (i + 1) 0) (getD piece (i + 2) 0) (getD piece (i + 3) 0) → h ≡ worded (r .rest) w → next h (i + 4) ≡ nextOf r piece i room
+      → w ≡ wordAt piece i → h ≡ worded (r .rest) w → next h (i + 4) ≡ nextOf r piece i room
   unfolding nextOf
   next-word p e f g = rw (rw p at e, g, f)
 

@@ -16,7 +16,7 @@ use Rattle.packets.specs.declared.Event.{Event}
 use Rattle.packets.specs.declared.Event.the-variants.{Nothing, Write, Closed}
 use Rattle.packets.specs.declared.Heard.{Heard}
 use Rattle.packets.specs.Header.{turnedDown, offsetsOf}
-use Rattle.packets.specs.Reader.{opened, advanced, between, blank, shut, heard, headed, worded, shifted, took, word, nextOf}
+use Rattle.packets.specs.Reader.{opened, advanced, between, blank, shut, heard, headed, worded, shifted, took, nextOf}
 use Rattle.packets.specs.Delivery.{Note, note, nine, Writer, Delivery, delivery, told, taken, fed}
 use Rattle.packets.specs.Answers.{lent, put}
 use Rattle.packets.specs.Promises.{OneOpen, OneTake, OneNext, OnePut, joined, spelled, oneCall, calls, AnyPieces, carried, PacketCarried, NoWords, NineOnce, Reopened}
@@ -36,6 +36,9 @@ pub one-put : OnePut
 one-put run answered number count changed x y = settled (put (note number count changed) (lent run answered)) x y
 
 -- ---- four bytes are one word, low byte first
+abbrev pub word : ℕ → ℕ → ℕ → ℕ → ℕ
+word a b c d = a + b * 2 ^ 8 + c * 2 ^ 16 + d * 2 ^ 24
+
 pub spelling : (a b c d : ℕ) → shifted (shifted (shifted (shifted 0 a) b) c) d ≡ word a b c d
 spelling a b c d =
     let two : shifted (shifted 0 a) b ≡ a * 2 ^ 16 + b * 2 ^ 24 = omega arith in

@@ -5,6 +5,7 @@ use mathlib.Core.List.{List}
 use Prim.Native.Nat.{ℕ, zero, suc, _+_, _-_, _*_, _/_, _%_, _^_}
 use lib.Dec.{eqb, leb, ltb}
 use lib.ListN.{length, getD}
+use Rattle.basics.specs.Word.{wordAt}
 use Rattle.packets.specs.declared.Rest.{Rest}
 use Rattle.packets.specs.declared.Rest.the-variants.{Empty, Counted, Masked}
 use Rattle.packets.specs.declared.Reader.{Reader}
@@ -74,10 +75,6 @@ took b r =
 
 -- ---- what the code does on the way: the bytes from i on of a piece, a whole word of them where there is one and room for its answer, else one
 
--- four bytes, the low one first
-abbrev pub word : ℕ → ℕ → ℕ → ℕ → ℕ
-word a b c d = a + b * 2 ^ 8 + c * 2 ^ 16 + d * 2 ^ 24
-
 abbrev pub isBetween : Reader → Bool
 isBetween r = eqb (r .held) 0 && eqb (r .word) 0 && not (r .closed)
 
@@ -87,5 +84,5 @@ next h used = record { reader = h .reader; event = h .event; used = used }
 unfoldable pub nextOf : Reader → List ℕ → ℕ → Bool → Next
 nextOf r piece i room =
     cond (isBetween r && room && leb 4 (length piece - i))
-    (next (worded (r .rest) (word (getD piece i 0) (getD piece (i + 1) 0) (getD piece (i + 2) 0) (getD piece (i + 3) 0))) (i + 4))
+    (next (worded (r .rest) (wordAt piece i)) (i + 4))
     (next (took (getD piece i 0) r) (i + 1))

@@ -4,7 +4,7 @@ ghost use mathlib.Core.Path.{_≡_};
 ghost use Prim.Native.Nat.{_+_, _*_, _/_, _%_, _^_, _<_};
 ghost use lib.ListN.{length};
 ghost use Rattle.packets.specs.Header.{turnedDown};
-ghost use Rattle.packets.specs.Reader.{counted, skipped, opened, advanced, between, blank, heard, headed, worded, shifted, took, word, isBetween, nextOf};
+ghost use Rattle.packets.specs.Reader.{counted, skipped, opened, advanced, between, blank, heard, headed, worded, shifted, took, isBetween, nextOf};
 ghost use Rattle.packets.specs.Delivery.{note};
 ghost use Rattle.packets.specs.Answers.{spare, lent, put};
 
@@ -48,18 +48,6 @@ fn shift(word: u32, byte: u8) -> u32
     ensures { λ r. ⌜ r ≡ shifted word byte ⌝ }
 {
     word / 0x100 + (byte as u32) * 0x100_0000
-}
-
-fn wide(x: u8) -> u32
-    ensures { λ r. ⌜ (r ≡ x) × (r < 256) ⌝ }
-{
-    x as u32
-}
-
-fn spell(a: u8, b: u8, c: u8, d: u8) -> u32
-    ensures { λ r. ⌜ r ≡ word a b c d ⌝ }
-{
-    wide(a) + wide(b) * 0x100 + wide(c) * 0x1_0000 + wide(d) * 0x100_0000
 }
 
 // ---- headers
@@ -235,7 +223,7 @@ impl Reader {
     {
         if self.is_between() & room & (4 <= piece.len() - at) {
             let rest = self.rest;
-            let word = spell(piece[at], piece[at + 1], piece[at + 2], piece[at + 3]);
+            let word = basics::word_at(piece, at);
             let whole = read_word(rest, word);
             let after = whole.reader;
             let event = whole.event;

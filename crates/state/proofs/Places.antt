@@ -13,7 +13,8 @@ use borrow.Author.Tests.{lt-ltb, eqb-true, eqb-false}
 use Rattle.registers.specs.Kept.{oneOf}
 use Rattle.registers.proofs.Arms.{Each}
 use Rattle.engine.specs.declared.Engine.{Engine}
-use Rattle.state.specs.Layout.{stateSize, patternAt, withWord, byteOf, slot, byteIn, run, encoded, withSlots}
+use Rattle.basics.specs.Word.{withWord}
+use Rattle.state.specs.Layout.{stateSize, patternAt, byteOf, slot, byteIn, run, encoded, withSlots}
 
 -- ---- four numbers put at four places in a row
 

@@ -4,7 +4,8 @@ use mathlib.Core.Bool.{Bool, cond, _&&_}
 use mathlib.Core.List.{List, [], _∷_}
 use Prim.Native.Nat.{ℕ, zero, suc, _+_, _-_, _*_, _/_, _%_, _^_, _<_}
 use lib.Dec.{eqb, ltb}
-use lib.ListN.{length, getD, set, take, drop}
+use lib.ListN.{length, getD, take, drop}
+use Rattle.basics.specs.Word.{wordAt, withWord}
 use Rattle.registers.specs.declared.Regs.{Regs}
 use Rattle.registers.specs.Regs.{getReg}
 use Rattle.engine.specs.declared.Engine.{Engine}
@@ -19,17 +20,7 @@ patternAt = 0x7c
 abbrev pub mark : ℕ
 mark = 0x656d6952
 
--- ---- words in bytes, low byte first
-
--- the four bytes from byte i on
-unfoldable pub wordAt : List ℕ → ℕ → ℕ
-wordAt s i = getD s i 0 + getD s (i + 1) 0 * 2 ^ 8 + getD s (i + 2) 0 * 2 ^ 16 + getD s (i + 3) 0 * 2 ^ 24
-
--- a word put there
-unfoldable pub withWord : List ℕ → ℕ → ℕ → List ℕ
-withWord s i d = set (set (set (set s i (d % 2 ^ 8)) (i + 1) (d / 2 ^ 8 % 2 ^ 8)) (i + 2) (d / 2 ^ 16 % 2 ^ 8)) (i + 3) (d / 2 ^ 24 % 2 ^ 8)
-
--- byte k of a word
+-- byte k of a word, low byte first
 unfoldable pub byteOf : ℕ → ℕ → ℕ
 byteOf d k = cond (eqb k 0) (d % 2 ^ 8) (cond (eqb k 1) (d / 2 ^ 8 % 2 ^ 8) (cond (eqb k 2) (d / 2 ^ 16 % 2 ^ 8) (d / 2 ^ 24 % 2 ^ 8)))
 

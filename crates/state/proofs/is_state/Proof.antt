@@ -5,7 +5,8 @@ use mathlib.Core.Path.{sym, ap}
 use mathlib.Core.Bool.{_&&_, false≢true}
 use lib.Dec.{eqb, ltb}
 use borrow.Author.Tests.{eq-eqb, ne-eqb}
-use Rattle.state.specs.Layout.{wordAt, mark, isState}
+use Rattle.basics.specs.Word.{wordAt}
+use Rattle.state.specs.Layout.{mark, isState}
 use Rattle.state.proofs.is_state.Statement.{statement}
 use Rattle.state.proofs.is_state.Tie as tie
 

@@ -2,18 +2,12 @@
 -- Assumes nothing.
 use borrow.Author.Needs.{needs}
 use mathlib.Core.Bool.{_&&_}
-use Prim.Native.Nat.{_-_, _≤_}
+use Prim.Native.Nat.{_-_}
 use native.Mathlib.Omega.{arith}
 use lib.ListN.{length}
 use Rattle.packets.proofs.NextLaws.{four, next-word, next-byte}
 use Rattle.packets.proofs.Reader.next.Statement.{statement}
 use Rattle.packets.proofs.Reader.next.Tie as tie
-
--- past the test four bytes are left
-whole : (c : tie.Then1) → 4 ≤ length (c .before .before .before .args .piece .now) - c .before .before .before .args .at
-whole c =
-    let a = c .before .before .before .args in
-    four (c .before .is-between .result && a .room) (length (a .piece .now) - a .at) (c .if1 .taken)
 
 is-between-requires : tie.Need-is-between-requires
 is-between-requires c κs = search needs
@@ -21,40 +15,21 @@ is-between-requires c κs = search needs
 sub-if1 : tie.Need-sub-if1
 sub-if1 c = search needs
 
-shared-slice-read-spell : tie.Need-shared-slice-read-spell
-shared-slice-read-spell c = search needs
-
-add-spell : tie.Need-add-spell
-add-spell c = search needs
-
-shared-slice-read-spell-2 : tie.Need-shared-slice-read-spell-2
-shared-slice-read-spell-2 c = omega (arith, whole (c .before .before))
-
-add-spell-2 : tie.Need-add-spell-2
-add-spell-2 c = search needs
-
-shared-slice-read-spell-3 : tie.Need-shared-slice-read-spell-3
-shared-slice-read-spell-3 c = omega (arith, whole (c .before .before .before))
-
-add-spell-3 : tie.Need-add-spell-3
-add-spell-3 c = search needs
-
-shared-slice-read-spell-4 : tie.Need-shared-slice-read-spell-4
-shared-slice-read-spell-4 c = omega (arith, whole (c .before .before .before .before))
-
-spell-requires : tie.Need-spell-requires
-spell-requires c κs = search needs
+word-at-requires : tie.Need-word-at-requires
+word-at-requires c κs =
+    let a = c .before .before .before .args in
+    omega (arith, four (c .before .is-between .result && a .room) (length (a .piece .now) - a .at) (c .if1 .taken))
 
 read-word-requires : tie.Need-read-word-requires
 read-word-requires c κs = search needs
 
-add-t21 : tie.Need-add-t21
-add-t21 c = search needs
+add-t19 : tie.Need-add-t19
+add-t19 c = search needs
 
 returns : tie.Need-returns
 returns c =
-    let a = c .before .before .before .before .before .before .before .before .before .before .args in
-    next-word (a .self) (a .piece .now) (a .at) (a .room) (c .before .before .before .before .before .before .before .before .is-between .ensures) (c .before .before .before .before .before .before .before .if1 .taken) (c .before .before .spell .ensures) (c .before .read-word .ensures)
+    let a = c .before .before .before .before .before .before .args in
+    next-word (a .self) (a .piece .now) (a .at) (a .room) (c .before .before .before .before .is-between .ensures) (c .before .before .before .if1 .taken) (c .before .before .word-at .ensures) (c .before .read-word .ensures)
 
 shared-slice-read-take : tie.Need-shared-slice-read-take
 shared-slice-read-take c = search needs
@@ -76,16 +51,9 @@ next-spec =
     (tie.spec
     is-between-requires
     sub-if1
-    shared-slice-read-spell
-    add-spell
-    shared-slice-read-spell-2
-    add-spell-2
-    shared-slice-read-spell-3
-    add-spell-3
-    shared-slice-read-spell-4
-    spell-requires
+    word-at-requires
     read-word-requires
-    add-t21
+    add-t19
     returns
     shared-slice-read-take
     take-requires

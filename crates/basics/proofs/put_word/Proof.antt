@@ -4,9 +4,9 @@ use borrow.Author.Needs.{needs}
 use mathlib.Core.Path.{refl}
 use native.Mathlib.Omega.{arith}
 use lib.ListN.{length-set}
-use Rattle.state.specs.Layout.{withWord}
-use Rattle.state.proofs.put_word.Statement.{statement}
-use Rattle.state.proofs.put_word.Tie as tie
+use Rattle.basics.specs.Word.{withWord}
+use Rattle.basics.proofs.put_word.Statement.{statement}
+use Rattle.basics.proofs.put_word.Tie as tie
 
 cast-s : tie.Need-cast-s
 cast-s c = search needs

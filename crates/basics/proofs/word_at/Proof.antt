@@ -1,9 +1,9 @@
 -- `word_at` meets its contract: a word is the sum of its four bytes.
 -- Assumes nothing.
 use borrow.Author.Needs.{needs}
-use Rattle.state.specs.Layout.{wordAt}
-use Rattle.state.proofs.word_at.Statement.{statement}
-use Rattle.state.proofs.word_at.Tie as tie
+use Rattle.basics.specs.Word.{wordAt}
+use Rattle.basics.proofs.word_at.Statement.{statement}
+use Rattle.basics.proofs.word_at.Tie as tie
 
 shared-slice-read-wide : tie.Need-shared-slice-read-wide
 shared-slice-read-wide c = search needs
