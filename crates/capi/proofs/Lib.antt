@@ -5,3 +5,4 @@ pub mod ReadOpen
 pub mod Views
 pub mod One
 pub mod Runs
+pub mod Packets

@@ -1,3 +1,4 @@
-pub mod Asked
 pub mod Calls
+pub mod Asked
+pub mod Packets
 pub mod Promises

@@ -1,5 +1,7 @@
 // The engine for callers in C, C++ and Rust. Its state lies in bytes that the caller lends: crate state.
 use engine::Answer;
+use packets::Event;
+use packets::Reader;
 use registers::Place;
 ghost use mathlib.Core.Path.{_≡_};
 ghost use mathlib.Core.Bool.{true};
@@ -8,6 +10,8 @@ ghost use lib.ListN.{length};
 ghost use Rattle.state.specs.Layout.{stateSize, isState, Bytes};
 ghost use Rattle.capi.specs.Calls.{packedAnswer, call, opening, writtenTo, runCall, ranTo, openedTo, readOf, part, partOf, plainly};
 ghost use Rattle.capi.specs.Asked.{Draws};
+ghost use Rattle.capi.specs.Packets.{kept, byCall, pieceCall, openedReader, packetCall, packetsTo};
+ghost use Rattle.packets.specs.Answers.{lent, Done, called};
 
 // An answer's number in the high 32 bits, its count in the low 32.
 fn pack(a: Answer) -> u64
@@ -133,6 +137,118 @@ pub extern "C" fn rimebarrow_run(
     *count = out.sums.count;
     *changes = out.sums.changed;
     out.number
+}
+
+// What became of a piece: the reader, how many bytes were used, and how many answers were given.
+struct Fed {
+    reader: Reader,
+    used: usize,
+    answered: usize,
+}
+
+// Bytes brought an event: a register write is carried out by `rimebarrow_write`, and answered as the 9 is. How many answers there are then.
+fn tell(
+    state: &mut [u8],
+    memory: &mut [u8],
+    answers: &mut [u32],
+    answered: usize,
+    event: Event,
+) -> usize
+    ensures { λ r. ⌜ Done byCall event (kept (now (state .entry)) (now (memory .entry))) (lent (now (answers .entry)) answered) (kept (now (state .exit)) (now (memory .exit))) (lent (now (answers .exit)) r) ⌝ }
+{
+    match event {
+        Event::Nothing => answered,
+        Event::Write(offset, word) => {
+            let mut changed: u32 = 0;
+            let answer = rimebarrow_write(state, memory, offset, word, &mut changed);
+            packets::put_answer(
+                answers,
+                answered,
+                (answer / 0x1_0000_0000) as u32,
+                (answer % 0x1_0000_0000) as u32,
+                changed,
+            )
+        }
+        Event::Closed => packets::put_answer(answers, answered, 9, 0, 0),
+    }
+}
+
+// The bytes of a piece, up to where there is no room for one more answer.
+fn feed(
+    reader: Reader,
+    state: &mut [u8],
+    memory: &mut [u8],
+    piece: &[u8],
+    answers: &mut [u32],
+) -> Fed
+    ensures { λ r. ⌜ pieceCall (r .reader) (now (state .exit)) (now (memory .exit)) (now (answers .exit)) (r .used) (r .answered) ≡ called byCall reader (kept (now (state .entry)) (now (memory .entry))) (now (piece .entry)) (now (answers .entry)) ⌝ }
+{
+    let mut r = reader;
+    let mut used = 0;
+    let mut answered = 0;
+    while used < piece.len() {
+        let room = packets::has_room(answers.len(), answered);
+        if (2 < r.held) & !room {
+            return Fed {
+                reader: r,
+                used: used,
+                answered: answered,
+            };
+        }
+        let n = r.next(piece, used, room);
+        let event = n.event;
+        answered = tell(state, memory, answers, answered, event);
+        let after = n.reader;
+        r = after;
+        used = n.used;
+    }
+    Fed {
+        reader: r,
+        used: used,
+        answered: answered,
+    }
+}
+
+// An empty reader: 0, or 255 where its bytes have another number.
+#[no_mangle]
+pub extern "C" fn rimebarrow_reader(reader: &mut [u8]) -> u32
+    ensures { λ r. ⌜ opening (now (reader .exit)) r ≡ openedReader (now (reader .entry)) ⌝ }
+{
+    if reader.len() != 32 {
+        return 255;
+    }
+    tail::save(reader, Reader::open());
+    0
+}
+
+// A piece of command packets: 0, or 255 where the reader or the state is none. Each register write is one of `rimebarrow_write`; the answers go into the lent
+// run, three words each.
+#[no_mangle]
+pub extern "C" fn rimebarrow_packets(
+    reader: &mut [u8],
+    state: &mut [u8],
+    memory: &mut [u8],
+    piece: &[u8],
+    answers: &mut [u32],
+    used: &mut usize,
+    answered: &mut usize,
+) -> u32
+    ensures { λ r. ⌜ packetCall (now (reader .exit)) (now (state .exit)) (now (memory .exit)) (now (answers .exit)) r (now (used .exit)) (now (answered .exit)) ≡ packetsTo (now (reader .entry)) (now (state .entry)) (now (memory .entry)) (now (piece .entry)) (now (answers .entry)) ⌝ }
+{
+    *used = 0;
+    *answered = 0;
+    if !tail::is_reader(reader) {
+        return 255;
+    }
+    if !state::is_state(state) {
+        return 255;
+    }
+    let fed = feed(tail::decode(reader), state, memory, piece, answers);
+    let after = fed.reader;
+    tail::save(reader, after);
+    *used = fed.used;
+    *answered = fed.answered;
+    0
 }
 
 // What a register holds: the number in the high 32 bits, and the word in the low ones.

@@ -13,15 +13,19 @@ use Rattle.packets.specs.Reader.{blank, took}
 use Rattle.packets.specs.Delivery.{Note, delivery, told, taken, fed}
 use Rattle.packets.specs.Answers.{called}
 use Rattle.packets.specs.Promises.{carried}
-use Rattle.packets.proofs.Promises.{any-pieces, no-words, nine-once, reopened, packet-carried}
+use Rattle.packets.proofs.Promises.{any-pieces, no-words, nine-once, reopened, packet-carried, fed-keeps}
 use Rattle.packets.proofs.Holding.{call-took, stops-full}
 use Rattle.packets.proofs.Room.{held-short, room-enough}
+use lib.ListN.{length}
 use Rattle.engine.specs.declared.Engine.{Engine}
+use Rattle.engine.specs.Promises.{Sound}
+use Rattle.engine.proofs.Waiting.{sound-kept}
+use Rattle.engine.proofs.Frame.{write-left}
 use Rattle.engine.specs.Step.{written}
 use Rattle.engine.specs.Writes.{played}
 use Rattle.engine.specs.Writes as writes
 use Rattle.intake.specs.Intake.{Machine, machine, noteOf, byEngine}
-use Rattle.intake.specs.Promises.{OneFed, WithTheEngine, paired, reached, PacketPlayed, brought, writesIn, BytesPlayed}
+use Rattle.intake.specs.Promises.{OneFed, WithTheEngine, paired, reached, PacketPlayed, brought, writesIn, BytesPlayed, SoundFed}
 
 pub one-fed : OneFed
 one-fed r s piece run x y = settled (called byEngine r s piece run) x y
@@ -66,3 +70,8 @@ bytes-played r e m notes (b ∷ bytes) = by-event (took b r .event) (λ e m note
     by-event Nothing more = more e m notes
     by-event (Write o w) more = more (written e m o w .engine) (written e m o w .memory) _
     by-event Closed more = more e m _
+
+pub sound-fed : SoundFed
+sound-fed r e m notes bytes sound =
+    fed-keeps byEngine (λ s. Sound (s .engine) × (length (s .memory) ≡ length m))
+    (λ o w s h. (sound-kept (s .engine) (s .memory) o w (h .0), write-left (s .engine) (s .memory) o w .long ∙ h .1)) bytes (delivery r (machine e m) notes) (sound, refl)

@@ -15,6 +15,7 @@ use Rattle.packets.specs.Delivery.{Note, Delivery, delivery, fed}
 use Rattle.packets.specs.Answers.{Call, called}
 use Rattle.packets.specs.Promises.{AnyPieces, CallTook, StopsFull, HeldShort, RoomEnough, spelled, NoWords, NineOnce, Reopened}
 use Rattle.engine.specs.declared.Engine.{Engine}
+use Rattle.engine.specs.Promises.{Sound}
 use Rattle.engine.specs.Writes.{Run, played}
 use Rattle.engine.specs.Writes as writes
 use Rattle.intake.specs.Intake.{Machine, machine, noteOf, byEngine}
@@ -60,3 +61,8 @@ writesIn r (b ∷ bytes) = brought (took b r .event) (writesIn (took b r .reader
 abbrev pub BytesPlayed : Type 0
 BytesPlayed = (r : Reader) (e : Engine) (m : List ℕ) (notes : List Note) (bytes : List ℕ)
     → let p = played e m (writesIn r bytes) in fed byEngine bytes (delivery r (machine e m) notes) .state ≡ machine (p .engine) (p .memory)
+
+-- so an engine that met the standing condition of writes meets it after any bytes, and the memory keeps its length
+abbrev pub SoundFed : Type 0
+SoundFed = (r : Reader) (e : Engine) (m : List ℕ) (notes : List Note) (bytes : List ℕ) → Sound e
+    → let s = fed byEngine bytes (delivery r (machine e m) notes) .state in Sound (s .engine) × (length (s .memory) ≡ length m)

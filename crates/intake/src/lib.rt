@@ -16,7 +16,15 @@ pub struct Fed {
 }
 
 // The bytes up to `used` brought an event: a register write is carried out, and answered as the 9 is.
-fn tell(reader: Reader, engine: Engine, mem: &mut [u8], answers: &mut [u32], answered: usize, event: Event, used: usize) -> Fed
+fn tell(
+    reader: Reader,
+    engine: Engine,
+    mem: &mut [u8],
+    answers: &mut [u32],
+    answered: usize,
+    event: Event,
+    used: usize,
+) -> Fed
     ensures { λ r. ⌜ fedOf r (now (mem .exit)) (now (answers .exit)) ≡ noting byEngine event reader (machine engine (now (mem .entry))) (lent (now (answers .entry)) answered) used ⌝ }
 {
     match event {
@@ -58,7 +66,13 @@ fn tell(reader: Reader, engine: Engine, mem: &mut [u8], answers: &mut [u32], ans
 
 // A piece of bytes. The answers go into the lent run, three words each: number, count of pixels written, how many of them changed. The call stops before the
 // last byte of a word where the run has no room for one more answer.
-pub fn feed(reader: Reader, engine: Engine, mem: &mut [u8], piece: &[u8], answers: &mut [u32]) -> Fed
+pub fn feed(
+    reader: Reader,
+    engine: Engine,
+    mem: &mut [u8],
+    piece: &[u8],
+    answers: &mut [u32],
+) -> Fed
     ensures { λ r. ⌜ fedOf r (now (mem .exit)) (now (answers .exit)) ≡ called byEngine reader (machine engine (now (mem .entry))) (now (piece .entry)) (now (answers .entry)) ⌝ }
 {
     let mut f = Fed {

@@ -19,8 +19,8 @@ use Rattle.packets.specs.declared.Event.{Event}
 use Rattle.packets.specs.declared.Event.the-variants.{Nothing, Write, Closed}
 use Rattle.packets.specs.declared.Next.{Next}
 use Rattle.packets.specs.Reader.{between, shifted, worded, took, isBetween, next, nextOf}
-use Rattle.packets.specs.Delivery.{Note, nine, wrote, Writer}
-use Rattle.packets.specs.Answers.{Lent, lent, room, put, Call, call, noting, isFull, tookOne, tookAll, wordsOf, holding}
+use Rattle.packets.specs.Delivery.{Note, nine, Wrote, wrote, Writer}
+use Rattle.packets.specs.Answers.{Lent, lent, room, put, Call, call, acted, noted, Done, noting, isFull, tookOne, tookAll, wordsOf, holding}
 use Rattle.packets.proofs.NextLaws.{four}
 use Rattle.packets.proofs.Promises.{word, spelling}
 
@@ -49,21 +49,19 @@ between-is r e =
     parts (r .word) (r .held) (r .rest) (r .closed) (eqb-true (r .held) 0 (both .0)) (eqb-true (r .word) 0 (both .1)) (all .1)
 
 module _ {S : Type 0} (write : Writer S) where
-  noting-used : (e : Event) (r : Reader) (s : S) (l : Lent) (u : ℕ) → noting write e r s l u .used ≡ u
-  noting-used Nothing r s l u = refl
-  noting-used (Write o w) r s l u = refl
-  noting-used Closed r s l u = refl
+  -- what an event makes, by what it is
+  module _ {e : Event} (s : S) (l : Lent) where
+    pub nothing-done : e ≡ Nothing → Done write e s l s l
+    nothing-done p = record { state = rw p; run = rw p }
 
-  -- an event noted, by what it is
-  module _ {e : Event} (r : Reader) (s : S) (l : Lent) (u : ℕ) where
-    pub noting-none : e ≡ Nothing → call r s l u ≡ noting write e r s l u
-    noting-none p = rw p
+    pub write-done : {o w : ℕ} {s′ : S} {n : Note} {l′ : Lent} → e ≡ Write o w → wrote s′ n ≡ write o w s → l′ ≡ put n l → Done write e s l s′ l′
+    write-done p f g = record { state = rw p (ap (λ (x : Wrote S). x .state) f); run = rw p (g ∙ ap (λ (x : Wrote S). put (x .note) l) f) }
 
-    pub noting-write : {o w : ℕ} {s′ : S} {n : Note} {l′ : Lent} → e ≡ Write o w → wrote s′ n ≡ write o w s → l′ ≡ put n l → call r s′ l′ u ≡ noting write e r s l u
-    noting-write p f g = rw (p, ← f, g)
+    pub nine-done : {l′ : Lent} → e ≡ Closed → l′ ≡ put nine l → Done write e s l s l′
+    nine-done p g = record { state = rw p; run = rw p g }
 
-    pub noting-nine : {l′ : Lent} → e ≡ Closed → l′ ≡ put nine l → call r s l′ u ≡ noting write e r s l u
-    noting-nine p g = rw (p, g)
+  pub noting-by : (r : Reader) (u : ℕ) {e : Event} {s : S} {l : Lent} {s′ : S} {l′ : Lent} → Done write e s l s′ l′ → call r s′ l′ u ≡ noting write e r s l u
+  noting-by r u h = rw (h .state, h .run)
 
   four-took : (a b c d u : ℕ) (rest : Rest) (s : S) (l : Lent) → room l ≡ true
       → noting write (worded rest (word a b c d) .event) (worded rest (word a b c d) .reader) s l (u + 4)
@@ -87,29 +85,24 @@ module _ {S : Type 0} (write : Writer S) where
         → Turned piece (call r s l u) (after (next (worded (r .rest) (wordAt piece u)) (u + 4)))
     unfolding each after wordAt
     word-turn e =
-        let h = worded (r .rest) (wordAt piece u) in
         let both = and-eq-true-iff (isBetween r) (room l) .0 (and-eq-true-iff (isBetween r && room l) (leb 4 (length piece - u)) .0 e .0) in
         let more = four (isBetween r && room l) (length piece - u) e in
-        let used = noting-used (h .event) (h .reader) s l (u + 4) in
         record {
           further = omega arith;
           within = omega arith;
           same =
-              rw used
-              (ap (each (tookOne write) (drop (u + 4) piece)) (four-took (getD piece u 0) (getD piece (u + 1) 0) (getD piece (u + 2) 0) (getD piece (u + 3) 0) u (r .rest) s l (both .1))
+              ap (each (tookOne write) (drop (u + 4) piece)) (four-took (getD piece u 0) (getD piece (u + 1) 0) (getD piece (u + 2) 0) (getD piece (u + 3) 0) u (r .rest) s l (both .1))
               ∙ sym (ap (λ (t : List ℕ). each (tookOne write) t (call (between (r .rest)) s l u)) (four-first piece u (omega arith)))
-              ∙ ap (λ (q : Reader). each (tookOne write) (drop u piece) (call q s l u)) (sym (between-is r (both .0))));
+              ∙ ap (λ (q : Reader). each (tookOne write) (drop u piece) (call q s l u)) (sym (between-is r (both .0)));
         }
 
     byte-turn : isFull (call r s l u) ≡ false → Turned piece (call r s l u) (after (next (took (getD piece u 0) r) (u + 1)))
     unfolding each after tookOne
     byte-turn f =
-        let h = took (getD piece u 0) r in
-        let used = noting-used (h .event) (h .reader) s l (u + 1) in
         record {
           further = omega arith;
           within = omega arith;
-          same = rw (used, one-first piece u some, f);
+          same = rw (one-first piece u some, f);
         }
 
     pub turned : isFull (call r s l u) ≡ false → {n : Next} → n ≡ nextOf r piece u (room l) → {c′ : Call S} → c′ ≡ noting write (n .event) (n .reader) s l (n .used)

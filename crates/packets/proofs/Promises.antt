@@ -140,3 +140,15 @@ module _ {S : Type 0} (write : Writer S) where
   any-pieces [] d = refl
   any-pieces (piece ∷ pieces) d =
       any-pieces pieces (oneCall write piece d) ∙ ap (each (taken write) (joined pieces)) (one-call piece d) ∙ sym (each-append (taken write) piece (joined pieces) d)
+
+  -- ---- what every write keeps, any bytes keep
+  module _ (P : S → Type 0) (keeps : (o w : ℕ) (s : S) → P s → P (write o w s .state)) where
+    told-keeps : (e : Event) (r : Reader) (s : S) (notes : List Note) → P s → P (told write e r s notes .state)
+    told-keeps Nothing r s notes p = p
+    told-keeps (Write o w) r s notes p = keeps o w s p
+    told-keeps Closed r s notes p = p
+
+    pub fed-keeps : (bytes : List ℕ) (d : Delivery S) → P (d .state) → P (fed write bytes d .state)
+    unfolding each taken
+    fed-keeps [] d p = p
+    fed-keeps (b ∷ bytes) d p = let h = took b (d .reader) in fed-keeps bytes (taken write b d) (told-keeps (h .event) (h .reader) (d .state) (d .notes) p)

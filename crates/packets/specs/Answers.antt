@@ -1,6 +1,7 @@
 -- A piece of bytes with a lent run for the answers, three words an answer: a call stops before the last byte of a word where the run has no room for one
 -- more answer.
 -- Assumes nothing.
+use mathlib.Core.Path.{_≡_}
 use mathlib.Core.Bool.{Bool, cond, not, _&&_}
 use mathlib.Core.List.{List, [], _∷_, _++_}
 use Prim.Native.Nat.{ℕ, _+_, _*_, _/_}
@@ -45,10 +46,24 @@ pub record Call (S : Type 0) : Type 0 where
 abbrev pub call : {S : Type 0} → Reader → S → Lent → ℕ → Call S
 call r s l used = record { reader = r; state = s; lent = l; used = used }
 
+-- what an event makes of the state, and of the lent run
+abbrev pub acted : {S : Type 0} → Writer S → Event → S → S
+acted write Nothing s = s
+acted write (Write o w) s = write o w s .state
+acted write Closed s = s
+
+abbrev pub noted : {S : Type 0} → Writer S → Event → S → Lent → Lent
+noted write Nothing s l = l
+noted write (Write o w) s l = put (write o w s .note) l
+noted write Closed s l = put nine l
+
+-- both, of a function that acts on an event
+pub record Done {S : Type 0} (write : Writer S) (e : Event) (s : S) (l : Lent) (s′ : S) (l′ : Lent) : Type 0 where
+  pub state : s′ ≡ acted write e s
+  pub run : l′ ≡ noted write e s l
+
 abbrev pub noting : {S : Type 0} → Writer S → Event → Reader → S → Lent → ℕ → Call S
-noting write Nothing r s l used = call r s l used
-noting write (Write o w) r s l used = call r (write o w s .state) (put (write o w s .note) l) used
-noting write Closed r s l used = call r s (put nine l) used
+noting write e r s l used = call r (acted write e s) (noted write e s l) used
 
 -- a word's last byte is next, and there is no room for an answer to it
 abbrev pub isFull : {S : Type 0} → Call S → Bool

@@ -3,7 +3,7 @@
 use borrow.Author.Needs.{needs}
 use mathlib.Core.Path.{ap}
 use Rattle.packets.specs.Answers.{lent}
-use Rattle.packets.proofs.CallLaws.{noting-none, noting-write, noting-nine}
+use Rattle.packets.proofs.CallLaws.{nothing-done, write-done, nine-done, noting-by}
 use Rattle.intake.specs.Intake.{machine, stepped, byEngine}
 use Rattle.intake.proofs.tell.Statement.{statement}
 use Rattle.intake.proofs.tell.Tie as tie
@@ -38,7 +38,8 @@ put-answer-requires-2 c κs = search needs
 returns : tie.Need-returns
 returns c =
     let a = c .before .before .before .before .args in
-    noting-none byEngine (a .reader) (machine (a .engine) (a .mem .now)) (lent (a .answers .now) (a .answered)) (a .used) (c .enum-told .given .1)
+    noting-by byEngine (a .reader) (a .used)
+    (nothing-done byEngine (machine (a .engine) (a .mem .now)) (lent (a .answers .now) (a .answered)) (c .enum-told .given .1))
 
 same-length : tie.Need-same-length
 same-length c = search needs
@@ -50,8 +51,9 @@ returns-2 : tie.Need-returns-2
 returns-2 c =
     let a = c .before .before .before .before .before .before .before .before .before .before .before .before .before .before .before .before .before .args in
     let out = c .before .before .before .before .before .before .before .before .before .before .write in
-    noting-write byEngine (a .reader) (machine (a .engine) (a .mem .now)) (lent (a .answers .now) (a .answered)) (a .used) (c .before .before .before .before .before .before .before .before .before .before .before .before .before .event .given .1)
-    (rw (c .before .before .before .before .before .number .ensures, c .before .before .before .before .count .ensures, c .before .before .before .changed .ensures) (ap stepped (out .ensures))) (c .before .before .put-answer .ensures)
+    noting-by byEngine (a .reader) (a .used)
+    (write-done byEngine (machine (a .engine) (a .mem .now)) (lent (a .answers .now) (a .answered)) (c .before .before .before .before .before .before .before .before .before .before .before .before .before .event .given .1)
+    (rw (c .before .before .before .before .before .number .ensures, c .before .before .before .before .count .ensures, c .before .before .before .changed .ensures) (ap stepped (out .ensures))) (c .before .before .put-answer .ensures))
 
 same-length-3 : tie.Need-same-length-3
 same-length-3 c = search needs
@@ -59,7 +61,8 @@ same-length-3 c = search needs
 returns-3 : tie.Need-returns-3
 returns-3 c =
     let a = c .before .before .before .before .before .before .before .before .args in
-    noting-nine byEngine (a .reader) (machine (a .engine) (a .mem .now)) (lent (a .answers .now) (a .answered)) (a .used) (c .before .before .before .before .enum-told2 .given .1) (c .before .before .put-answer2 .ensures)
+    noting-by byEngine (a .reader) (a .used)
+    (nine-done byEngine (machine (a .engine) (a .mem .now)) (lent (a .answers .now) (a .answered)) (c .before .before .before .before .enum-told2 .given .1) (c .before .before .put-answer2 .ensures))
 
 pub tell-spec : {M : Type 1} → statement M
 tell-spec =
