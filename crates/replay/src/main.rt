@@ -3,7 +3,6 @@
 // kind (kind 1: the memory is lent without its last byte). One of kind 2 is a run of words for the launch area: how many they are, at most 1023,
 // whether the memory is lent as for kind 1, and kind; then the words, filled up to a multiple of three. For each stream it prints a head, a line
 // `number count changed` for each write, `run number taken count changed` for each run, and checksums of registers and memory.
-use bank::Reading;
 use engine::Engine;
 use libc::STDIN_FILENO;
 use libc::STDOUT_FILENO;
@@ -53,89 +52,6 @@ fn read_record() -> Record {
     }
 }
 
-// The FNV-1a checksum of no bytes.
-const NO_BYTES: u64 = 2166136261;
-
-// The checksum after one byte more, the low one of a word.
-fn mix_byte(sum: u64, word: u32) -> u64 {
-    (sum ^ (word % 0x100) as u64) % 0x1_0000_0000 * 16777619 % 0x1_0000_0000
-}
-
-fn mix_word(sum: u64, word: u32) -> u64 {
-    let one = mix_byte(sum, word);
-    let two = mix_byte(one, word / 0x100);
-    let three = mix_byte(two, word / 0x1_0000);
-    mix_byte(three, word / 0x100_0000)
-}
-
-fn value(r: Reading) -> u32 {
-    match r {
-        Reading::Value(word) => word,
-        Reading::Refused => 0,
-    }
-}
-
-// The checksum after the words that are read back from an offset on, up to another.
-fn mix_reads(e: Engine, sum: u64, offset: u32, past: u32) -> u64
-    requires { ⌜ past ≤ 0x200 ⌝ }
-{
-    let mut h = sum;
-    let mut at = offset;
-    while at < past {
-        h = mix_word(h, value(e.read(at)));
-        at += 4;
-    }
-    h
-}
-
-// The checksum of registers 08 to 70, of the pattern, and of one byte for a waiting host blit.
-fn sum_registers(e: Engine) -> u64 {
-    let registers = mix_reads(e, NO_BYTES, 0x08, 0x74);
-    let pattern = mix_reads(e, registers, 0x100, 0x200);
-    let waiting = e.blit.waiting;
-    if waiting {
-        return mix_byte(pattern, 1);
-    }
-    mix_byte(pattern, 0)
-}
-
-fn sum_memory(mem: &[u8]) -> u64 {
-    let mut h = NO_BYTES;
-    let mut i = 0;
-    while i < mem.len() {
-        h = mix_byte(h, wide(mem[i]));
-        i += 1;
-    }
-    h
-}
-
-// Byte i of the memory at the start: 7 i i + 13 i + seed, modulo 256.
-fn start_byte(i: usize, seed: u32) -> u8 {
-    let k = i % 256;
-    ((k * k % 256 * 7 + k * 13 + (seed % 256) as usize) % 256) as u8
-}
-
-fn fill(mem: &mut [u8], seed: u32) {
-    let mut i = 0;
-    while i < mem.len() {
-        mem[i] = start_byte(i, seed);
-        i += 1;
-    }
-}
-
-// How much of a memory of len bytes a write of this kind is lent.
-fn lent(len: usize, kind: u32) -> usize
-    ensures { λ r. ⌜ r ≤ len ⌝ }
-{
-    if kind != 1 {
-        return len;
-    }
-    if len == 0 {
-        return 0;
-    }
-    len - 1
-}
-
 fn say_inside() {
     say(b"the input ends inside a stream\n");
 }
@@ -147,14 +63,8 @@ fn no_more(e: Engine) -> Turn {
     }
 }
 
-fn least(a: usize, b: usize) -> usize
-    ensures { λ r. ⌜ r ≤ b ⌝ }
-{
-    if a < b { a } else { b }
-}
-
 fn play_write(e: Engine, mem: &mut [u8], r: Record) -> Turn {
-    let len = lent(mem.len(), r.third);
+    let len = recorded::lent(mem.len(), r.third);
     let out = e.write(&mut mem[..len], r.first, r.second);
     let next = out.engine;
     let answer = out.answer;
@@ -187,7 +97,7 @@ fn read_words(run: &mut [u32; 1026], n: usize) -> bool
 
 // The first n words of a run.
 fn play_words(e: Engine, mem: &mut [u8], run: &[u32], n: usize) -> Turn {
-    let many = least(n, run.len());
+    let many = recorded::least(n, run.len());
     let out = words::take_run(e, mem, &run[..many]);
     let next = out.engine;
     say(b"run ");
@@ -217,7 +127,7 @@ fn play_run(e: Engine, mem: &mut [u8], r: Record) -> Turn {
         say_inside();
         return no_more(e);
     }
-    let len = lent(mem.len(), r.second);
+    let len = recorded::lent(mem.len(), r.second);
     play_held(e, &mut mem[..len], &run, n)
 }
 
@@ -235,9 +145,9 @@ fn play_record(e: Engine, mem: &mut [u8]) -> Turn {
 
 fn say_sums(e: Engine, mem: &[u8]) {
     say(b"registers ");
-    io::print_hex(STDOUT_FILENO, sum_registers(e), 8);
+    io::print_hex(STDOUT_FILENO, recorded::sum_registers(e), 8);
     say(b" memory ");
-    io::print_hex(STDOUT_FILENO, sum_memory(mem), 8);
+    io::print_hex(STDOUT_FILENO, recorded::sum_memory(mem), 8);
     say(b"\n");
 }
 
@@ -272,8 +182,8 @@ fn play_stream(mem: &mut [u8], k: u64) -> bool {
     say(b"stream ");
     say_number(k, b": ");
     say_number(head.first as u64, b" bytes\n");
-    let len = least(opened, mem.len());
-    fill(&mut mem[..len], head.third);
+    let len = recorded::least(opened, mem.len());
+    recorded::fill(&mut mem[..len], head.third);
     play(&mut mem[..len], opened, head.second)
 }
 

@@ -1,11 +1,11 @@
--- `replay::start_byte` is safe: both factors of the square are below 256.
+-- `recorded::start_byte` meets its contract: both factors of the square are below 256.
 -- Assumes nothing.
 use borrow.Author.Needs.{needs}
 use Prim.Native.Nat.{_≤_, _*_, _%_}
 use native.Mathlib.Omega.{arith}
 use native.Mathlib.Nat.{mul-le-mul}
-use Rattle.replay.proofs.start_byte.Statement.{statement}
-use Rattle.replay.proofs.start_byte.Tie as tie
+use Rattle.recorded.proofs.start_byte.Statement.{statement}
+use Rattle.recorded.proofs.start_byte.Tie as tie
 
 mul-result : tie.Need-mul-result
 mul-result c =
