@@ -1,15 +1,16 @@
 """A plain model of the 2D engine, written from the scope paper and change requests One, Two,
-Three, Four and Six, with the readings of docs/DECISIONS.md where these leave a choice; to be read
-beside them and compared with other programs. It is not meant to be fast.
+Three, Four, Six and Seven, with the readings of docs/DECISIONS.md where these leave a choice; to be
+read beside them and compared with other programs. It is not meant to be fast.
 
 Names in quotes in the comments are sections of the paper; "Thumbnails" is request One, "What
-really changed" request Two, "The smear" request Three, "Whole glyph rows" request Four and
-"Tiles" request Six. A name after the word DECISIONS is an entry there. Run as a program it plays
-a stream from its input.
+really changed" request Two, "The smear" request Three, "Whole glyph rows" request Four, "Tiles"
+request Six and "Command packets" request Seven. A name after the word DECISIONS is an entry there.
+Run as a program it plays a stream from its input.
 """
 
 import copy
 import sys
+from collections import deque
 from dataclasses import dataclass
 from typing import Iterable, Iterator
 
@@ -17,6 +18,7 @@ Pixel = tuple[int, int]  # (x, y), signed integers (DECISIONS, "Positions do not
 Drawn = tuple[int, int]  # pixels written, and those of them that changed ("What really changed")
 Answer = tuple[int, int, int]  # the number, and what was drawn; a refusal has 0 and 0
 Ran = tuple[int, int, int, int]  # of a run of words: the number, how many were taken, and what those drew
+Tail = tuple[int, int, int, int, int, int]  # of a reader of packets: see there
 
 LIMIT = 16_777_216  # "What a write answers", row 1
 PROGRAM_MEMORY = 65_536  # "The program"
@@ -49,6 +51,10 @@ TARGET_BITS = {1: 8, 3: 16, 4: 24, 5: 32}
 # index of 8 bpp.
 TRUE = ((7, 0), (15, 8), (23, 16))
 CHANNELS = {8: ((7, 0),), 16: ((4, 0), (10, 5), (15, 11)), 24: TRUE, 32: TRUE}
+
+# "Command packets": how the offsets of a packet's words go on: not at all, all one, one after the
+# other, or by a mask.
+NOTHING, SAME, ALONG, MASKED = range(4)
 
 
 def is_launch(offset: int) -> bool:
@@ -538,6 +544,73 @@ class Engine:
         return 1, int([mem[at] for at in target.places(x, y)] != before)
 
 
+def packet_kind(header: int) -> int:
+    """By "Command packets", types 1 and 2 with 2D targets; anything else is a 9, here NOTHING. By
+    source document 002, 12.1.4 and 12.1.5, the type is in bits 2:0; in type 1 bit 14, the register
+    base's bit 11, says 2D, and bit 15 consecutive addresses; type 2 has 2D registers only."""
+    if bits(header, 2, 0) == 1 and bits(header, 14, 14) == 1:
+        return ALONG if bits(header, 15, 15) == 1 else SAME
+    return MASKED if bits(header, 2, 0) == 2 else NOTHING
+
+
+def packet_offsets(header: int) -> list[int]:
+    """The byte offsets of the words of a packet, in order. By the same two sections, type 1 has
+    their number in 31:16 and the register number in 10:3 (reserved and chip bits between are not
+    looked at), type 2 a mask in 31:3 whose bit N, low bit first, is the register N past clip0Min."""
+    kind = packet_kind(header)
+    if kind == MASKED:
+        return [OFFSETS["clip0Min"] + 4 * n for n in range(29) if bits(header, 3 + n, 3 + n) == 1]
+    words = bits(header, 31, 16) if kind != NOTHING else 0
+    return [4 * (bits(header, 10, 3) + (k if kind == ALONG else 0)) for k in range(words)]
+
+
+class PacketReader:
+    """By "Command packets": a reader takes the bytes of the command FIFO, cut anywhere. A new one
+    is the reader opened anew; the engine is not its own."""
+
+    def __init__(self) -> None:
+        self.part = b""  # the bytes of a part of a word
+        self.kind = NOTHING
+        self.offsets: deque[int] = deque()  # where the words that are left of the open packet go
+        self.closed = False
+
+    def take(self, engine: Engine, mem: bytearray, piece: bytes) -> list[Answer]:
+        """Each register write is carried out once its last byte is there; the answers in order."""
+        answers: list[Answer] = []
+        for byte in piece:
+            if self.closed:
+                break  # later bytes are dropped
+            self.part += bytes([byte])
+            if len(self.part) == 4:
+                word, self.part = int.from_bytes(self.part, "little"), b""
+                answers += self.take_word(engine, mem, word)
+        return answers
+
+    def take_word(self, engine: Engine, mem: bytearray, word: int) -> list[Answer]:
+        """A whole word: data of the open packet, which goes on after a refused write too; or a header."""
+        if self.offsets:
+            return [engine.write(mem, self.offsets.popleft(), word)]
+        return self.begin(word)
+
+    def begin(self, header: int) -> list[Answer]:
+        """A packet of no words ends with its header. A 9 is answered once, and the tail is then empty."""
+        self.kind, self.offsets = packet_kind(header), deque(packet_offsets(header))
+        self.closed = self.kind == NOTHING
+        return [(9, 0, 0)] if self.closed else []
+
+    def tail(self) -> Tail:
+        """What is unfinished: how many bytes are held, these bytes with the newest on top of the
+        word; the kind of the open packet, the offset of its next word, and how many words are left,
+        or which bits of the mask, the next word's lowest; and 1 if the reader is closed."""
+        word = int.from_bytes(self.part.rjust(4, b"\0"), "little")
+        kind, offset, left = NOTHING, 0, 0
+        if self.offsets:
+            kind, offset, left = self.kind, self.offsets[0], len(self.offsets)
+        if kind == MASKED:
+            left = sum(1 << (at - offset) // 4 for at in self.offsets)
+        return len(self.part), word, kind, offset, left, int(self.closed)
+
+
 def row_view(mem: bytearray, base: int, form: int, x: int, y: int, width: int) -> tuple[int, int, int]:
     """By "What a write answers": number, first byte and length of a part of a row (DECISIONS,
     "Row view"). By "Tiles": those of tiled surfaces are not given."""
@@ -585,6 +658,18 @@ def play(stream: bytes) -> str:
         if number != 0:
             return f"refused {number} at {start // 8}\n"
     return picture(engine, mem)
+
+
+def packet_picture(data: bytes) -> str:
+    """The same of a file of command packets: K counts all answers, a 9 among them, and the file may
+    end inside a packet, be it in a word or between two."""
+    mem = bytearray(PROGRAM_MEMORY)
+    engine, reader = Engine(len(mem)), PacketReader()
+    for index, (number, _, _) in enumerate(reader.take(engine, mem, data)):
+        if number != 0:
+            return f"refused {number} at {index}\n"
+    held, _, kind, _, _, _ = reader.tail()
+    return "short write\n" if held > 0 or kind != NOTHING else picture(engine, mem)
 
 
 if __name__ == "__main__":

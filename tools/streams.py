@@ -1762,6 +1762,11 @@ def line_of(answer: Answer | Ran) -> str:
     return "run " * (len(answer) == 4) + " ".join(str(number) for number in answer)
 
 
+def sums_of(engine: Engine, mem: bytearray) -> str:
+    """The line at a stream's end."""
+    return f"registers {checksum(register_bytes(engine))} memory {checksum(mem)}"
+
+
 def make(folder: Path) -> None:
     tally: Counter = Counter()
     binary, text, writes, runs, taken = bytearray(), [], 0, 0, 0
@@ -1770,13 +1775,18 @@ def make(folder: Path) -> None:
         binary += binary_of(maker)
         text.append(f"stream {k}: {maker.size} bytes")
         text += [line_of(answer) for answer in maker.answers]
-        text.append(f"registers {checksum(register_bytes(maker.engine))} memory {checksum(maker.mem)}")
+        text.append(sums_of(maker.engine, maker.mem))
         ran = [answer for answer in maker.answers if len(answer) == 4]
         writes, runs, taken = writes + len(maker.answers) - len(ran), runs + len(ran), taken + sum(words for _, words, _, _ in ran)
     folder.mkdir(parents=True, exist_ok=True)
     (folder / "streams.bin").write_bytes(binary)
     (folder / "expected.txt").write_text("\n".join(text) + "\n")
     print(f"{STREAMS} streams, {writes} writes, {runs} runs with {taken} words taken, streams.bin {len(binary)} bytes")
+    show(tally)
+
+
+def show(tally: Counter) -> None:
+    """Prints the counts that are not 0, group by group."""
     for group in sorted({group for group, _ in tally}):
         row = sorted((str(label), n) for (g, label), n in tally.items() if g == group and n)
         print(textwrap.fill(f"{group}: " + "; ".join(f"{label}: {n}" for label, n in row), 150, subsequent_indent="  "))
@@ -1796,6 +1806,11 @@ def compare(file: Path, folder: Path) -> bool:
             for _ in range(-(-first // 3) if kind == 2 else 0):
                 next(triples)
         names.append(f"stream {k}, the checksums at its end")
+    return agree(found, expected, names)
+
+
+def agree(found: list[str], expected: list[str], names: list[str]) -> bool:
+    """Says the first difference, by what its line speaks of; true if there is none."""
     for number, (name, line, here) in enumerate(zip(names, expected, found), 1):
         if line != here:
             print(f"Line {number}, {name}: expected `{line}`, found `{here}`.")

@@ -2,14 +2,16 @@
 document 000, host blit example 1, the line example, both stipple examples, the pattern's origin,
 the strides of packed sources and the order of mono pixels, at the lines that the comments give;
 points that the papers leave open, by the readings of docs/DECISIONS.md; and of the change
-requests the stretched copy, what really changed, the smear, runs of words and tiles, mostly worked
-out by hand, tiles also by the map that source document 002 prints. Then that the recorded streams hold every kind of run.
+requests the stretched copy, what really changed, the smear, runs of words, tiles and command packets, mostly worked
+out by hand, tiles also by the map that source document 002 prints. Then that the recorded streams hold every kind of run,
+and the recorded pieces every kind of packet and cut.
 Names in quotes in the comments are entries of docs/DECISIONS.md, with the section they stand under where two have one
 heading. Run: python3 test_model.py"""
 
 import contextlib
 import io
 import itertools
+import random
 import struct
 import tempfile
 import unittest
@@ -17,8 +19,10 @@ from collections import Counter
 from pathlib import Path
 
 import model
+import parcels
 import streams
-from model import OFFSETS, Engine, Surface, line_points, play, row_view
+from model import OFFSETS, Engine, PacketReader, Surface, line_points, packet_kind, packet_offsets, packet_picture, play, row_view
+from parcels import EXAMPLE, spelled
 
 TO8 = "0C=FFF0FFF 14=10020 60=1 64=2 "  # 8 bpp, stride 32, back 1, fore 2
 DOT = TO8 + "68=10001 "  # a rectangle of one pixel
@@ -823,6 +827,171 @@ class Runs(unittest.TestCase):
         self.assertEqual(Engine(model.LIMIT + 1).write_run(bytearray(model.LIMIT + 1), [0]), (1, 0, 0, 0))
 
 
+def delivered(data, places=(), card=None):
+    """A card after these bytes, cut at these places, with the answers and the tail."""
+    card, reader, answers = card or Card(length=65536), PacketReader(), []
+    for low, past in zip([0, *places], [*places, len(data)]):
+        answers += reader.take(card.engine, card.mem, data[low:past])
+    return card, answers, reader.tail()
+
+
+def left_after(data, places=()):
+    """All that the bytes leave, however they are cut."""
+    card, answers, tail = delivered(data, places, Card(length=700))
+    return vars(card.engine), card.mem, answers, tail
+
+
+def any_packets(dice):
+    """Packets of any offsets and words, and now and then any word at all; the end may be missing."""
+    data = b""
+    for _ in range(dice.randrange(1, 8)):
+        header = dice.choice((2, 1 << 14 | 1)) | dice.getrandbits(29) << 3 & dice.getrandbits(29) << 3 & ~(0xFFF8 << 16)
+        if dice.random() < 0.1:
+            header = dice.getrandbits(32) & 0x0003FFFF
+        data += spelled([header, *(dice.getrandbits(32) & dice.choice((0xFFFFFFFF, 0x0007000F)) for _ in packet_offsets(header))])
+    return data[:dice.randrange(len(data) + 1)]
+
+
+NINES = (0x00040101, 0, 3, 4, 5, 6, 7, 0x00000101, 0x00048101, 0x0001B801, 0xFFFFBFF9, 0x00014104, 0xFFFFFFFF)  # headers
+SHEET = "P3\n2 2\n255\n0 0 0\n0 0 0\n255 128 0\n0 0 0\n"  # the scope paper's example
+
+
+class Packets(unittest.TestCase):
+    def test_headers(self):  # types 1 and 2, 002:5678-5707, in the places of 000's registers
+        for header, offsets in ((0x2C000052, [0x0C, 0x14, 0x64, 0x68, 0x70]), (0x00044101, [0x80] * 4), (0x0002C011, [0x08, 0x0C]),
+                                (0xE0000002, [0x70, 0x74, 0x78]), (0x0040C201, [*range(0x100, 0x200, 4)]), (0x00004101, []),
+                                (0x00000002, []), (0x0000C7F9, []), (0xFFFFFFFA, [*range(0x08, 0x7C, 4)]), (0x000347F9, [0x3FC] * 3),
+                                (0x0003C7F9, [0x3FC, 0x400, 0x404]), (0x00024001, [0, 0]), (0x0002F801, [0, 4]), (0x0000000A, [0x08])):
+            self.assertEqual(packet_offsets(header), offsets, f"{header:08X}")
+        for number in range(29):
+            self.assertEqual(packet_offsets(8 << number | 2), [8 + 4 * number])
+        self.assertEqual(packet_offsets(0xFFFFC101), [0x80 + 4 * k for k in range(65535)])
+        self.assertEqual([packet_kind(header) for header in (0x00014101, 0x0001C101, 0x0000000A)], [model.SAME, model.ALONG, model.MASKED])
+        self.assertEqual([packet_kind(header) for header in NINES], [model.NOTHING] * len(NINES))
+
+    def test_example(self):
+        data = spelled(EXAMPLE)
+        card, answers, tail = delivered(data)
+        self.assertEqual((answers, tail), ([(0, 0, 0)] * 5 + [(0, 1, 1)], (0,) * 6))
+        self.assertEqual(vars(card.engine), vars(Card("0C=20002 14=50008 64=FF8000 68=10001 70=CC000005 80=10000+1", 65536).engine))
+        self.assertEqual(packet_picture(data), SHEET)
+        for place in range(len(data) + 1):
+            found, cut_answers, cut_tail = delivered(data, [place])
+            self.assertEqual((cut_answers, cut_tail, model.picture(found.engine, found.mem)), (answers, tail, SHEET))
+
+    def test_once_its_last_byte_is_there(self):  # one answer with each fourth byte but the headers'
+        reader, card = PacketReader(), Card(length=65536)
+        found = [len(reader.take(card.engine, card.mem, bytes([byte]))) for byte in spelled(EXAMPLE)]
+        self.assertEqual([at for at, count in enumerate(found) if count], [7, 11, 15, 19, 23, 31])
+        self.assertEqual(reader.take(card.engine, card.mem, b""), [])
+
+    def test_words_are_low_byte_first(self):
+        card, _, _ = delivered(bytes.fromhex("0A000040" "44332211" "78563412"), card=Card())  # bits 0 and 27 of a mask
+        self.assertEqual(card.get("clip0Min"), 0x01220344)
+        self.assertEqual(delivered(bytes.fromhex("01430100" "44332211"), card=Card())[1], [(0, 0, 0)])  # number 60: pattern 180
+
+    def test_tail(self):
+        mask, along, same = 0x2C000052, 0x0003C0C1, 0x00034101
+        for data, tail in ((b"", (0, 0, 0, 0, 0)), (b"\xAB", (1, 0xAB000000, 0, 0, 0)), (b"\1\2\3", (3, 0x03020100, 0, 0, 0)),
+                           (spelled([mask]), (0, 0, 3, 0x0C, 0x02C00005)), (spelled([mask, 0]), (0, 0, 3, 0x14, 0x00B00001)),
+                           (spelled([mask, 0, 0]) + b"\7\x08", (2, 0x08070000, 3, 0x64, 0xB)),
+                           (spelled([mask, 0, 0, 0, 0]), (0, 0, 3, 0x70, 1)), (spelled([mask, 0, 0, 0, 0, 0]), (0, 0, 0, 0, 0)),
+                           (spelled([along]), (0, 0, 2, 0x60, 3)), (spelled([along, 5, 6]) + b"\x09", (1, 0x09000000, 2, 0x68, 1)),
+                           (spelled([along, 5, 6, 7]), (0, 0, 0, 0, 0)), (spelled([same, 5]), (0, 0, 1, 0x80, 2)),
+                           (spelled([0xFFFF47F9, 5]), (0, 0, 1, 0x3FC, 65534)), (spelled([0xFFFFC7F9, 5]), (0, 0, 2, 0x400, 65534)),
+                           (spelled([0xFFFFFFFA]), (0, 0, 3, 8, 0x1FFFFFFF)), (spelled([0x00004101, 2, 0x0000C7F9]), (0, 0, 0, 0, 0))):
+            self.assertEqual(delivered(data)[2], (*tail, 0), data.hex())
+
+    def test_no_words(self):  # the next word is a header
+        empty = spelled([0x00004101, 0x00000002, 0x0000FFF9])
+        example = spelled(EXAMPLE)
+        plain = delivered(example)
+        for data in (empty + example, example[:24] + empty + example[24:], example + empty):
+            card, answers, tail = delivered(data)
+            self.assertEqual((answers, tail, card.mem), (*plain[1:], plain[0].mem))
+        self.assertEqual(delivered(empty)[1:], ([], (0,) * 6))
+
+    def test_nine(self):  # once, with the header's last byte; the tail is then empty, and the rest is dropped
+        first = spelled(EXAMPLE[:6])
+        for header in NINES:
+            bad = spelled([header])
+            card, answers, tail = delivered(first + bad[:3])
+            self.assertEqual((len(answers), tail[0]), (5, 3))
+            for later in (b"", b"\1", spelled(EXAMPLE[6:]), spelled([header] * 5), bytes(99)):
+                data = first + bad + later
+                for places in ([], [len(first) + 4], [len(first) + 2, len(first) + 5]):
+                    other, found, tail = delivered(data, places)
+                    self.assertEqual((found, tail), (answers + [(9, 0, 0)], (0, 0, 0, 0, 0, 1)))
+                    self.assertEqual((vars(other.engine), other.mem), (vars(card.engine), card.mem))
+            self.assertEqual(delivered(spelled(EXAMPLE[6:]), card=other)[1:], ([(0, 1, 1)], (0,) * 6))  # a new reader goes on
+        data = spelled([*EXAMPLE[:3], 3])  # inside a packet no word is a header
+        self.assertEqual(delivered(data)[1], [(0, 0, 0)] * 3)
+
+    def test_opened_anew(self):  # inside a word or a packet: what was held is gone, and the engine stays
+        data = spelled(EXAMPLE)
+        for place in range(25):
+            card, answers, _ = delivered(data[:place])
+            again, more, tail = delivered(data, card=card)
+            self.assertEqual((more, tail, len(answers)), ([(0, 0, 0)] * 5 + [(0, 1, 1)], (0,) * 6, max(0, place // 4 - 1)))
+            self.assertEqual(vars(again.engine), vars(delivered(data)[0].engine))
+
+    def test_a_refusal_does_not_stop_the_packet(self):
+        every = [0x00400000 if offset == 0x54 else 0 for offset in range(0x08, 0x7C, 4)]
+        self.assertEqual(delivered(spelled([0xFFFFFFFA, *every]))[1], [(0, 0, 0)] * 27 + [(2, 0, 0)] * 2)
+        _, answers, _ = delivered(spelled([0x0004C3F1, 1, 2, 3, 4]))  # from number 7E: 1F8, 1FC, 200, 204
+        self.assertEqual([number for number, _, _ in answers], [0, 0, 2, 2])
+        card = Card(TO8 + "68=10001 70=CC000005")
+        _, answers, _ = delivered(spelled([0x00054101, 0, 32, 1, 0x800000, 2]), card=card)
+        self.assertEqual(answers, [(0, 1, 1), (7, 0, 0), (0, 1, 1), (7, 0, 0), (0, 1, 1)])
+        self.assertEqual(card.mem[:4].hex(), "02020200")
+
+    def test_a_waiting_blit(self):  # registers are a 3, a command that is refused a 4, data goes on; then it is given up
+        card = Card(GLYPH + "68=30020 70=CC000003")
+        data = spelled([0x00014101, 0xFF, 0x000AC0C1, *range(4), 0xCC000104, 5, 6, 7, 0xF0, 0xF])  # 60 to 84
+        data += spelled([0x0004C1F1, 1, 2, 3, 4])  # F8, FC, 100 and 104
+        _, answers, _ = delivered(data, range(1, len(data), 3), card)
+        self.assertEqual([number for number, _, _ in answers], [0, 3, 3, 3, 3, 4, 2, 2, 2, 0, 0, 0, 0, 3, 3])
+        self.assertEqual([count for _, count, _ in answers], [32] + [0] * 8 + [32, 32] + [32, 32] + [0, 0])  # it ends, and the next waits
+
+    def test_given_up(self):
+        card = Card(GLYPH + "68=30020 70=CC000003 80=FF+32")
+        _, answers, _ = delivered(spelled([0x3C000002, 7, 8, 9, 0xCC000000]), card=card)
+        self.assertEqual(([number for number, _, _ in answers], card.engine.waiting), ([3, 3, 3, 0], None))
+
+    def test_lengths(self):  # a 1 for each word on a memory of another length; headers and nines are as ever
+        data, card = spelled([*EXAMPLE[:6], 2, 3]), Card()
+        reader = PacketReader()
+        self.assertEqual(reader.take(card.engine, bytearray(4095), data), [(1, 0, 0)] * 5 + [(9, 0, 0)])
+        reader = PacketReader()
+        answers = [reader.take(card.engine, bytearray(4095) if at % 8 < 4 else card.mem, data[at:at + 1]) for at in range(24)]
+        self.assertEqual([number for part in answers for number, _, _ in part], [0, 1, 0, 1, 0])  # by each word's last byte
+        self.assertEqual((card.get("clip0Max"), card.get("dstFormat"), card.get("colorFore")), (0x20002, 0, 0xFF8000))
+
+    def test_cuts_do_not_matter(self):
+        dice, nines = random.Random(7), 0
+        for _ in range(80):
+            data = any_packets(dice)
+            plain = left_after(data)
+            nines += plain[3][5]
+            for count in (1, 3, 9, len(data)):
+                places = sorted(dice.randrange(len(data) + 1) for _ in range(count))
+                self.assertEqual(left_after(data, places), plain)
+            self.assertEqual(left_after(data, range(1, len(data))), plain)
+        self.assertTrue(8 < nines < 72)
+
+    def test_program(self):
+        example = spelled(EXAMPLE)
+        for data in (example[:31], example[:28], example[:9], example[:4], example[:1], example + b"\0", example + spelled([0x00014101])):
+            self.assertEqual(packet_picture(data), "short write\n")
+        self.assertEqual([packet_picture(data) for data in (b"", spelled([2]))], ["no picture\n"] * 2)
+        self.assertEqual(packet_picture(example[:24]), SHEET.replace("255 128", "0 0"))
+        for data, number, index in ((bytes(99), 9, 0), (spelled([3]), 9, 0), (example + spelled([0]), 9, 6),
+                                    (example + spelled([0, 3]) + b"\1", 9, 6), (example + spelled([0xE0000002, 0, 1]), 2, 7),
+                                    (example + spelled([0x0000001A, 0, 1, 5]), 9, 8),
+                                    (example + spelled([0x00014011, 0, 0x00014001, 0, 3]), 2, 7)):
+            self.assertEqual(packet_picture(data), f"refused {number} at {index}\n")
+
+
 COMMANDS = ("copy", "stretch", "host", "fill", "line", "polyline")
 PAIRS = [(source, target) for target in streams.DEPTHS for source in streams.FORMAT if model.allowed(source, target)]
 
@@ -873,6 +1042,110 @@ class RecordedLines(unittest.TestCase):
         self.assertTrue(all(tally["lines", slope] > 2000 for slope in slopes))
         self.assertTrue(tally["refusals", "7 line by launch"] > 100 and tally["refusals", "7 polyline by launch"] > 50)
         self.assertEqual(tally["lines", "stipple, illegal phase"], 0)
+
+
+def kinds_of_parcels():
+    """What the recorded pieces must hold, by the names in their tally."""
+    kinds = ("one address", "consecutive", "masked")
+    yield from (("answers", number) for number in range(10))
+    yield from (("packets", f"{kind}, {how}") for kind in kinds for how in ("no words", "one word", "more words"))
+    yield from (("packets", how) for how in (*(f"{kind}, more than 1000" for kind in kinds[:2]), "bits without meaning", "past 1FC"))
+    yield from (("nines", f"type {number}") for number in (0, 1, "1, no words", 3, 4, 5, 6, 7))
+    yield from (("pieces", f"kind {kind}{none}") for kind in range(4) for none in ("", ", no bytes"))
+    for kind, held in itertools.product(("nothing", *kinds), range(4)):
+        yield from ((group, f"{kind} left, {held} bytes held") for group in ("pieces begin", "opened anew", "ends"))
+    yield from (("pieces begin", "after a 9"), ("opened anew", "after a 9"), ("ends", "closed"))
+    for name, depth in itertools.product(("fill", "copy", "line", "polyline", "host mono", "host colour"), streams.DEPTHS):
+        yield "painted", f"{name} at {depth} on rows"
+        if "line" not in name:
+            yield "painted", f"{name} at {depth} on tiles"
+
+
+def unpacked(data):
+    """The writes that some packets bring."""
+    values, writes = iter(word for word, in struct.iter_unpack("<I", data)), []
+    for header in values:
+        writes += [(offset, next(values)) for offset in packet_offsets(header)]
+    return writes
+
+
+class RecordedParcels(unittest.TestCase):
+    def test_packing(self):  # the writes come back, in their order
+        dice = random.Random(3)
+        offsets = [4 * number for number in range(256)] + [0x80] * 99 + [*range(0x08, 0x74, 4)] * 4
+        for _ in range(60):
+            writes = [(dice.choice(offsets), dice.getrandbits(32)) for _ in range(dice.randrange(9))]
+            for _ in range(dice.randrange(9)):
+                first, step = dice.choice(offsets), dice.choice((0, 4, 4, 8))
+                writes += [(at, dice.getrandbits(32)) for at in (first + step * k for k in range(dice.randrange(20))) if at < 0x400]
+            self.assertEqual(unpacked(parcels.pack(writes, dice)), writes)
+        writes = [(0x80, word) for word in range(70_000)]  # more than one packet can bring
+        self.assertEqual(unpacked(parcels.pack(writes, dice)), writes)
+
+    def test_gathered(self):  # launch writes stay in the launch area, and the others where they are
+        dice = random.Random(4)
+        writes = [(dice.choice((0x64, 0x80, 0x80, 0x80, 0x9C, 0x100)), word) for word in range(999)]
+        found = parcels.gathered(writes, dice)
+        self.assertEqual([word for _, word in found], [word for _, word in writes])
+        for (offset, _), (other, _) in zip(writes, found):
+            self.assertTrue(offset == other or model.is_launch(offset) and model.is_launch(other))
+
+    def test_sent(self):  # runs up to the first refused word; what was passed a byte less, or has no number, is left out
+        maker = streams.RunMaker(0, 64, Counter())
+        maker.send(0x6E, 1)
+        maker.send(0x64, 2, 1)
+        maker.send(0x74, 3)
+        maker.send(0x70, 4)
+        for words, short in (([5, 6], 0), ([7], 1), ([], 0)):
+            maker.send_run(words, short)
+        maker.send(0x70, 0)
+        maker.send_run([8, 9, 10, 11])
+        self.assertEqual(parcels.sent(maker), [(0x74, 3), (0x70, 4), (0x80, 5), (0x70, 0), *((0x80, word) for word in (8, 9, 10, 11))])
+
+    def test_every_kind(self):
+        tally = Counter()
+        binary, text = parcels.build(tally)
+        self.assertEqual([kind for kind in kinds_of_parcels() if tally[kind] == 0], [])
+        self.assertTrue(len(binary) < 420_000 and sum(len(line) + 1 for line in text) < 600_000)
+        heads = [at for at, line in enumerate(text) if line.startswith("stream ")]
+        lines = [tuple(text[low + 1:past]) for low, past in zip(heads, [*heads[1:], None])]
+        for same, group in itertools.groupby(zip(pieces_of(binary), lines), lambda pair: (pair[0][:2], joined(pair[0][2]), pair[1])):
+            cuts = [pieces for (_, _, pieces), _ in group]
+            self.assertTrue(len(cuts) > 1 and len({*cuts}) == len(cuts), same)
+
+    def test_compare(self):  # each line is named by its stream, and by which answer it is
+        lines = ["stream 0: 9 bytes", "0 0 0", "2 0 0", "tail 0", "registers 1", "stream 1: 9 bytes", "9 0 0", "tail 1", "registers 2"]
+        with tempfile.TemporaryDirectory() as name, contextlib.redirect_stdout(io.StringIO()) as said:
+            folder, found = Path(name), Path(name, "found")
+            (folder / "stdout").write_text("\n".join(lines) + "\n")
+            for wrong in (None, *range(9)):
+                found.write_text("\n".join("?" if i == wrong else line for i, line in enumerate(lines)))
+                self.assertEqual(parcels.compare(found, folder), wrong is None)
+        self.assertEqual([line.split(":")[0] for line in said.getvalue().splitlines()], [
+            "No difference in 9 lines.", "Line 1, stream 0, its head", "Line 2, stream 0, answer 0", "Line 3, stream 0, answer 1",
+            "Line 4, stream 0, its tail", "Line 5, stream 0, the checksums at its end", "Line 6, stream 1, its head",
+            "Line 7, stream 1, answer 0", "Line 8, stream 1, its tail", "Line 9, stream 1, the checksums at its end"])
+
+
+def pieces_of(binary):
+    """Length, seed byte and pieces of each stream of an input."""
+    at = 0
+    while at < len(binary):
+        size, seed, count, zero = struct.unpack_from("<4I", binary, at)
+        assert zero == 0
+        pieces, at = [], at + 16
+        for _ in range(count):
+            long, kind = struct.unpack_from("<2I", binary, at)
+            assert long <= 4096 and kind < 4
+            pieces.append((kind, binary[at + 8:at + 8 + long]))
+            at += 8 + -(-long // 4) * 4
+        yield size, seed, tuple(pieces)
+
+
+def joined(pieces):
+    """The bytes, and where a reader was opened anew and how much of the memory each byte was given with."""
+    anew = [sum(len(data) for _, data in pieces[:number]) for number, (kind, _) in enumerate(pieces) if kind & 2]
+    return b"".join(data for _, data in pieces), tuple(anew), bytes(kind & 1 for kind, data in pieces for _ in data)
 
 
 class RecordedRuns(unittest.TestCase):

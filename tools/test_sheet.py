@@ -1,20 +1,29 @@
-"""The program compared with the model on named and on seeded streams, and tools/sheet.py on its faults and its PNG.
-It needs target/bin/sheet (rt check sheet). Run: python3 tools/test_sheet.py"""
+"""The programs compared with the model on named and on seeded streams, of pairs and of packets, and tools/sheet.py on their
+faults and its PNG. It needs target/bin/sheet and target/bin/packet_sheet (rt check sheet, rt check packet_sheet).
+Run: python3 tools/test_sheet.py"""
 
+import fcntl
+import functools
 import random
 import struct
 import subprocess
 import sys
 import tempfile
+import termios
 import time
 import unittest
 import zlib
 from pathlib import Path
+from typing import BinaryIO
 
 import model
+import parcels
 import sheet
+from parcels import spelled
 
 TOOL = Path(__file__).resolve().parent / "sheet.py"
+DEMO = sheet.ROOT / "docs/demo.stream"
+play_pairs, play_packets = functools.cache(model.play), functools.cache(model.packet_picture)  # several tests ask for the same
 
 
 def pairs(text: str) -> bytes:
@@ -182,6 +191,87 @@ def seeded_tiles(seed: int) -> bytes:
     return b"".join(struct.pack("<II", *word) for word in words)
 
 
+def packed(stream: bytes, seed: int = 0) -> bytes:
+    """Pairs as packets, by a seed."""
+    return parcels.pack([*struct.iter_unpack("<II", stream)], random.Random(seed))
+
+
+def can_be_packed(stream: bytes) -> bool:
+    """The stream has whole pairs, and a header can name each offset."""
+    return len(stream) % 8 == 0 and all(offset % 4 == 0 and offset < 0x400 for offset, _ in struct.iter_unpack("<II", stream))
+
+
+SPELLED = spelled(parcels.EXAMPLE)  # the paper's example
+SHEET = "P3\n2 2\n255\n0 0 0\n0 0 0\n255 128 0\n0 0 0\n"
+PACKETS = {
+    "the paper's example": SPELLED,
+    "no input": b"",
+    "one byte": b"\x01",
+    "a header but for its last byte": SPELLED[:3],
+    "a header that is a 9 but for its last byte": bytes(3),
+    "a header": SPELLED[:4],
+    "a header of one address": spelled([0x00014101]),
+    "a header of consecutive ones": spelled([0x0001C101]),
+    "ends inside a word": SPELLED[:6],
+    "ends between the words of a packet": SPELLED[:12],
+    "ends between packets": SPELLED[:24],
+    "ends inside the second header": SPELLED[:26],
+    "ends after it": SPELLED[:28],
+    "all but the last byte": SPELLED[:-1],
+    "a byte more": SPELLED + b"\1",
+    "packets of no words": spelled([0x00004101, 2, 0x0000C7F9, 2]),
+    "packets of no words between": SPELLED[:24] + spelled([0x00004101, 2, 0x0000C7F9] * 3000) + SPELLED[24:],
+    "type 0": spelled([0]) + SPELLED,
+    "type 3": SPELLED + spelled([3]),
+    "type 4 with its 2D bit": SPELLED + spelled([0x00014104, 0]),
+    "type 5": SPELLED[:24] + spelled([5]) + SPELLED[24:],
+    "type 6": SPELLED + spelled([2, 6]),
+    "type 7": SPELLED + spelled([0xFFFFFFFF]),
+    "type 1 for another target": SPELLED + spelled([0x00040101]),
+    "type 1 of no words for another target": SPELLED + spelled([0x00000101]),
+    "megabytes of zeros": bytes(3 << 20),
+    "a 9, then good packets": SPELLED + spelled([4]) + SPELLED,
+    "a 9, then a part of a word": SPELLED + spelled([4]) + b"\1\2",
+    "a 9, then another": SPELLED + spelled([4, 3]),
+    "a refusal, then a 9": SPELLED + spelled([0x00014001, 0, 0]),
+    "a refusal, then a part of a word": SPELLED + spelled([0x00014001, 0]) + b"\1",
+    "a refusal inside a packet that goes on": SPELLED + spelled([0xE0000002, 0, 1, 2]) + SPELLED,
+    "bits without meaning": SPELLED[:24] + spelled([0x00017901, 0x00010000]),
+    "all 29 bits": spelled([0xFFFFFFFA, *range(29)]),
+    "consecutive past 1FC": spelled([0x0003C3F9, 1, 2, 3]),
+    "the last number": spelled([0x000147F9, 1]),
+    "all of the pattern": spelled([0x0040C201, *range(64)]) + SPELLED,
+    "65535 words to one address": spelled([0xFFFF4201, *range(65535)]) + SPELLED,
+    "65535 words and no more": SPELLED + spelled([0xFFFF4201, *range(65535)]),
+    "65534 of 65535 words": SPELLED + spelled([0xFFFF4201, *range(65534)]),
+    "launches to consecutive addresses": SPELLED + spelled([0x0004C1E1, 0x00010001, 0, 1, 0x00010000]),
+    "a glyph in two packets": packed(pairs(TO32 + CLIP + "54=00400000 68=00080020 6C=0 64=FFFFFF 60=102030 0C=00080020 14=00050080 70=CC000103"))
+                              + spelled([0x00034101, 0xA55A3CC3, 0x12345678, 0x0F0F0F0F, 2, 0x00054121, *range(5)]),
+}
+
+
+def taken(pipe: BinaryIO) -> None:
+    """Waits until a program has taken all that is in its pipe."""
+    end = time.monotonic() + 20
+    while struct.unpack("i", fcntl.ioctl(pipe, termios.FIONREAD, bytes(4)))[0] > 0:
+        if time.monotonic() > end:
+            raise TimeoutError("The program does not take what is in its pipe.")
+        time.sleep(0.0001)
+
+
+def delivered(parts: list[bytes], crate: str) -> str:
+    """What a program prints that is given these parts by a pipe, each in one write, once it has taken the one before."""
+    with subprocess.Popen(sheet.command(crate), stdin=subprocess.PIPE, stdout=subprocess.PIPE, bufsize=0) as run:
+        for part in parts:
+            run.stdin.write(part)
+            taken(run.stdin)
+        return run.communicate()[0].decode("ascii")
+
+
+def each_byte(stream: bytes) -> list[bytes]:
+    return [stream[at:at + 1] for at in range(len(stream))]
+
+
 class Program(unittest.TestCase):
     @classmethod
     def setUpClass(cls):
@@ -191,32 +281,25 @@ class Program(unittest.TestCase):
     def test_named_streams(self):
         for name, stream in NAMED.items():
             with self.subTest(name):
-                self.assertEqual(sheet.play(stream), model.play(stream))
+                self.assertEqual(sheet.play(stream), play_pairs(stream))
 
     def test_seeded_streams(self):
         for seed in range(40):
             with self.subTest(seed=seed):
-                self.assertEqual(sheet.play(seeded(seed)), model.play(seeded(seed)))
-                self.assertEqual(sheet.play(seeded_tiles(seed)), model.play(seeded_tiles(seed)))
+                self.assertEqual(sheet.play(seeded(seed)), play_pairs(seeded(seed)))
+                self.assertEqual(sheet.play(seeded_tiles(seed)), play_pairs(seeded_tiles(seed)))
 
     def test_the_longest_text(self):
         self.assertEqual(sheet.play(NAMED["the longest text"]), "P3\n256 256\n255\n" + "255 255 255\n" * 65536)
 
     def test_each_kind_of_output_occurs(self):
-        firsts = {model.play(stream).split("\n")[0].split(" at")[0] for stream in NAMED.values()}
+        firsts = {play_pairs(stream).split("\n")[0].split(" at")[0] for stream in NAMED.values()}
         self.assertEqual(firsts, {"P3", "short write", "no picture"} | {f"refused {n}" for n in range(2, 9)})
-
-    def one_at_a_time(self, stream: bytes) -> str:
-        run = subprocess.Popen(sheet.command(), stdin=subprocess.PIPE, stdout=subprocess.PIPE, bufsize=0)
-        for byte in stream:
-            run.stdin.write(bytes([byte]))
-            time.sleep(0.001)
-        return run.communicate()[0].decode()
 
     def test_a_pipe_that_gives_one_byte_at_a_time(self):
         for name in ("the paper's example", "all but the last byte", "24 bpp", "a mono host blit", "a mono host blit across tiles"):
             with self.subTest(name):
-                self.assertEqual(self.one_at_a_time(NAMED[name]), model.play(NAMED[name]))
+                self.assertEqual(delivered(each_byte(NAMED[name]), sheet.WRITES), play_pairs(NAMED[name]))
 
     def test_it_ends_at_the_first_refusal(self):
         run = subprocess.Popen(sheet.command(), stdin=subprocess.PIPE, stdout=subprocess.PIPE, bufsize=0)
@@ -227,17 +310,71 @@ class Program(unittest.TestCase):
         run.stdout.close()
 
 
+class PacketProgram(unittest.TestCase):
+    @classmethod
+    def setUpClass(cls):
+        if sheet.is_old(sheet.PACKETS):
+            sheet.build(sheet.PACKETS)
+
+    def test_named_packets(self):
+        for name, data in PACKETS.items():
+            with self.subTest(name):
+                self.assertEqual(sheet.play(data, sheet.PACKETS), play_packets(data))
+
+    def test_each_kind_of_output_occurs(self):
+        firsts = {play_packets(data).split("\n")[0].split(" at")[0] for data in PACKETS.values()}
+        self.assertEqual(firsts, {"P3", "short write", "no picture", "refused 2", "refused 9"})
+
+    def test_named_streams_as_packets(self):  # the same picture or fault: an answer is a write's
+        streams = {name: stream for name, stream in NAMED.items() if can_be_packed(stream)}
+        self.assertTrue(len(streams) > 100)
+        for number, (name, stream) in enumerate(streams.items()):
+            with self.subTest(name):
+                self.assertEqual(sheet.play(packed(stream, number), sheet.PACKETS), play_pairs(stream))
+
+    def test_seeded_packets(self):  # whole, and cut off somewhere
+        for seed in range(40):
+            dice = random.Random(seed)
+            for stream in (seeded(seed), seeded_tiles(seed)):
+                data = packed(stream, seed) if can_be_packed(stream) else stream
+                for data in (data, data[:dice.randrange(len(data) + 1)]):
+                    with self.subTest(seed=seed):
+                        self.assertEqual(sheet.play(data, sheet.PACKETS), play_packets(data))
+
+    def test_demo(self):  # whole, and in odd parts
+        data, dice = packed(DEMO.read_bytes()), random.Random(5)
+        text = play_packets(data)
+        self.assertEqual(sheet.play(data, sheet.PACKETS), text)
+        places = sorted(dice.randrange(len(data)) for _ in range(60))
+        parts = [data[low:past] for low, past in zip([0, *places], [*places, len(data)])]
+        self.assertEqual(delivered(parts, sheet.PACKETS), text)
+
+    def test_the_example_in_two_writes(self):
+        for place in range(len(SPELLED) + 1):
+            with self.subTest(place=place):
+                self.assertEqual(delivered([SPELLED[:place], SPELLED[place:]], sheet.PACKETS), SHEET)
+
+    def test_one_byte_at_a_time(self):
+        self.assertEqual(delivered(each_byte(SPELLED), sheet.PACKETS), SHEET)
+        for name in ("all but the last byte", "packets of no words", "bits without meaning", "launches to consecutive addresses",
+                     "a glyph in two packets", "a byte more"):
+            with self.subTest(name):
+                self.assertEqual(delivered(each_byte(PACKETS[name]), sheet.PACKETS), play_packets(PACKETS[name]))
+
+
 class Tool(unittest.TestCase):
-    def run_tool(self, stream: bytes, name: str, *more: str) -> tuple[int, str, bytes | None]:
+    def run_tool(self, stream: bytes, name: str, *more: str, packets: bool = False) -> tuple[int, str, bytes | None]:
+        """The exit status, what the tool said, and the picture if there is one."""
         with tempfile.TemporaryDirectory() as folder:
             source, picture = Path(folder) / "stream", Path(folder) / name
             source.write_bytes(stream)
-            run = subprocess.run([sys.executable, TOOL, source, picture, *more], capture_output=True, text=True, check=False)
-            return run.returncode, run.stderr, picture.read_bytes() if picture.exists() else None
+            words = [sys.executable, TOOL, *["--packets"] * packets, source, picture, *more]
+            run = subprocess.run(words, capture_output=True, text=True, check=False)
+            return run.returncode, run.stdout + run.stderr, picture.read_bytes() if picture.exists() else None
 
     def test_a_ppm(self):
         status, _, body = self.run_tool(NAMED["24 bpp"], "a.ppm")
-        self.assertEqual((status, body), (0, model.play(NAMED["24 bpp"]).encode()))
+        self.assertEqual((status, body), (0, play_pairs(NAMED["24 bpp"]).encode()))
 
     def test_a_png(self):
         status, _, body = self.run_tool(NAMED["24 bpp"], "a.png")
@@ -253,13 +390,13 @@ class Tool(unittest.TestCase):
         self.assertEqual((width, height, form), (8, 8, [8, 2, 0, 0, 0]))
         rows = zlib.decompress(chunks[b"IDAT"])
         values = [value for y in range(8) for value in rows[y * 25 + 1:y * 25 + 25]]
-        self.assertEqual(values, [int(word) for word in model.play(NAMED["24 bpp"]).split()[4:]])
+        self.assertEqual(values, [int(word) for word in play_pairs(NAMED["24 bpp"]).split()[4:]])
 
     def test_an_enlarged_png(self):
         status, _, body = self.run_tool(NAMED["24 bpp"], "a.png", "3")
         at = body.index(b"IDAT")
         rows = zlib.decompress(body[at + 4:at + 4 + int.from_bytes(body[at - 4:at], "big")])
-        values = [int(word) for word in model.play(NAMED["24 bpp"]).split()[4:]]
+        values = [int(word) for word in play_pairs(NAMED["24 bpp"]).split()[4:]]
         wanted = [values[(y // 3 * 8 + x // 3) * 3 + c] for y in range(24) for x in range(24) for c in range(3)]
         self.assertEqual((status, [value for y in range(24) for value in rows[y * 73 + 1:y * 73 + 73]]), (0, wanted))
         for times in ("0", "x", "100"):
@@ -274,6 +411,29 @@ class Tool(unittest.TestCase):
 
     def test_another_ending_is_refused(self):
         self.assertEqual(self.run_tool(NAMED["24 bpp"], "a.gif")[0], 2)
+
+    def test_packets(self):
+        status, words, body = self.run_tool(SPELLED, "a.ppm", packets=True)
+        self.assertEqual((status, body), (0, SHEET.encode()))
+        self.assertTrue(words.endswith("a.ppm: 2 by 2 pixels, from 32 bytes of packets.\n"), words)
+        status, words, body = self.run_tool(SPELLED, "a.png", "3", packets=True)
+        self.assertEqual((status, body), (0, sheet.png(SHEET, 3)))
+
+    def test_faults_of_packets(self):
+        for name, said in (("type 3", "After 6 register writes, all taken, comes a packet that is refused with answer 9: "),
+                           ("a refusal inside a packet that goes on", "Register write 7 of the packets, counted from 0, was refused with answer 2: "),
+                           ("ends between the words of a packet", "The file ends inside a packet."),
+                           ("all but the last byte", "The file ends inside a packet."), ("no input", "there is no picture")):
+            with self.subTest(name):
+                status, words, body = self.run_tool(PACKETS[name], "a.png", packets=True)
+                self.assertEqual((status, body), (1, None))
+                self.assertIn(said, words)
+
+    def test_wrong_words(self):  # nothing but the way to call it is said
+        for words in ([], ["--packets"], ["--packets", "a"], ["--packets", "a", "b.gif"], ["a", "--packets", "b.png"], ["--packet", "a", "b.png"],
+                      ["--packets", "a", "b.ppm", "2"], ["--packets", "--packets", "a", "b.png", "2"]):
+            run = subprocess.run([sys.executable, TOOL, *words], capture_output=True, text=True, check=False)
+            self.assertEqual((run.returncode, run.stdout, run.stderr), (2, "", sheet.__doc__.strip() + "\n"), words)
 
 
 if __name__ == "__main__":

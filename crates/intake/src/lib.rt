@@ -4,6 +4,8 @@ use engine::Engine;
 use packets::Event;
 use packets::Reader;
 ghost use mathlib.Core.Path.{_≡_};
+ghost use Prim.Native.Nat.{_*_, _≤_};
+ghost use lib.ListN.{length};
 ghost use Rattle.packets.specs.Answers.{lent, call, noting, called};
 ghost use Rattle.intake.specs.Intake.{machine, byEngine, fedOf};
 
@@ -74,6 +76,7 @@ pub fn feed(
     answers: &mut [u32],
 ) -> Fed
     ensures { λ r. ⌜ fedOf r (now (mem .exit)) (now (answers .exit)) ≡ called byEngine reader (machine engine (now (mem .entry))) (now (piece .entry)) (now (answers .entry)) ⌝ }
+    ensures within { λ r. ⌜ (r .used ≤ length (now (piece .entry))) × (r .answered * 3 ≤ length (now (answers .exit))) ⌝ }
 {
     let mut f = Fed {
         reader: reader,

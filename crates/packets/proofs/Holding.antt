@@ -171,6 +171,7 @@ module _ {S : Type 0} (write : Writer S) (run : List ℕ) where
   pub record Left (r : Reader) (s : S) (piece : List ℕ) : Type 0 where
     pub used : ℕ
     pub most : used ≤ length piece
+    pub fits : length (fed write (take used piece) (delivery r s []) .notes) * 3 ≤ length run
     pub is : called write r s piece run ≡ beside used (fed write (take used piece) (delivery r s []))
     pub last : used < length piece → 2 < fed write (take used piece) (delivery r s []) .reader .held
     pub full : used < length piece → length run / 3 ≤ length (fed write (take used piece) (delivery r s []) .notes)
@@ -184,6 +185,7 @@ module _ {S : Type 0} (write : Writer S) (run : List ℕ) where
       record {
         used = k .stop;
         most = k .most;
+        fits = k .fits;
         is = k .is ∙ ap (λ (v : ℕ). beside v d) none;
         last = λ l. stopped d (0 + k .stop) (k .fits) (k .stops l) .last;
         full = λ l. stopped d (0 + k .stop) (k .fits) (k .stops l) .full;
@@ -201,3 +203,10 @@ module _ {S : Type 0} (write : Writer S) where
       let k = left write run r s piece in
       let n : called write r s piece run .used ≡ k .used = ap (λ (c : Call S). c .used) (k .is) in
       rw (k .is) (k .full (omega arith))
+
+  -- no more bytes are used than there are, and no more answers given than the run has room for
+  pub called-within : (r : Reader) (s : S) (piece run : List ℕ) {c : Call S} → c ≡ called write r s piece run → (c .used ≤ length piece) × (c .lent .answered * 3 ≤ length (c .lent .run))
+  called-within r s piece run e =
+      let k = left write run r s piece in
+      let d = fed write (take (k .used) piece) (delivery r s []) in
+      rw (e ∙ k .is) (k .most, rw (holding-length run (d .notes) (k .fits)) (k .fits))

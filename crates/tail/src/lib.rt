@@ -58,7 +58,7 @@ fn kind_of(rest: Rest) -> u32
     }
 }
 
-fn offset_of(rest: Rest) -> u32
+pub fn offset_of(rest: Rest) -> u32
     ensures { λ r. ⌜ r ≡ offsetOf rest ⌝ }
 {
     match rest {
@@ -78,7 +78,7 @@ fn step_of(rest: Rest) -> u32
     }
 }
 
-fn left_of(rest: Rest) -> u32
+pub fn left_of(rest: Rest) -> u32
     ensures { λ r. ⌜ r ≡ leftOf rest ⌝ }
 {
     match rest {

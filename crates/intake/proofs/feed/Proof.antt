@@ -2,16 +2,24 @@
 -- Assumes nothing.
 use borrow.Author.Needs.{needs}
 use mathlib.Core.Path.{_≡_, refl, ap, _∙_}
-use Prim.Native.Nat.{_-_}
+use mathlib.Core.List.{List}
+use Prim.Native.Nat.{ℕ, _-_, _*_, _≤_}
 use native.Mathlib.Omega.{arith}
 use lib.ListN.{length, drop}
 use Rattle.basics.proofs.EachLaws.{each-ends}
 use Rattle.packets.specs.Reader.{nextOf}
-use Rattle.packets.specs.Answers.{lent, tookOne, tookAll, called}
+use Rattle.packets.specs.declared.Reader.{Reader}
+use Rattle.packets.specs.Answers.{lent, Call, tookOne, tookAll, called}
 use Rattle.packets.proofs.CallLaws.{Turned, turned, tested, full-stays}
-use Rattle.intake.specs.Intake.{machine, byEngine, fedOf}
+use Rattle.packets.proofs.Holding.{called-within}
+use Rattle.intake.specs.Intake.{Machine, machine, byEngine, fedOf}
 use Rattle.intake.proofs.feed.Statement.{statement}
 use Rattle.intake.proofs.feed.Tie as tie
+
+-- what a call leaves, and that it stays within piece and run
+ending : (r : Reader) (s : Machine) (piece run : List ℕ) {c : Call Machine} → c ≡ called byEngine r s piece run
+    → (c ≡ called byEngine r s piece run) × ((c .used ≤ length piece) × (c .lent .answered * 3 ≤ length (c .lent .run)))
+ending r s piece run e = (e, called-within byEngine r s piece run e)
 
 abbrev Inv-loop : tie.InvT-loop
 Inv-loop mem₀ piece answers₀ f₀ mem answers f =
@@ -36,8 +44,10 @@ same-length-2 c = search needs
 returns : tie.Need-returns Inv-loop μ-loop
 returns c =
     let k = c .before .before .before .before .before .before .loop in
+    let a = c .before .before .before .before .before .before .before .before .before .before .args in
+    ending (a .reader) (machine (a .engine) (a .mem .now)) (a .piece .now) (a .answers .now) (
     full-stays byEngine (drop (k .f .used) (c .before .before .before .before .before .before .before .before .before .before .args .piece .now)) (fedOf (k .f) (k .mem) (k .answers))
-    (tested byEngine (k .f .reader) (machine (k .f .engine) (k .mem)) (lent (k .answers) (k .f .answered)) (k .f .used) (c .before .before .before .has-room .ensures) (c .if2 .taken)) ∙ k .inv .0
+    (tested byEngine (k .f .reader) (machine (k .f .engine) (k .mem)) (lent (k .answers) (k .f .answered)) (k .f .used) (c .before .before .before .has-room .ensures) (c .if2 .taken)) ∙ k .inv .0)
 
 next-requires : tie.Need-next-requires Inv-loop μ-loop
 next-requires c κs = search needs
@@ -73,7 +83,9 @@ same-length-4 c = search needs
 returns-2 : tie.Need-returns-2 Inv-loop μ-loop
 returns-2 c =
     let k = c .before .before .loop in
-    each-ends (tookOne byEngine) (c .before .before .before .before .before .before .args .piece .now) (k .f .used) (fedOf (k .f) (k .mem) (k .answers)) (c .if1 .left) ∙ k .inv .0
+    let a = c .before .before .before .before .before .before .args in
+    ending (a .reader) (machine (a .engine) (a .mem .now)) (a .piece .now) (a .answers .now) (
+    each-ends (tookOne byEngine) (c .before .before .before .before .before .before .args .piece .now) (k .f .used) (fedOf (k .f) (k .mem) (k .answers)) (c .if1 .left) ∙ k .inv .0)
 
 pub feed-spec : {M : Type 1} → statement M
 feed-spec =
