@@ -19,9 +19,12 @@
      8  a screen copy between two surfaces whose spans meet, or a stretch copy whose spans meet
    and one more, of these functions alone:
    255  the state has another length than RIMEBARROW_STATE_SIZE, another mark in its first word, or a word at 04 that is neither 0 nor 1. Any other
-        bytes are taken as an engine's, also where rimebarrow_open did not make them
+        bytes are taken as an engine's, also where rimebarrow_open did not make them. A reader likewise: see RIMEBARROW_READER_SIZE
+   Command packets have one number more in their sequence of answers:
+     9  a packet of another type than 1 and 2, or with a target that is not 2D
    A call that is answered with a number other than 0 has changed no byte of state and memory; a refused write puts 0 into *changed, and a refused view puts
-   0 into its two numbers. A run is as many calls as it has words: the words before a refused one have been carried out, and that one has changed no byte. */
+   0 into its two numbers. A run is as many calls as it has words: the words before a refused one have been carried out, and that one has changed no byte.
+   So is a piece of packets as many calls as it brings register writes, and a refused one does not stop it. */
 #ifndef RIMEBARROW_H
 #define RIMEBARROW_H
 
@@ -62,6 +65,33 @@ uint64_t rimebarrow_write(uint8_t *state, size_t state_length, uint8_t *memory, 
    dstSize's width, and so a whole row of glyphs is one run. */
 uint32_t rimebarrow_run(uint8_t *state, size_t state_length, uint8_t *memory, size_t memory_length, const uint32_t *words, size_t words_length,
                         size_t *taken, uint64_t *count, uint64_t *changed);
+
+/* The bytes of a reader of command packets. Word k of it, four bytes low byte first, is
+     at 00  the mark, 6C696154
+     at 04  the bytes held of a part of a word, the newest on top
+     at 08  how many they are, 0 to 3
+     at 0C  1 where a packet was turned down, else 0
+     at 10  what is left of the open packet: 0 nothing, 1 a number of words, 2 a mask
+     at 14  the offset of its next word
+     at 18  the step from there to the one after it, 0 or 4; 0 for a mask
+     at 1C  how many words are left, or the mask's bits that are, the lowest of them the next word's
+   (all hexadecimal). Bytes of another number, with another mark, with a word at 08 over 3, at 0C over 1 or at 10 over 2 are no reader. */
+#define RIMEBARROW_READER_SIZE 32
+
+/* Makes an empty reader: nothing held, no packet open, none turned down. The engine is not touched. Gives 0, or 255 where reader_length is another. */
+uint32_t rimebarrow_reader(uint8_t *reader, size_t reader_length);
+
+/* Takes a piece of the bytes that a driver put into the command FIFO, cut anywhere, and carries out each register write once its last byte is there: packets of
+   type 1 with a 2D target and of type 2. State and memory are those of rimebarrow_write of each register write in turn.
+   Puts the answers in their order into the run that is lent for them, three words each: the number, the count of pixels written, and how many of these changed.
+   answers_length counts words, not answers. A refused write stands there with its number and does not stop the packet. A packet of another type or target is
+   answered with 9 once; the tail is then empty, and later bytes are dropped until rimebarrow_reader makes the reader anew.
+   Stops only before the last byte of a word where the run has no room for one more answer; with 3 * ((piece_length + 3) / 4) words of room it takes the whole
+   piece. Puts into *used how many bytes were taken and into *answered how many answers were given; the caller lends the rest of the piece
+   again. However the bytes are divided among calls, state, memory, reader and the sequence of answers are the same.
+   Gives 0; or 255 where the reader or the state is none, and then nothing is changed and both numbers are 0. */
+uint32_t rimebarrow_packets(uint8_t *reader, size_t reader_length, uint8_t *state, size_t state_length, uint8_t *memory, size_t memory_length,
+                            const uint8_t *piece, size_t piece_length, uint32_t *answers, size_t answers_length, size_t *used, size_t *answered);
 
 /* Reads the register at an offset. Gives the number of the answer (0, 2 or 255) in the high 32 bits, and in the low 32 the word, 0 where refused. */
 uint64_t rimebarrow_read(const uint8_t *state, size_t state_length, uint32_t offset);
