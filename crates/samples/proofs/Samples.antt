@@ -30,7 +30,8 @@ use Rattle.command.specs.Decode.{inkOf, fillTask, copyTask}
 use Rattle.table.specs.Table.{allOnAt, fillVerdict, copyVerdict}
 use Rattle.acts.specs.Deed.{rectEnded, carrying}
 use Rattle.engine.specs.Step.{freshEngine, refusal, storedIn, carried, commanded, toRegister, written}
-use Rattle.samples.specs.Sheet.{Line, marked, playedLines, thumbnails, rowSmears, columnSmears, keyed, keyedSmears, smears, tiles, fillChanges, copyChanges, changes, sheet}
+use Rattle.packets.specs.Header.{steppedFrom, maskedFrom, offsetsOf}
+use Rattle.samples.specs.Sheet.{Line, marked, playedLines, thumbnails, rowSmears, columnSmears, keyed, keyedSmears, smears, tiles, fillChanges, copyChanges, changes, sheet, headers}
 
 -- the lines of a list hold
 abbrev Hold : List Line → Type 0
@@ -85,9 +86,16 @@ copies-changed : Hold copyChanges
 unfolding rowBytes byteAt rowPixels firstByte byteCount inMemory onSurface across allOn targetOf stepOf steppedXY ropBit ropBits allowed converted within keyMatch byteOf readBytes writeBytes readPx writePx rect sourceOf patternBit patternPixel patternIn dab paint colourSource chosen mixed sourcePlace sourceBy giving kept putReg placeOf freshBank stored clipOf cutAt copyCut inkOf copyTask allOnAt copyVerdict rectEnded carrying freshEngine storedIn carried commanded toRegister written
 copies-changed = refl
 
+changes-hold : Hold changes
+changes-hold = joined fillChanges copyChanges fills-changed copies-changed
+
+headers-hold : Hold headers
+unfolding offsetsOf steppedFrom maskedFrom
+headers-hold = refl
+
 pub samples : map (λ line. line .given) sheet ≡ map (λ line. line .said) sheet
 samples =
-    joined marked (playedLines ++ (thumbnails ++ (smears ++ (tiles ++ changes)))) marked-hold
-    (joined playedLines (thumbnails ++ (smears ++ (tiles ++ changes))) played-hold
-    (joined thumbnails (smears ++ (tiles ++ changes)) thumbnails-hold
-    (joined smears (tiles ++ changes) smears-hold (joined tiles changes tiles-hold (joined fillChanges copyChanges fills-changed copies-changed)))))
+    joined marked (playedLines ++ (thumbnails ++ (smears ++ (tiles ++ (changes ++ headers))))) marked-hold
+    (joined playedLines (thumbnails ++ (smears ++ (tiles ++ (changes ++ headers)))) played-hold
+    (joined thumbnails (smears ++ (tiles ++ (changes ++ headers))) thumbnails-hold
+    (joined smears (tiles ++ (changes ++ headers)) smears-hold (joined tiles (changes ++ headers) tiles-hold (joined changes headers changes-hold headers-hold)))))

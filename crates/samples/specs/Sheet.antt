@@ -6,7 +6,7 @@ use mathlib.Core.Bool.{true, false, cond}
 use Prim.Native.Nat.{ℕ, zero, suc, _-_, _/_, _%_}
 use lib.Dec.{eqb}
 use lib.IntN.{ℤ, pos, negsuc}
-use lib.ListN.{length}
+use lib.ListN.{length, getD}
 use Rattle.colour.specs.Convert.{repeated, narrowed}
 use Rattle.raster.specs.Rop.{ropBits}
 use Rattle.surface.specs.declared.Surface.{Surface}
@@ -14,6 +14,7 @@ use Rattle.surface.specs.Place.{surface, byteAt, byteOf, rowPixels, monoBit}
 use Rattle.surface.specs.Pixels.{origin}
 use Rattle.formats.specs.Step.{stepOf, dataWords}
 use Rattle.views.specs.View.{viewAnswer}
+use Rattle.packets.specs.Header.{turnedDown, offsetsOf}
 use Rattle.line.specs.Line.{lineFrom, flat, points}
 use Rattle.line.specs.Stipple.{styleAfter}
 use Rattle.host.specs.Host.{Pixel, byWord}
@@ -218,5 +219,26 @@ copyChanges =
 abbrev pub changes : List Line
 changes = fillChanges ++ copyChanges
 
+-- 1 for a header that is a 9
+abbrev pub isNine : ℕ → ℕ
+isNine h = cond (turnedDown h) 1 0
+
+-- headers read by hand from document 002
+abbrev pub headers : List Line
+headers =
+    -- type 2: a bit for each register from 08 on; the last two name none
+    is (offsetsOf 0x2c000052) (0x0c ∷ 0x14 ∷ 0x64 ∷ 0x68 ∷ 0x70 ∷ [])
+    ∷ is (offsetsOf 0xe0000002) (0x70 ∷ 0x74 ∷ 0x78 ∷ [])
+    -- type 1: four words to one address, two to consecutive ones, and the 64 of the pattern
+    ∷ is (offsetsOf 0x00044101) (0x80 ∷ 0x80 ∷ 0x80 ∷ 0x80 ∷ [])
+    ∷ is (offsetsOf 0x0002c011) (0x08 ∷ 0x0c ∷ [])
+    ∷ is (length (offsetsOf 0x0040c201) ∷ getD (offsetsOf 0x0040c201) 0 0 ∷ getD (offsetsOf 0x0040c201) 63 0 ∷ []) (64 ∷ 0x100 ∷ 0x1fc ∷ [])
+    -- no words
+    ∷ is (offsetsOf 0x00004101 ++ offsetsOf 0x00000002) []
+    -- answer 9: type 1 with a target that is not 2D, and types 0 and 3 to 7; not those above
+    ∷ is (map isNine (0x00040101 ∷ 0 ∷ 3 ∷ 4 ∷ 5 ∷ 6 ∷ 7 ∷ [])) (1 ∷ 1 ∷ 1 ∷ 1 ∷ 1 ∷ 1 ∷ 1 ∷ [])
+    ∷ is (map isNine (0x2c000052 ∷ 0x00044101 ∷ 0x00004101 ∷ 0x00000002 ∷ [])) (0 ∷ 0 ∷ 0 ∷ 0 ∷ [])
+    ∷ []
+
 abbrev pub sheet : List Line
-sheet = marked ++ (playedLines ++ (thumbnails ++ (smears ++ (tiles ++ changes))))
+sheet = marked ++ (playedLines ++ (thumbnails ++ (smears ++ (tiles ++ (changes ++ headers)))))
