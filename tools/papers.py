@@ -1,5 +1,5 @@
 """The papers compared with the sources: docs/PUBLIC.md with the public functions, docs/READING.md with the definitions
-that demands 1 to 3 and the promises of runs rest on, and the files, laws and wrong versions that the papers name with those that are there.
+that demands 1 to 3 and the promises of runs and of packets rest on, and the files, laws and wrong versions that the papers name with those that are there.
 Run: python3 tools/papers.py. It prints what does not agree, a line each, and nothing where all does."""
 
 import re
@@ -9,8 +9,9 @@ from pathlib import Path
 ROOT = Path(__file__).resolve().parent.parent
 PAPERS = ["README.md", *(f"docs/{name}.md" for name in ("PROMISES", "PUBLIC", "READING", "DECISIONS", "BENCH"))]
 
-# Demands 1 to 3 rest on the promises of the engine and of restore, and on what the contracts of the engine's functions name; those of runs of words stand apart.
-ROOTS = [("engine", "Promises"), ("restore", "Restore"), ("engine", "Step", "written", "freshEngine", "readFrom", "numberOf", "countOf"), ("words", "Promises")]
+# Demands 1 to 3 rest on the promises of the engine and of restore, and on what the contracts of the engine's functions name; those of runs of words and of packets stand apart.
+ROOTS = [("engine", "Promises"), ("restore", "Restore"), ("engine", "Step", "written", "freshEngine", "readFrom", "numberOf", "countOf"), ("words", "Promises"),
+         ("packets", "Promises"), ("intake", "Promises")]
 
 Key = tuple[str, str, str]  # crate, file, name
 
@@ -84,6 +85,18 @@ def check_public() -> list[str]:
 # ---- definitions
 
 
+def outside_sections(lines: list[str]) -> list[str]:
+    """The lines with those of a section, `module _ .. where`, as they would stand outside it."""
+    found, inside = [], False
+    for line in lines:
+        if line.startswith("module _"):
+            inside = True
+            continue
+        inside = inside and (not line.strip() or line.startswith("  "))
+        found.append(line[2:] if inside else line)
+    return found
+
+
 class Definitions:
     """The definitions of all spec files, where they stand, and which each of them names."""
 
@@ -102,7 +115,7 @@ class Definitions:
         brought: dict[str, Key] = {}
         comment: list[str] = []
         name = ""
-        for line in lines:
+        for line in outside_sections(lines):
             if match := re.match(r"use Rattle·(\w+)(?:·specs)?\.specs\.([\w.-]+)\.\{(.*)\}", line):
                 for word in match[3].split(", "):
                     home = ("src", match[2].split(".")[1]) if match[2].startswith("declared") else (match[2], word)

@@ -16,10 +16,9 @@ use Rattle.packets.specs.declared.Event.{Event}
 use Rattle.packets.specs.declared.Event.the-variants.{Nothing, Write, Closed}
 use Rattle.packets.specs.declared.Heard.{Heard}
 use Rattle.packets.specs.Header.{turnedDown, offsetsOf}
-use Rattle.packets.specs.Reader.{opened, advanced, between, blank, shut, heard, headed, worded, shifted, took, nextOf}
-use Rattle.packets.specs.Delivery.{Note, note, nine, Writer, Delivery, delivery, told, taken, fed}
-use Rattle.packets.specs.Answers.{lent, put}
-use Rattle.packets.specs.Promises.{OneOpen, OneTake, OneNext, OnePut, joined, spelled, oneCall, calls, AnyPieces, carried, PacketCarried, NoWords, NineOnce, Reopened}
+use Rattle.packets.specs.Reader.{opened, advanced, between, blank, shut, heard, headed, worded, shifted, took}
+use Rattle.packets.specs.Delivery.{Note, nine, Writer, Delivery, delivery, told, taken, fed}
+use Rattle.packets.specs.Promises.{OneOpen, OneTake, joined, spelled, oneCall, calls, AnyPieces, carried, PacketCarried, NoWords, NineOnce, Reopened}
 use Rattle.packets.proofs.RestLaws.{Going, counting, masking, Live, over, going, nextOffset, going-live, going-left, opened-live, rest-offsets, offsetsLeft}
 
 -- ---- a contract that says what the outcome equals allows one
@@ -28,12 +27,6 @@ one-open x y = settled blank x y
 
 pub one-take : OneTake
 one-take b r x y = settled (took b r) x y
-
-pub one-next : OneNext
-one-next r piece i room x y = settled (nextOf r piece i room) x y
-
-pub one-put : OnePut
-one-put run answered number count changed x y = settled (put (note number count changed) (lent run answered)) x y
 
 -- ---- four bytes are one word, low byte first
 abbrev pub word : ℕ → ℕ → ℕ → ℕ → ℕ

@@ -2,17 +2,16 @@
 -- state and answers, and `called` (Answers) what a call with a lent run for its answers leaves. Each promise is proved in proofs/.
 -- Assumes nothing.
 use mathlib.Core.Path.{_≡_}
-use mathlib.Core.Bool.{Bool, true, false}
+use mathlib.Core.Bool.{true, false}
 use mathlib.Core.List.{List, [], _∷_, _++_}
 use Prim.Native.Nat.{ℕ, _+_, _/_, _%_, _^_, _<_, _≤_}
 use lib.ListN.{length, take}
 use Rattle.packets.specs.declared.Reader.{Reader}
 use Rattle.packets.specs.declared.Heard.{Heard}
-use Rattle.packets.specs.declared.Next.{Next}
 use Rattle.packets.specs.Header.{turnedDown, offsetsOf}
-use Rattle.packets.specs.Reader.{blank, shut, took, nextOf}
-use Rattle.packets.specs.Delivery.{Note, note, nine, Writer, Delivery, delivery, fed}
-use Rattle.packets.specs.Answers.{Lent, lent, put, Call, call, called, holding}
+use Rattle.packets.specs.Reader.{blank, shut, took}
+use Rattle.packets.specs.Delivery.{Note, nine, Writer, Delivery, delivery, fed}
+use Rattle.packets.specs.Answers.{call, called, holding}
 
 -- ---- the contracts allow one outcome
 abbrev pub OneOpen : Type 0
@@ -20,13 +19,6 @@ OneOpen = (x y : Reader) → x ≡ blank → y ≡ blank → x ≡ y
 
 abbrev pub OneTake : Type 0
 OneTake = (b : ℕ) (r : Reader) (x y : Heard) → x ≡ took b r → y ≡ took b r → x ≡ y
-
-abbrev pub OneNext : Type 0
-OneNext = (r : Reader) (piece : List ℕ) (i : ℕ) (room : Bool) (x y : Next) → x ≡ nextOf r piece i room → y ≡ nextOf r piece i room → x ≡ y
-
-abbrev pub OnePut : Type 0
-OnePut = (run : List ℕ) (answered number count changed : ℕ) (x y : Lent)
-    → x ≡ put (note number count changed) (lent run answered) → y ≡ put (note number count changed) (lent run answered) → x ≡ y
 
 -- pieces as one run of bytes
 unfoldable pub joined : List (List ℕ) → List ℕ
