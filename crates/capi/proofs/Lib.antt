@@ -1,4 +1,3 @@
-pub mod Back
 pub mod Changes
 pub mod Writes
 pub mod ReadOpen

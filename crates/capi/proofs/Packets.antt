@@ -19,7 +19,7 @@ use Rattle.tail.proofs.Promises.{stays-reader}
 use Rattle.engine.specs.Step.{written}
 use Rattle.state.specs.Layout.{decoded, isState}
 use Rattle.capi.specs.Calls.{writtenTo}
-use Rattle.capi.proofs.Back.{stays-state}
+use Rattle.state.proofs.Back.{stays-state}
 use Rattle.capi.specs.Packets.{Kept, kept, byCall, pieceCall, packetCall, packetCalled, packetsTo}
 use Rattle.capi.specs.Promises.{WithTheCalls, StaysBoth}
 

@@ -10,7 +10,7 @@ use Rattle.words.specs.Words.{Ran, launching, isTaken, ranFrom, ran}
 use Rattle.words.proofs.Laws.{launch-80}
 use Rattle.state.specs.Layout.{encoded, decoded, isState, Bytes, withSlots, commandSlots}
 use Rattle.capi.specs.Calls.{runCall, ranTo}
-use Rattle.capi.proofs.Back.{opened, bytes-back}
+use Rattle.state.proofs.Back.{opened, bytes-back}
 use Rattle.capi.proofs.Changes.{Like, like-same, like-then, like-laid, draws-launch, written-led}
 use Rattle.capi.proofs.Writes.{command-words}
 

@@ -26,7 +26,7 @@ use Rattle.state.specs.Layout.{stateSize, patternAt, byteOf, slot, byteIn, enco
 use Rattle.capi.specs.Calls.{packed, Call, call, packedAnswer, called, writtenTo, Opening, opening, plainly}
 use Rattle.capi.specs.Asked.{Draws}
 use Rattle.state.proofs.Places.{Word, word-own, word-other, word-length, encoded-length, encoded-byte, same-bytes}
-use Rattle.capi.proofs.Back.{Opened, opened, bytes-back}
+use Rattle.state.proofs.Back.{Opened, opened, bytes-back}
 use Rattle.capi.proofs.Changes.{like-laid, like-stored, written-led}
 
 -- a state is written by the engine that it holds

@@ -1,39 +1,17 @@
--- What is promised of the functions for C, for an outside expert to read first: nothing is lost between two calls, a state stays a state, a reader a reader, and
--- each contract allows one outcome. Each promise is proved in proofs/, in the file of its heading.
+-- What is promised of the functions for C, for an outside expert to read first, beside what is promised of the bytes of a state (state/specs/Promises) and of a
+-- reader (tail/specs/Promises): each contract allows one outcome. Each promise is proved in proofs/, in the file of its heading.
 -- Assumes nothing.
 use mathlib.Core.Path.{_≡_}
 use mathlib.Core.Bool.{true}
 use mathlib.Core.List.{List}
-use Prim.Native.Nat.{ℕ, _^_, _<_}
+use Prim.Native.Nat.{ℕ}
 use lib.ListN.{length, take, drop}
-use Rattle.registers.specs.Regs.{getReg}
 use Rattle.views.specs.View.{viewAnswer, viewStart, viewed}
-use Rattle.engine.specs.declared.Engine.{Engine}
-use Rattle.state.specs.Layout.{stateSize, encoded, decoded, isState, Bytes}
+use Rattle.state.specs.Layout.{stateSize, isState}
 use Rattle.packets.specs.Promises.{AnyPieces, CallTook, StopsFull, HeldShort, RoomEnough, PacketCarried, NoWords, NineOnce, Reopened}
 use Rattle.tail.specs.Layout.{isReader}
 use Rattle.capi.specs.Packets.{byCall, openedReader, PacketCall, packetsTo}
 use Rattle.capi.specs.Calls.{Call, writtenTo, RunCall, ranTo, Opening, openedTo, readOf, Part, partOf}
-
--- ---- Back. What was decoded is encoded as it was, and what was encoded is decoded as it was
-
-abbrev pub BytesBack : Type 0
-BytesBack = (s : List ℕ) → isState s ≡ true → Bytes s → encoded (decoded s) ≡ s
-
--- an engine whose numbers fit their places, as those of the code do
-pub record Fits (e : Engine) : Type 0 where
-  pub registers : (o : ℕ) → getReg o (e .bank .regs) < 2 ^ 32
-  pub taken : e .blit .taken < 2 ^ 32
-  pub last : e .blit .last < 2 ^ 32
-  pub opened : e .opened < 2 ^ 64
-  pub pattern : length (e .bank .pattern) ≡ 256
-
-abbrev pub EngineBack : Type 0
-EngineBack = (e : Engine) → Fits e → decoded (encoded e) ≡ e
-
--- the bytes of any engine are a state, so that the next call takes them
-abbrev pub StaysState : Type 0
-StaysState = (e : Engine) → isState (encoded e) ≡ true
 
 -- ---- Views. The part that a view names is the part of memory that the row view hands back
 abbrev pub PartViewed : Type 0

@@ -10,7 +10,7 @@ use lib.ListN.{length}
 use borrow.Author.Tests.{not-true, not-false}
 use Rattle.registers.proofs.OffsetLaws.{pattern-word}
 use Rattle.state.specs.Layout.{stateSize, isState}
-use Rattle.capi.proofs.Back.{opened}
+use Rattle.state.proofs.Back.{opened}
 use Rattle.capi.proofs.Writes.{register-word}
 use Rattle.capi.proofs.ReadOpen.{not-read, register-read, pattern-read, launch-read, nowhere-read}
 use Rattle.capi.proofs.rimebarrow_read.Statement.{statement}

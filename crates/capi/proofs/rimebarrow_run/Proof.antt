@@ -8,7 +8,7 @@ use Prim.Native.Nat.{ℕ}
 use lib.ListN.{length}
 use borrow.Author.Tests.{not-true, not-false}
 use Rattle.state.specs.Layout.{stateSize, isState, Bytes}
-use Rattle.capi.proofs.Back.{opened}
+use Rattle.state.proofs.Back.{opened}
 use Rattle.capi.proofs.Runs.{not-run, state-run}
 use Rattle.capi.proofs.rimebarrow_run.Statement.{statement}
 use Rattle.capi.proofs.rimebarrow_run.Tie as tie

@@ -11,7 +11,7 @@ use borrow.Author.Tests.{not-true, not-false}
 use Rattle.registers.proofs.OffsetLaws.{pattern-word}
 use Rattle.state.specs.Layout.{stateSize, isState, Bytes}
 use Rattle.capi.specs.Calls.{plainly}
-use Rattle.capi.proofs.Back.{opened}
+use Rattle.state.proofs.Back.{opened}
 use Rattle.capi.proofs.Writes.{not-written, register-word, register-written, pattern-written}
 use Rattle.capi.proofs.Changes.{draws-command, draws-launch, draws-nowhere}
 use Rattle.capi.proofs.rimebarrow_write.Statement.{statement}

@@ -1,7 +1,7 @@
 -- `run` meets its contract: decoded, written by the engine, and saved.
 -- Assumes nothing.
 use borrow.Author.Needs.{needs}
-use Rattle.capi.proofs.Back.{opened}
+use Rattle.state.proofs.Back.{opened}
 use Rattle.capi.proofs.Writes.{command-written}
 use Rattle.capi.proofs.run.Statement.{statement}
 use Rattle.capi.proofs.run.Tie as tie

@@ -18,9 +18,9 @@ use Rattle.engine.specs.declared.Engine.{Engine}
 use Rattle.acts.proofs.Cases.{by-test, picked}
 use Rattle.basics.specs.Word.{wordAt}
 use Rattle.basics.proofs.WordLaws.{four-bytes}
 use Rattle.state.specs.Layout.{stateSize, patternAt, mark, byteOf, slot, byteIn, encoded, regsIn, patternIn, decoded, isState, Bytes}
-use Rattle.capi.specs.Promises.{BytesBack, Fits, EngineBack, StaysState}
+use Rattle.state.specs.Promises.{BytesBack, Fits, EngineBack, StaysState}
 use Rattle.state.proofs.Places.{Word, same-bytes, encoded-length, encoded-byte}
 
 -- ---- the places of the words
 
