@@ -1,6 +1,6 @@
 /* The driver of the bench: each case is run by the engine, by plain C, and where there is one by pixman and by memset or memmove, in turns; the best
    time of each counts. Before that, engine and plain C run the case twice on the same memory, and what they leave must be equal, and so must be the numbers
-   of pixels that they wrote and changed. */
+   of pixels that they wrote and changed; with packets also the answers one by one, and the registers. */
 #define _GNU_SOURCE
 #include <pixman.h>
 #include <pthread.h>
@@ -13,10 +13,11 @@
 #include "plain.h"
 
 enum { MEMORY = 1 << 24, SOURCE = 1 << 23, RUNS = 7, GLYPHS = 64 };
+enum { LONGEST = 0xffff, EIGHTS = 1820, BLOCKS = 2048, BLOCK_WRITES = 114 }; /* packets: see there */
 enum {
     clip0Min = 0x08, clip0Max = 0x0c, dstBaseAddr = 0x10, dstFormat = 0x14, srcColorkeyMin = 0x18, srcColorkeyMax = 0x1c, dstColorkeyMin = 0x20, dstColorkeyMax = 0x24, rop = 0x30, srcBaseAddr = 0x34,
-    commandExtra = 0x38, lineStipple = 0x3c, lineStyle = 0x40, srcFormat = 0x54, srcSize = 0x58, srcXY = 0x5c, colorBack = 0x60, colorFore = 0x64,
-    dstSize = 0x68, dstXY = 0x6c, command = 0x70, launch = 0x80, pattern = 0x100
+    commandExtra = 0x38, lineStipple = 0x3c, lineStyle = 0x40, clip1Max = 0x50, srcFormat = 0x54, srcSize = 0x58, srcXY = 0x5c, colorBack = 0x60,
+    colorFore = 0x64, dstSize = 0x68, dstXY = 0x6c, command = 0x70, launch = 0x80, pattern = 0x100
 };
 
 static uint8_t state[RIMEBARROW_STATE_SIZE];
@@ -387,6 +388,142 @@ static void to_tiles_plain(void) { tiles_copy(1, 0); }
 static void from_tiles_set(void) { tiles_set(0, 1, 0xcc000001); }
 static void from_tiles_plain(void) { tiles_copy(0, 1); }
 
+/* ---- command packets: what is made by setting up is sent in pieces, and answered in a run that has room for a piece */
+
+static u32 stream[(1 << 20) + 64]; /* the most is an image of 1024 x 1024 x 32 bits, with its headers */
+static size_t stream_words;
+static u32 answers[3 * (LONGEST + 1)];
+static uint8_t reader[RIMEBARROW_READER_SIZE];
+static struct plain_card card;
+static int looking;                 /* answers are looked at before the timing, not within it */
+static u64 engine_said, plain_said; /* the answers so far as one number, which speaks of their order too */
+
+static void packet(u32 header, const u32 *words, u32 many)
+{
+    stream[stream_words++] = header;
+    memcpy(stream + stream_words, words, many * 4);
+    stream_words += many;
+}
+static void packet_to(u32 offset, const u32 *words, u32 many) { packet(many << 16 | 1 << 14 | offset << 1 | 1, words, many); }
+static void packet_along(u32 offset, const u32 *words, u32 many) { packet(many << 16 | 3 << 14 | offset << 1 | 1, words, many); }
+static void packet_masked(u32 mask, const u32 *words) { packet(mask << 3 | 2, words, __builtin_popcount(mask)); }
+static u32 bit(u32 offset) { return 1u << (offset - 8) / 4; }
+
+/* An empty stream and empty readers; plain C has the engine's registers, which lie in the state at their offsets. */
+static void packets_open(void)
+{
+    stream_words = 0;
+    rimebarrow_reader(reader, sizeof reader);
+    card = (struct plain_card){.memory = theirs};
+    memcpy(card.registers.at, state, command + 4);
+}
+
+static void look(struct plain_drawn *drawn, u64 *said, size_t answered)
+{
+    for (size_t k = 0; looking && k < 3 * answered; k += 3) {
+        if (answers[k]) {
+            fprintf(stderr, "bench: write %zu of a piece of packets refused with %u\n", k / 3, answers[k]);
+            exit(1);
+        }
+        drawn->count += answers[k + 1];
+        drawn->changed += answers[k + 2];
+        *said = (*said * 31 + answers[k + 1]) * 31 + answers[k + 2] + 1;
+    }
+}
+
+/* Whether packets left the same registers; the state has other words at 44 and 48. */
+static int same_registers(void)
+{
+    return !memcmp(card.registers.at + clip0Min / 4, state + clip0Min, 0x44 - clip0Min) &&
+           !memcmp(card.registers.at + 0x4c / 4, state + 0x4c, command + 4 - 0x4c);
+}
+
+/* The stream in pieces of so many bytes, all of which must be taken; each is given room for as many answers as it has words. */
+static void out_packets(size_t most)
+{
+    for (size_t at = 0, used, answered; at < 4 * stream_words; at += used) {
+        size_t many = 4 * stream_words - at < most ? 4 * stream_words - at : most;
+        uint32_t number = rimebarrow_packets(reader, sizeof reader, state, sizeof state, ours, MEMORY, (const u8 *)stream + at, many, answers, most / 4 * 3,
+                                             &used, &answered);
+        if (number || used != many) {
+            fprintf(stderr, "bench: of a piece of %zu bytes %zu were used, answered with %u\n", many, used, number);
+            exit(1);
+        }
+        look(&by_engine, &engine_said, answered);
+    }
+}
+static void plain_pieces(size_t most)
+{
+    u64 answered;
+    for (size_t at = 0; at < 4 * stream_words; at += most) {
+        size_t many = 4 * stream_words - at < most ? 4 * stream_words - at : most;
+        plain_packets(&card, (const u8 *)stream + at, many, answers, most / 4, &answered);
+        look(&by_plain, &plain_said, answered);
+    }
+}
+
+/* a packet of the greatest length at once, or a shorter stream */
+static void packets_ours(void) { out_packets(4 * (LONGEST + 1)); }
+static void packets_plain(void) { plain_pieces(4 * (LONGEST + 1)); }
+
+static void host_packets_set(void)
+{
+    host_set();
+    packets_open();
+    const u32 *w = (const u32 *)(start + SOURCE);
+    for (u32 k = 0, all = n * n / 4 * bytes; k < all; k += LONGEST)
+        packet_to(launch, w + k, all - k < LONGEST ? all - k : LONGEST);
+}
+
+/* 64 KiB of packets of eight words for registers that draw nothing, to consecutive addresses or by a mask */
+static void eights_set(u32 mask)
+{
+    fill_set();
+    packets_open();
+    for (u32 k = 0; k < EIGHTS; k++) {
+        const u32 *words = (const u32 *)(start + SOURCE) + 8 * k;
+        if (mask)
+            packet_masked(mask, words);
+        else
+            packet_along(clip1Max, words, 8);
+    }
+}
+static void along_set(void) { eights_set(0); }
+static void masked_set(void)
+{
+    eights_set(bit(clip0Min) | bit(clip0Max) | bit(dstFormat) | bit(rop) | bit(srcFormat) | bit(colorFore) | bit(dstSize) | bit(dstXY));
+}
+
+/* A block of a megabyte, 128 words of which 64 are data: two fills set up by masks, four glyphs with all their registers in a row, and an image of 48 words,
+   in a cell of 64 x 32 pixels. 114 of its words are register writes, the others headers. */
+static void block_of(u32 left, u32 top, const u32 *data)
+{
+    const u32 image[5] = {0, both(16, 12), both(12, 8), both(8, 8), both(8, 6)};
+    for (u32 k = 0; k < 2; k++) {
+        const u32 fill[6] = {0, both(0xfff, 0xfff), next_random(), next_random(), both(28, 8), 0xcc000005};
+        const u32 at = both(left + 32 * k, top);
+        packet_masked(bit(clip0Min) | bit(clip0Max) | bit(colorBack) | bit(colorFore) | bit(dstSize) | bit(command), fill);
+        packet_to(launch, &at, 1);
+    }
+    for (u32 k = 0; k < 4; k++) {
+        const u32 set[8] = {1 << 22, 0, 0, next_random(), next_random(), both(11, 7), both(left + 12 * k, top + 10), 0xcc000003};
+        packet_along(srcFormat, set, 8);
+        packet_to(launch, glyph, 4);
+    }
+    const u32 set[4] = {pixel_code[bytes] << 16 | 1 << 22, image[bytes], both(left, top + 18), 0xcc000003};
+    packet_masked(bit(srcFormat) | bit(dstSize) | bit(dstXY) | bit(command), set);
+    packet_to(launch, data, 48);
+}
+static void megabyte_set(void)
+{
+    registers(1024 * bytes);
+    packets_open();
+    for (u32 k = 0; k < BLOCKS; k++)
+        block_of(k % 16 * 64, k / 16 % 16 * 32, (const u32 *)(start + SOURCE) + 48 * k);
+}
+static void megabyte_ours(void) { out_packets(4096); }
+static void megabyte_plain(void) { plain_pieces(4096); }
+
 static void write_ours(void)
 {
     for (u32 k = 0; k < 64; k++)
@@ -427,6 +564,7 @@ static const struct work works[] = {
     {"host glyph row, one run", 1, 30, GLYPHS, glyph_row_set, glyph_row_ours, glyph_row_plain, 0, 0},
     {"host image", 3, 30, 0, host_set, host_ours, host_plain, 0, 0},
     {"host image, one run", 3, 30, 0, host_set, host_run_ours, host_run_plain, 0, 0},
+    {"host image, packets", 3, 30, 0, host_packets_set, packets_ours, packets_plain, 0, 0},
     {"line", 3, 30, -1, line_set, line_ours, line_plain, 0, 0},
     {"stippled line", 3, 30, -1, stipple_set, line_ours, line_plain, 0, 0},
     {"line, clipped", 3, 30, -1, line_clipped_set, line_ours, line_plain, 0, 0},
@@ -438,6 +576,9 @@ static const struct work works[] = {
     {"copy rows to tiles", 3, 30, 0, to_tiles_set, launch_at_0, to_tiles_plain, 0, 0},
     {"copy tiles to rows", 3, 30, 0, from_tiles_set, launch_at_0, from_tiles_plain, 0, 0},
     {"register write", 1, 16, 64, fill_set, write_ours, write_plain, 0, 0},
+    {"register write by packet", 1, 16, 8 * EIGHTS, along_set, packets_ours, packets_plain, 0, 0},
+    {"register by mask packet", 1, 16, 8 * EIGHTS, masked_set, packets_ours, packets_plain, 0, 0},
+    {"packets, a megabyte", 1, 30, BLOCKS * BLOCK_WRITES, megabyte_set, megabyte_ours, megabyte_plain, 0, 0},
 };
 
 static double now(void)
@@ -467,21 +608,34 @@ static double timed(const struct work *w, int who, u32 times)
     return (now() - from) / times;
 }
 
-static int run(const struct work *w, double least)
+/* Twice by the engine and by plain C: whether what they leave and say is equal. */
+static const char *compared(const struct work *w)
 {
     memcpy(ours, start, MEMORY);
     memcpy(theirs, start, MEMORY);
+    stream_words = 0;
     w->set();
     by_engine = by_plain = (struct plain_drawn){0, 0};
+    engine_said = plain_said = 0;
+    looking = 1;
     for (int pass = 0; pass < 2; pass++) {
         w->ours();
         w->plain();
     }
+    looking = 0;
     int equal = memcmp(ours, theirs, MEMORY) == 0;
-    int counted = by_engine.count == by_plain.count && by_engine.changed == by_plain.changed;
-    if (!counted)
-        fprintf(stderr, "bench: %s, %d bpp, %u: the engine wrote %u pixels and changed %u, C wrote %u and changed %u\n", w->name, bytes * 8, n,
-                by_engine.count, by_engine.changed, by_plain.count, by_plain.changed);
+    int otherwise = stream_words && (engine_said != plain_said || !same_registers());
+    if (by_engine.count != by_plain.count || by_engine.changed != by_plain.changed || otherwise) {
+        fprintf(stderr, "bench: %s, %d bpp, %u: the engine wrote %u pixels and changed %u, C wrote %u and changed %u%s\n", w->name, bytes * 8, n,
+                by_engine.count, by_engine.changed, by_plain.count, by_plain.changed, otherwise ? "; answers or registers differ" : "");
+        return equal ? "OTHER NUMBERS" : "DIFFERENT";
+    }
+    return equal ? "equal" : "DIFFERENT";
+}
+
+static int run(const struct work *w, double least)
+{
+    const char *found = compared(w);
     double best[4] = {0, 0, 0, 0};
     u32 times[4] = {0, 0, 0, 0};
     for (int who = 0; who < 4; who++) {
@@ -500,10 +654,9 @@ static int run(const struct work *w, double least)
         }
     }
     double unit = w->unit > 0 ? w->unit : w->unit < 0 ? n + n : (double)n * n;
-    printf("%s;%d;%u;%.4f;%.4f;%.4f;%.4f;%s\n", w->name, bytes * 8, n, best[0] / unit, best[1] / unit, best[2] / unit, best[3] / unit,
-           !equal ? "DIFFERENT" : !counted ? "OTHER NUMBERS" : "equal");
+    printf("%s;%d;%u;%.4f;%.4f;%.4f;%.4f;%s\n", w->name, bytes * 8, n, best[0] / unit, best[1] / unit, best[2] / unit, best[3] / unit, found);
     fflush(stdout);
-    return equal && counted;
+    return !strcmp(found, "equal");
 }
 
 /* ---- how deep the stack gets: every case once, on a stack whose bytes are known before */

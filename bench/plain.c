@@ -579,6 +579,110 @@ u32 plain_write(struct plain_regs *r, u32 offset, u32 word)
     return 0;
 }
 
+/* ---- command packets: of registers, fills and host blits; each write is answered with its number, the pixels written, and those of them that changed */
+
+enum {
+    DST_BASE = 0x10 / 4, DST_FORMAT = 0x14 / 4, SRC_FORMAT = 0x54 / 4, BACK = 0x60 / 4, FORE = 0x64 / 4, DST_SIZE = 0x68 / 4, DST_XY = 0x6c / 4,
+    COMMAND = 0x70 / 4
+};
+
+/* A word of a host blit, which it opens where none waits. */
+INLINE struct plain_drawn card_data(struct plain_card *c, int bytes, struct plain_surface to, u32 word)
+{
+    const u32 *r = c->registers.at;
+    if (!c->registers.waiting)
+        plain_blit_open(&c->blit, bytes, to, r[DST_XY] & 0x1fff, r[DST_XY] >> 16, r[DST_SIZE] & 0x1fff, r[DST_SIZE] >> 16, r[FORE], r[BACK]);
+    struct plain_drawn d = r[SRC_FORMAT] >> 16 & 15 ? plain_blit_word(&c->blit, word) : plain_blit_mono(&c->blit, word);
+    c->registers.waiting = c->blit.y < c->blit.height;
+    return d;
+}
+
+/* A launch write: a fill, or data of a host blit. */
+INLINE struct plain_drawn card_launch(struct plain_card *c, u32 word)
+{
+    u32 *r = c->registers.at;
+    int code = r[DST_FORMAT] >> 16, bytes = code - (code > 1);
+    struct plain_surface to = {c->memory + r[DST_BASE], r[DST_FORMAT] & 0x3fff};
+    if ((r[COMMAND] & 15) == 3)
+        return card_data(c, bytes, to, word);
+    r[DST_XY] = word & 0x1fff1fff;
+    return plain_fill(bytes, to, word & 0x1fff, word >> 16 & 0x1fff, r[DST_SIZE] & 0x1fff, r[DST_SIZE] >> 16, r[FORE]);
+}
+
+INLINE void card_write(struct plain_card *c, u32 offset, u32 word, u32 *answer)
+{
+    struct plain_drawn d = {0, 0};
+    u32 number = 0;
+    if (offset == 0x70)
+        c->registers.waiting = 0;
+    if (offset >= 0x80 && offset < 0x100)
+        d = card_launch(c, word);
+    else
+        number = plain_write(&c->registers, offset, word);
+    answer[0] = number;
+    answer[1] = d.count;
+    answer[2] = d.changed;
+}
+
+/* Opens a packet; of another type or target it is answered with 9. How many answers it brings. */
+INLINE u32 card_header(struct plain_card *c, u32 header, u32 *answer)
+{
+    if ((header & 7) == 2) {
+        c->mask = header >> 3;
+        return 0;
+    }
+    if ((header & 7) == 1 && header >> 14 & 1) {
+        c->left = header >> 16;
+        c->offset = (header >> 3 & 255) * 4;
+        c->step = header >> 15 & 1 ? 4 : 0;
+        return 0;
+    }
+    c->closed = 1;
+    answer[0] = 9;
+    answer[1] = answer[2] = 0;
+    return 1;
+}
+
+/* A whole word of packets; how many answers it brings. */
+INLINE u32 card_word(struct plain_card *c, u32 word, u32 *answer)
+{
+    u32 offset = c->offset;
+    if (c->mask) {
+        offset = 8 + 4 * __builtin_ctz(c->mask);
+        c->mask &= c->mask - 1;
+    } else if (c->left) {
+        c->offset += c->step;
+        c->left--;
+    } else {
+        return card_header(c, word, answer);
+    }
+    card_write(c, offset, word, answer);
+    return 1;
+}
+
+u64 plain_packets(struct plain_card *c, const u8 *piece, u64 length, u32 *answers, u64 room, u64 *answered)
+{
+    u64 at = 0, many = 0;
+    while (at < length && !c->closed) {
+        u32 word;
+        if (c->held == 0 && length - at >= 4 && many < room) {
+            word = get(4, piece + at);
+            at += 4;
+        } else if (c->held == 3 && many == room) {
+            break;
+        } else {
+            c->part |= (u32)piece[at++] << 8 * c->held++;
+            if (c->held < 4)
+                continue;
+            word = c->part;
+            c->part = c->held = 0;
+        }
+        many += card_word(c, word, answers + 3 * many);
+    }
+    *answered = many;
+    return c->closed ? length : at;
+}
+
 /* ---- tiles, from pixel (0, 0) on: of each row the whole pixels up to the end of a tile at once, and a pixel that lies in two tiles by its bytes */
 
 INLINE u8 *piece_of(struct plain_surface s, int tiles, u32 at, u32 y)

@@ -33,6 +33,17 @@ struct plain_regs {
     int waiting;
 };
 
+/* A card that takes command packets: its memory, its registers, and the host blit that waits. Of the open packet the bits of the mask that are left, or how
+   many words are, the offset of the next and the step from there to the one after it; the bytes held of a part of a word; whether a packet was turned down. */
+struct plain_card {
+    u8 *memory;
+    struct plain_regs registers;
+    struct plain_blit blit;
+    u32 mask, left, offset, step;
+    u32 part, held;
+    int closed;
+};
+
 struct plain_clip {
     int left, right, top, bottom;
 };
@@ -67,5 +78,7 @@ struct plain_drawn plain_tiles_xor(int bytes, struct plain_surface to, u32 w, u3
 struct plain_drawn plain_tiles_copy_xor(int bytes, struct plain_surface to, struct plain_surface from, u32 w, u32 h);
 struct plain_drawn plain_tiles_copy(int bytes, struct plain_surface to, int to_tiles, struct plain_surface from, int from_tiles, u32 w, u32 h);
 u32 plain_write(struct plain_regs *r, u32 offset, u32 word);
+/* The bytes of a piece of packets that were used, with room for so many answers of three words each. */
+u64 plain_packets(struct plain_card *c, const u8 *piece, u64 length, u32 *answers, u64 room, u64 *answered);
 
 #endif

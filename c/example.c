@@ -1,5 +1,6 @@
-/* A sheet of 96 x 64 pixels: a background, two fills, a line, a row of glyphs and a glyph, drawn by register writes and saved as a PPM picture. Of each
-   drawing it says how many pixels were written and how many of them changed; the last fill is done again, and changes none.
+/* A sheet of 96 x 64 pixels: a background, two fills, a line, a row of glyphs and a glyph, drawn by register writes, and a small third fill that comes in
+   command packets; saved as a PPM picture. Of each drawing it says how many pixels were written and how many of them changed; the second fill is done
+   again, and changes none. The packets are cut in two within a word, and of each piece it says how many answers came.
 
    On x86-64:
        rt staticlib capi
@@ -25,6 +26,7 @@ enum { FORMAT_32 = 5 << 16, PACKED_BYTES = 1 << 22, MOVE_RIGHT = 1 << 10 };
 static const uint32_t HOST_BLIT = 0xcc000003, FILL = 0xcc000005, LINE = 0xcc000006;
 
 static uint8_t state[RIMEBARROW_STATE_SIZE];
+static uint8_t reader[RIMEBARROW_READER_SIZE];
 static uint8_t memory[MEMORY];
 
 static uint32_t both(uint32_t x, uint32_t y) { return y << 16 | x; }
@@ -59,6 +61,24 @@ static void out_run(const uint32_t *words, size_t many)
     changed += differ;
 }
 
+/* Sends a piece of command packets, at most six words of them, and stops likewise. Each register write has an answer of three words. */
+static void out_packets(const uint8_t *piece, size_t length)
+{
+    uint32_t answers[3 * 6];
+    size_t used, answered;
+    if (rimebarrow_packets(reader, sizeof reader, state, sizeof state, memory, sizeof memory, piece, length, answers, 3 * 6, &used, &answered) != 0)
+        exit(1);
+    for (size_t k = 0; k < answered; k++) {
+        if (answers[3 * k] != 0) {
+            fprintf(stderr, "write %zu of a piece refused: %u\n", k, (unsigned)answers[3 * k]);
+            exit(1);
+        }
+        written += answers[3 * k + 1];
+        changed += answers[3 * k + 2];
+    }
+    printf("packets: %zu of %zu bytes used, writes answered: %zu\n", used, length, answered);
+}
+
 static void report(const char *what)
 {
     printf("%s: %llu pixels, %llu changed\n", what, (unsigned long long)written, (unsigned long long)changed);
@@ -71,6 +91,21 @@ static void fill(uint32_t x, uint32_t y, uint32_t w, uint32_t h, uint32_t colour
     out(DST_SIZE, both(w, h));
     out(COMMAND, FILL);
     out(LAUNCH, both(x, y));
+}
+
+/* The bit of a register in the mask of a packet's header. */
+static uint32_t bit(uint32_t offset) { return UINT32_C(8) << (offset - 8) / 4; }
+
+/* A fill by two packets, low byte first: of type 2, words for the registers of a mask, and of type 1, one word for the launch area. The first piece ends
+   after a byte of dstSize, which the reader holds until the others are there. */
+static void fill_by_packets(uint32_t x, uint32_t y, uint32_t w, uint32_t h, uint32_t colour)
+{
+    const uint32_t words[6] = {bit(COLOR_FORE) | bit(DST_SIZE) | bit(COMMAND) | 2, colour, both(w, h), FILL, 1 << 16 | 1 << 14 | LAUNCH << 1 | 1, both(x, y)};
+    uint8_t bytes[sizeof words];
+    for (size_t k = 0; k < sizeof bytes; k++)
+        bytes[k] = (uint8_t)(words[k / 4] >> k % 4 * 8);
+    out_packets(bytes, 9);
+    out_packets(bytes + 9, sizeof bytes - 9);
 }
 
 static void line(uint32_t x0, uint32_t y0, uint32_t x1, uint32_t y1, uint32_t colour)
@@ -119,7 +154,7 @@ static void save(const char *path)
 int main(int argc, char **argv)
 {
     const char *path = argc > 1 ? argv[1] : "sheet.ppm";
-    if (rimebarrow_open(state, sizeof state, sizeof memory) != 0)
+    if (rimebarrow_open(state, sizeof state, sizeof memory) != 0 || rimebarrow_reader(reader, sizeof reader) != 0)
         return 1;
     out(CLIP0_MAX, both(WIDTH, HEIGHT));
     out(DST_BASE, 0);
@@ -132,6 +167,8 @@ int main(int argc, char **argv)
     report("second fill");
     fill(40, 24, 48, 32, 0x003060a0);
     report("the same again");
+    fill_by_packets(54, 4, 18, 10, 0x00408040);
+    report("third fill");
     line(4, 60, 90, 4, 0x00202020);
     report("line");
     glyphs(56, 56, 3, MOVE_RIGHT, 0x00b03030, 0x00ffffff);
