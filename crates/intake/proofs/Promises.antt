@@ -1,11 +1,10 @@
 -- The promises of packets that the engine takes.
 -- Assumes nothing.
-use mathlib.Core.Path.{_≡_, refl, sym, ap, _∙_}
-use mathlib.Core.List.{List, [], _∷_, _++_, map, append-assoc, append-nil}
+use mathlib.Core.Path.{_≡_, refl, _∙_}
+use mathlib.Core.List.{List, [], _∷_, _++_, append-assoc, append-nil}
 use Prim.Native.Nat.{ℕ}
 use Rattle.basics.specs.Each.{each}
 use Rattle.basics.proofs.One.{settled}
-use Rattle.packets.specs.declared.Reader.{Reader}
 use Rattle.packets.specs.declared.Event.{Event}
 use Rattle.packets.specs.declared.Event.the-variants.{Nothing, Write, Closed}
 use Rattle.packets.specs.Header.{offsetsOf}

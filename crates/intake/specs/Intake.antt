@@ -3,7 +3,7 @@
 use mathlib.Core.List.{List}
 use Prim.Native.Nat.{ℕ}
 use Rattle.packets.specs.Delivery.{Note, note, Wrote, wrote, Writer}
-use Rattle.packets.specs.Answers.{Lent, lent, Call, call}
+use Rattle.packets.specs.Answers.{lent, Call, call}
 use Rattle.engine.specs.declared.Engine.{Engine}
 use Rattle.engine.specs.declared.Answer.{Answer}
 use Rattle.engine.specs.Step.{Step, numberOf, countOf, changedOf, written}

@@ -2,15 +2,14 @@
 -- Assumes nothing.
 use mathlib.Core.Path.{_≡_, refl, sym, ap, _∙_}
 use mathlib.Core.Bool.{Bool, true, false, cond, not, _&&_, and-eq-true-iff}
-use mathlib.Core.List.{List, [], _∷_, _++_, append-assoc}
-use Prim.Native.Nat.{ℕ, zero, suc, _+_, _-_, _*_, _/_, _<_, _≤_}
-use native.Mathlib.Nat.{add-zero}
+use mathlib.Core.List.{List, [], _∷_}
+use Prim.Native.Nat.{ℕ, _+_, _-_, _<_, _≤_}
 use native.Mathlib.Numerals.{add-one}
 use native.Mathlib.Omega.{arith}
 use lib.Dec.{eqb, leb, ltb}
-use lib.ListN.{length, getD, take, drop, set, length-append, length-drop}
-use lib.Seq.{drop-cons, drop-drop}
-use borrow.Author.Tests.{eqb-true, lt-ltb, ltb-true, ltb-false}
+use lib.ListN.{length, getD, drop}
+use lib.Seq.{drop-cons}
+use borrow.Author.Tests.{eqb-true}
 use Rattle.basics.specs.Each.{each}
 use Rattle.basics.specs.Word.{wordAt}
 use Rattle.packets.specs.declared.Rest.{Rest}
@@ -18,9 +17,9 @@ use Rattle.packets.specs.declared.Reader.{Reader}
 use Rattle.packets.specs.declared.Event.{Event}
 use Rattle.packets.specs.declared.Event.the-variants.{Nothing, Write, Closed}
 use Rattle.packets.specs.declared.Next.{Next}
-use Rattle.packets.specs.Reader.{between, shifted, worded, took, isBetween, next, nextOf}
+use Rattle.packets.specs.Reader.{between, worded, took, isBetween, next, nextOf}
 use Rattle.packets.specs.Delivery.{Note, nine, Wrote, wrote, Writer}
-use Rattle.packets.specs.Answers.{Lent, lent, room, put, Call, call, acted, noted, Done, noting, isFull, tookOne, tookAll, wordsOf, holding}
+use Rattle.packets.specs.Answers.{Lent, room, put, Call, call, Done, noting, isFull, tookOne, tookAll}
 use Rattle.packets.proofs.NextLaws.{four}
 use Rattle.packets.proofs.Promises.{word, spelling}
 

@@ -1,21 +1,21 @@
 -- The promises of specs/Promises, proved from the definitions, but for those of a call's room (Room).
 -- Assumes nothing.
 use mathlib.Core.Path.{_≡_, refl, sym, ap, _∙_}
-use mathlib.Core.Bool.{Bool, true, false, cond}
+use mathlib.Core.Bool.{false}
 use mathlib.Core.List.{List, [], _∷_, _++_, append-assoc, append-nil}
-use Prim.Native.Nat.{ℕ, zero, suc, _+_, _*_, _/_, _%_, _^_, _<_}
+use Prim.Native.Nat.{ℕ, _+_, _*_, _/_, _%_, _^_}
 use native.Mathlib.Omega.{arith}
 use lib.ListN.{length}
 use Rattle.basics.specs.Each.{each}
 use Rattle.basics.proofs.EachLaws.{each-append}
 use Rattle.basics.proofs.One.{settled}
 use Rattle.packets.specs.declared.Rest.{Rest}
-use Rattle.packets.specs.declared.Rest.the-variants.{Empty, Counted, Masked}
+use Rattle.packets.specs.declared.Rest.the-variants.{Empty}
 use Rattle.packets.specs.declared.Reader.{Reader}
 use Rattle.packets.specs.declared.Event.{Event}
 use Rattle.packets.specs.declared.Event.the-variants.{Nothing, Write, Closed}
 use Rattle.packets.specs.declared.Heard.{Heard}
-use Rattle.packets.specs.Header.{turnedDown, offsetsOf}
+use Rattle.packets.specs.Header.{turnedDown}
 use Rattle.packets.specs.Reader.{opened, advanced, between, blank, shut, heard, headed, worded, shifted, took}
 use Rattle.packets.specs.Delivery.{Note, nine, Writer, Delivery, delivery, told, taken, fed}
 use Rattle.packets.specs.Promises.{OneOpen, OneTake, joined, spelled, oneCall, calls, AnyPieces, carried, PacketCarried, NoWords, NineOnce, Reopened}

@@ -1,10 +1,9 @@
 -- A mask's zeros passed over one by one, as a loop does it.
 -- Assumes nothing.
 use mathlib.Core.Path.{_≡_, refl}
-use Prim.Native.Nat.{ℕ, zero, suc, _+_, _-_, _*_, _/_, _%_, _^_, _<_, _≤_}
+use Prim.Native.Nat.{ℕ, zero, suc, _+_, _-_, _/_, _%_, _^_, _<_, _≤_}
 use native.Mathlib.Omega.{arith}
 use borrow.Author.Tests.{eq-eqb, ne-eqb}
-use Rattle.packets.specs.declared.Rest.{Rest}
 use Rattle.packets.specs.declared.Rest.the-variants.{Empty, Masked}
 use Rattle.packets.specs.Reader.{skipped}
 

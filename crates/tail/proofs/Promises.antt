@@ -1,19 +1,17 @@
 -- The promises of a reader's bytes.
 -- Assumes nothing.
 use mathlib.Core.Path.{_≡_, refl}
-use mathlib.Core.Bool.{Bool, true, false, cond, _&&_}
-use mathlib.Core.List.{List, [], _∷_}
-use Prim.Native.Nat.{ℕ, _^_, _<_}
+use mathlib.Core.Bool.{Bool, true, false, cond}
+use Prim.Native.Nat.{_<_}
 use native.Mathlib.Omega.{arith}
-use lib.Dec.{eqb, ltb}
-use borrow.Author.Tests.{eq-eqb, lt-ltb}
+use lib.Dec.{eqb}
+use borrow.Author.Tests.{lt-ltb}
 use Rattle.basics.specs.Word.{wordAt}
 use Rattle.basics.proofs.WordLaws.{four-bytes}
 use Rattle.packets.specs.declared.Rest.{Rest}
 use Rattle.packets.specs.declared.Rest.the-variants.{Empty, Counted, Masked}
-use Rattle.packets.specs.declared.Reader.{Reader}
-use Rattle.tail.specs.Layout.{mark, kindOf, offsetOf, stepOf, leftOf, restOf, slots, encoded, decoded, isReader}
-use Rattle.tail.specs.Promises.{Fits, ReaderBack, StaysReader}
+use Rattle.tail.specs.Layout.{kindOf, offsetOf, stepOf, leftOf, restOf, encoded, decoded, isReader}
+use Rattle.tail.specs.Promises.{ReaderBack, StaysReader}
 
 rest-back : (rest : Rest) → restOf (kindOf rest) (offsetOf rest) (stepOf rest) (leftOf rest) ≡ rest
 unfolding restOf

@@ -2,7 +2,6 @@
 -- Assumes nothing.
 use mathlib.Core.Path.{_≡_}
 use mathlib.Core.Bool.{true}
-use mathlib.Core.List.{List}
 use Prim.Native.Nat.{_^_, _<_}
 use Rattle.packets.specs.declared.Reader.{Reader}
 use Rattle.tail.specs.Layout.{offsetOf, stepOf, leftOf, encoded, decoded, isReader}

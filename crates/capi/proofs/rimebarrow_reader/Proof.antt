@@ -1,10 +1,7 @@
 -- `rimebarrow_reader` meets its contract: by the number of bytes.
 -- Assumes nothing.
 use borrow.Author.Needs.{needs}
-use mathlib.Core.Path.{ap, _∙_}
 use borrow.Author.Tests.{eq-eqb, ne-eqb}
-use Rattle.packets.specs.declared.Reader.{Reader}
-use Rattle.tail.specs.Layout as tail
 use Rattle.capi.specs.Packets.{openedReader}
 use Rattle.capi.proofs.rimebarrow_reader.Statement.{statement}
 use Rattle.capi.proofs.rimebarrow_reader.Tie as tie

@@ -1,8 +1,8 @@
 -- `packets::skip` meets its contract: what the bits that are left give is what they all gave at the start.
 -- Assumes nothing.
 use borrow.Author.Needs.{needs}
-use mathlib.Core.Path.{_≡_, refl, ap, _∙_}
-use Prim.Native.Nat.{ℕ, _-_, _/_}
+use mathlib.Core.Path.{_≡_, refl, _∙_}
+use Prim.Native.Nat.{_-_}
 use Rattle.packets.specs.Reader.{skipped}
 use Rattle.packets.proofs.SkipLaws.{skip-none, skip-found, skip-again, skip-ends}
 use Rattle.packets.proofs.skip.Statement.{statement}

@@ -6,8 +6,6 @@ use mathlib.Core.Path.{_≡_}
 use lib.ListN.{length}
 use Rattle.parcels.proofs.play.Statement.{statement}
 use Rattle.parcels.proofs.play.Tie as tie
-use Rattle.engine.proofs.Engine.open.Reads as Engine-open-reads
-use Rattle.packets.proofs.Reader.open.Reads as Reader-open-reads
 
 abbrev Inv-loop : tie.InvT-loop
 Inv-loop mem₀ opened pieces r₀ e₀ done₀ mem r e done = length mem ≡ length mem₀

@@ -1,9 +1,8 @@
 -- `packets::Reader::take` meets its contract: by the tests for a closed reader and for a whole word.
 -- Assumes nothing.
 use borrow.Author.Needs.{needs}
-use mathlib.Core.Path.{ap, _∙_}
 use borrow.Author.Tests.{lt-ltb, le-ltb}
-use Rattle.packets.specs.Reader.{took, worded}
+use Rattle.packets.specs.Reader.{took}
 use Rattle.packets.proofs.Reader.take.Statement.{statement}
 use Rattle.packets.proofs.Reader.take.Tie as tie
 
