@@ -479,9 +479,4 @@ def compare(file: Path, folder: Path) -> bool:
 
 
 if __name__ == "__main__":
-    if len(sys.argv) == 3 and sys.argv[1] == "make":
-        make(Path(sys.argv[2]))
-    elif len(sys.argv) == 4 and sys.argv[1] == "compare":
-        sys.exit(0 if compare(Path(sys.argv[2]), Path(sys.argv[3])) else 1)
-    else:
-        sys.exit(__doc__)
+    streams.obey(sys.argv[1:], make, compare, __doc__)

@@ -24,6 +24,7 @@ import sys
 import textwrap
 from collections import Counter
 from pathlib import Path
+from typing import Callable
 
 from model import (BUILT, COMMAND, COPY, FILL, FROM_MEMORY, HOST, KEPT, LIMIT, LINE, NOP, OFFSETS, POLYLINE, SOURCE_BITS,
                    STRETCH, Answer, Engine, Pixel, Ran, Surface, allowed, bits, halves, is_launch, row_bytes)
@@ -1822,10 +1823,15 @@ def agree(found: list[str], expected: list[str], names: list[str]) -> bool:
     return True
 
 
-if __name__ == "__main__":
-    if len(sys.argv) == 3 and sys.argv[1] == "make":
-        make(Path(sys.argv[2]))
-    elif len(sys.argv) == 4 and sys.argv[1] == "compare":
-        sys.exit(0 if compare(Path(sys.argv[2]), Path(sys.argv[3])) else 1)
+def obey(words: list[str], make: Callable[[Path], None], compare: Callable[[Path, Path], bool], usage: str) -> None:
+    """What is asked for on the command line: make, or compare."""
+    if len(words) == 2 and words[0] == "make":
+        make(Path(words[1]))
+    elif len(words) == 3 and words[0] == "compare":
+        sys.exit(0 if compare(Path(words[1]), Path(words[2])) else 1)
     else:
-        sys.exit(__doc__)
+        sys.exit(usage)
+
+
+if __name__ == "__main__":
+    obey(sys.argv[1:], make, compare, __doc__)

@@ -40,29 +40,25 @@ fn tell(
             let out = engine.write(mem, offset, word);
             let next = out.engine;
             let answer = out.answer;
-            let given = packets::put_answer(
-                answers,
-                answered,
-                answer.number(),
-                answer.count(),
-                answer.changed(),
-            );
             Fed {
                 reader: reader,
                 engine: next,
                 used: used,
-                answered: given,
+                answered: packets::put_answer(
+                    answers,
+                    answered,
+                    answer.number(),
+                    answer.count(),
+                    answer.changed(),
+                ),
             }
         }
-        Event::Closed => {
-            let given = packets::put_answer(answers, answered, 9, 0, 0);
-            Fed {
-                reader: reader,
-                engine: engine,
-                used: used,
-                answered: given,
-            }
-        }
+        Event::Closed => Fed {
+            reader: reader,
+            engine: engine,
+            used: used,
+            answered: packets::put_answer(answers, answered, 9, 0, 0),
+        },
     }
 }
 
