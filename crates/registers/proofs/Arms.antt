@@ -31,6 +31,19 @@ pub of-each : (P : ℕ → Type 0) (l : List ℕ) → Each P l → (o : ℕ) →
 of-each P [] t o h = absurd (true≢false (sym h))
 of-each P (a ∷ l) (p, t) o h = split P o a l (eqb o a) refl p (of-each P l t o) h
 
+first-no : (t x : Bool) → cond t true x ≡ false → t ≡ false
+first-no true x h = h
+first-no false x h = refl
+
+rest-no : (t x : Bool) → cond t true x ≡ false → x ≡ false
+rest-no true x h = absurd (true≢false h)
+rest-no false x h = h
+
+-- and whatever is none of them is another than each
+pub none-of : (o : ℕ) (l : List ℕ) → oneOf o l ≡ false → Each (λ a. eqb o a ≡ false) l
+none-of o [] h = tt
+none-of o (a ∷ l) h = (first-no (eqb o a) (oneOf o l) h, none-of o l (rest-no (eqb o a) (oneOf o l) h))
+
 -- o is a or one of l, as an arm with several numbers says it
 abbrev pub Among : ℕ → ℕ → List ℕ → Type 0
 Among o a [] = o ≡ a

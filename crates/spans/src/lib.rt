@@ -15,7 +15,8 @@ pub struct Span {
     pub past: usize,
 }
 
-fn row_pixels(s: Surface) -> usize
+// How many pixels a row has.
+pub fn row_pixels(s: Surface) -> usize
     requires { ⌜ Small s ⌝ }
     ensures { λ r. ⌜ r ≡ rowPixels s ⌝ }
 {
