@@ -1,11 +1,11 @@
 """A plain model of the 2D engine, written from the scope paper and change requests One, Two,
-Three, Four, Six and Seven, with the readings of docs/DECISIONS.md where these leave a choice; to be
-read beside them and compared with other programs. It is not meant to be fast.
+Three, Four, Six, Seven and Eight, with the readings of docs/DECISIONS.md where these leave a choice;
+to be read beside them and compared with other programs. It is not meant to be fast.
 
 Names in quotes in the comments are sections of the paper; "Thumbnails" is request One, "What
 really changed" request Two, "The smear" request Three, "Whole glyph rows" request Four, "Tiles"
-request Six and "Command packets" request Seven. A name after the word DECISIONS is an entry there.
-Run as a program it plays a stream from its input.
+request Six, "Command packets" request Seven and "Widths" request Eight. A name after the word
+DECISIONS is an entry there. Run as a program it plays a stream from its input.
 """
 
 import copy
@@ -19,6 +19,7 @@ Drawn = tuple[int, int]  # pixels written, and those of them that changed ("What
 Answer = tuple[int, int, int]  # the number, and what was drawn; a refusal has 0 and 0
 Ran = tuple[int, int, int, int]  # of a run of words: the number, how many were taken, and what those drew
 Tail = tuple[int, int, int, int, int, int]  # of a reader of packets: see there
+Rooms = tuple[int, int, int, int]  # pixels per row and whole rows of the source, then of the target
 
 LIMIT = 16_777_216  # "What a write answers", row 1
 PROGRAM_MEMORY = 65_536  # "The program"
@@ -142,6 +143,19 @@ def target_surface(base: int, form: int) -> Surface | None:
     if depth is None:
         return None
     return Surface(bits(base, 23, 0), bits(form, 13, 0), depth, bits(base, 31, 31) == 1)
+
+
+def room(base: int, stride: int, depth: int | None, tiled: bool, length: int) -> tuple[int, int]:
+    """By "Widths": the pixels per row, and the whole rows that a memory of this length has room for:
+    floor((length - base) / stride), tiled 32 x floor((length - base) / (4,096 x stride)), 0 where
+    the base is past the end. Both are 0 for formats that are not listed (they have no depth),
+    tiled mono sources and strides of 0."""
+    if depth is None or depth == 1 and tiled or stride == 0:
+        return 0, 0
+    left = max(0, length - base)
+    if tiled:
+        return 128 * stride // (depth // 8), 32 * (left // (4096 * stride))
+    return 8 * stride if depth == 1 else stride // (depth // 8), left // stride
 
 
 def channels(value: int, depth: int) -> list[int]:
@@ -351,6 +365,18 @@ class Engine:
         unit = {1: 1, 2: 2, 3: 4}[packing]
         width, _ = halves(self.registers["srcSize" if self.number() == STRETCH else "dstSize"])
         return Surface(base, (row_bytes(width, depth) + unit - 1) // unit * unit, depth)
+
+    def rooms(self) -> Rooms:
+        """By "Widths": what is kept beside the registers, the pixels per row and the number of
+        whole rows that memory has room for, for source and target, as worked out from the
+        registers after any write; of the source, packed or not, by the stride field. Memory is
+        that of the length the engine was opened with. No answer depends on them."""
+        found: list[int] = []
+        for side, listed, high in (("src", SOURCE_BITS, 19), ("dst", TARGET_BITS, 18)):
+            base, form = self.registers[side + "BaseAddr"], self.registers[side + "Format"]
+            depth, tiled = listed.get(bits(form, high, 16)), bits(base, 31, 31) == 1
+            found += room(bits(base, 23, 0), bits(form, 13, 0), depth, tiled, self.length)
+        return tuple(found)
 
     # --- "Which pixels" ---
 

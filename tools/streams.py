@@ -12,8 +12,9 @@ is passed without its last byte, if it has one. Kind 2, a run of words for the l
 they are, at most 1,023, and 1 where the memory is passed as with kind 1, else 0; the words follow,
 filled up with 0 to a multiple of three, and N does not count them.
 expected.txt: for each stream its head, a line `number count changed` for each write and a line
-`run number taken count changed` for each run, and checksums (FNV-1a) of registers 08 to 70, pattern
-and one byte for a waiting host blit, and of memory.
+`run number taken count changed` for each run, and checksums (FNV-1a) of registers 08 to 70, pattern,
+one byte for a waiting host blit and four words that are kept beside the registers, and of memory.
+The four are Engine.rooms in model.py: pixels per row and whole rows of the source, then of the target.
 """
 
 import copy
@@ -26,8 +27,9 @@ from collections import Counter
 from pathlib import Path
 from typing import Callable
 
-from model import (BUILT, COMMAND, COPY, FILL, FROM_MEMORY, HOST, KEPT, LIMIT, LINE, NOP, OFFSETS, POLYLINE, SOURCE_BITS,
-                   STRETCH, Answer, Engine, Pixel, Ran, Surface, allowed, bits, halves, is_launch, row_bytes)
+from model import (BUILT, COMMAND, COPY, FILL, FROM_MEMORY, HOST, KEPT, LIMIT, LINE, NOP, OFFSETS, POLYLINE, REGISTERS,
+                   SOURCE_BITS, STRETCH, TARGET_BITS, Answer, Engine, Pixel, Ran, Rooms, Surface, allowed, bits, halves,
+                   is_launch, pattern_index, room, row_bytes)
 
 MIXED, STRETCHED, SMEARED, TILED = 336, 64, 96, 96  # streams of all commands, then of stretched copies, of smears, of tiles
 SMEARS = MIXED + STRETCHED  # the first of smears
@@ -35,7 +37,8 @@ TILES = SMEARS + SMEARED  # and of tiles
 EQUALS, EQUALLED = TILES + TILED, 84  # and of pixels that get what they have, with their number
 RUNS, RAN = EQUALS + EQUALLED, 56  # and of runs of words, with their number
 LINES, LINED = RUNS + RAN, 36  # and of lines in all directions, with their number
-STREAMS, LENGTH = LINES + LINED, 72  # streams, and the least number of records of an ordinary one
+ROOMS, ROOMED = LINES + LINED, 48  # and of surfaces that the memory ends in, with their number
+STREAMS, LENGTH = ROOMS + ROOMED, 72  # streams, and the least number of records of an ordinary one
 SWEEPS = 4  # so many streams of each of the first two begin with one
 BY_DISTANCE = 64  # so many of smears are one: a format, a corner and a kind of copy at every distance
 PLANS = {"each": 4, "whole": 8, "corners": 16, "ends": 4, "beyond": 4, "one_place": 4, "refused": 2, "pairs": 2}
@@ -48,6 +51,13 @@ LONGEST = 1023  # words of a run
 TINY = (0, 1, 3, 64)  # lengths of memory
 ROOM = 65_536  # the longest memory there is
 BIG = {MIXED - 5: ROOM, MIXED - 3: LIMIT, MIXED - 2: LIMIT + 1, MIXED - 1: ROOM, SMEARS - 2: ROOM, SMEARS - 1: ROOM}
+ROOM_PLANS = {  # with the length of memory of each of their streams
+    "targets": (4095, ROOM, 8191, 20_479, 8191, 12_289, ROOM, 30_000,
+                ROOM, 4096, 12_287, 40_000, 16_384, 8191, 50_000, 20_480),
+    "sources": (4096, ROOM, 12_288, 24_575, ROOM, 8191, 12_287, 30_000, 4097, ROOM), "packings": (4095, 8192, ROOM, 16_385),
+    "formats": (8191, ROOM, 9000, ROOM, 12_288, 24_577), "between": (9000, 20_479, ROOM, 12_288),
+    "lengths": (16, 17, 4095, 4096, 8191, ROOM, LIMIT, LIMIT + 1)}
+ROOM_PLANNED = [(name, which, size) for name, sizes in ROOM_PLANS.items() for which, size in enumerate(sizes)]
 EVERYTHING = ("fill", "copy", "stretch", "host", "line", "wild")
 THEMES = (("fill",), ("copy", "copy", "touch"), ("host",), ("line",), ("copy", "host"), EVERYTHING)
 STRETCHES = ("stretch", "stretch", "stretch", "far", "meet")  # the theme of streams of stretched copies
@@ -59,6 +69,9 @@ LINE_STYLES = (  # raster operation, other bits and keys of such lines; 5A is pa
     (0xCC, 0, 0), (0x5A, 0, 0), (0x5A, 43 << 17, 0), (0x66, 0, 0), (0xF0, 0, 0), (0xE2, 5 << 17, 0), (0xCC, 0, 2), (0x5A, 0, 2),
     (0x5A, 1 << 13, 0))
 TILE_BIT = 1 << 31  # of a base
+LAST_BASE = 0xFFFFFF
+SURFACES = ("dstBaseAddr", "dstFormat", "srcBaseAddr", "srcFormat")  # the registers that say what is kept beside them
+STRIDES = ((7, 1), (1, 2), (3, 1), (0x3FFF, 3), (40, 1), (0, 0), (2, 0x3FFF))  # in rows and in tiles, as streams leave them
 STIPPLED, MONO_PATTERN, TRANSPARENT = 1 << 12, 1 << 13, 1 << 16  # of a command
 OWN, MONO, OTHER = range(3)  # formats of a source: the target's, mono, or another where there is one
 STROKES = (  # command, raster operation, other bits, keys and source; to do one again changes nothing
@@ -99,7 +112,8 @@ def checksum(data: bytes) -> str:
 
 def register_bytes(engine: Engine) -> bytes:
     words = b"".join(engine.read(offset)[1].to_bytes(4, "little") for offset in range(0x08, 0x74, 4))
-    return words + bytes(engine.pattern) + bytes([engine.waiting is not None])
+    rooms = b"".join(number.to_bytes(4, "little") for number in engine.rooms())
+    return words + bytes(engine.pattern) + bytes([engine.waiting is not None]) + rooms
 
 
 def xy(x: int, y: int) -> int:
@@ -1413,12 +1427,307 @@ class LineMaker(EqualMaker):
                 self.send(0x80, xy(x, 9 * part + number))
 
 
+class RoomMaker(EqualMaker):
+    """A short stream on surfaces that the memory ends in. What is kept beside the registers is in the checksum at its end,
+    so it leaves them in a way of its own."""
+
+    shuffled = {"src": 90, "dst": 1}  # by these numbers it is settled which stream leaves which source and target
+
+    def __init__(self, seed: int, size: int, tally: Counter) -> None:
+        super().__init__(seed, size, tally)
+        self.slips = 0.01
+        self.stored: set[str] | None = None  # which of the four registers were since the last fill, if there was one
+        self.last = ""  # what the last write was
+
+    def send(self, offset: int, word: int, kind: int = 0) -> None:
+        name, by_run = REGISTERS[offset][0] if offset in REGISTERS else "", self.by_run
+        other = name in SURFACES and kept_with(self.engine, name, word) != self.engine.rooms()
+        super().send(offset, word, kind)
+        number, _, _ = self.answers[-1]
+        what = "a register" if name else "launch" if pattern_index(offset) is None else "pattern"
+        self.last = f"{number} {name if name in SURFACES else what}" + ", other numbers" * other
+        self.tally["rooms kept", self.last] += name in SURFACES
+        if number == 0 and offset == COMMAND:
+            self.stored = None
+        elif number == 0 and name in SURFACES and self.stored is not None:
+            self.stored.add(name)
+        elif number == 0 and is_launch(offset):
+            self.note_fill(by_run)
+
+    def send_run(self, words: list[int], short: int = 0) -> int:
+        by_run = self.by_run
+        taken = super().send_run(words, short)
+        if taken:
+            self.note_fill(by_run)
+        return taken
+
+    def note_fill(self, by_run: bool) -> None:
+        """Counts the registers that were stored between two fills."""
+        if self.engine.number() == FILL:
+            way = " then ".join("run" if run else "word" for run in (by_run, self.by_run))
+            self.tally.update(("rooms between fills", f"{name}, {way}") for name in self.stored or ())
+            self.stored = set()
+
+    def aim(self, side: str, surface: Surface, packing: int = 0, field: int | None = None) -> None:
+        """The two registers of a surface, either of them first. Packed, its stride field may have anything."""
+        stride = surface.step if field is None else field
+        words = {side + "BaseAddr": surface.tiled << 31 | surface.base,
+                 side + "Format": packing << 22 | FORMAT[surface.depth] << 16 | stride}
+        for name in self.rng.sample([*words], 2):
+            self.set(**{name: words[name]})
+
+    def ending(self, depth: int, tiled: bool, over: int | None) -> Surface:
+        """A surface of a few whole rows, or rows of tiles, and so many bytes more up to the end of the memory, or any number
+        of them. Before it there are 700 bytes."""
+        most, stride = self.size - 700, row_bytes(self.near(2, 9 if depth > 1 else 30), depth) + self.near(0, 2)
+        if tiled:
+            stride = self.near(1, min(2, most // 4096))
+        unit = 4096 * stride if tiled else stride
+        if over is None:
+            over = self.near(row_bytes(1, depth), min(unit - 1, most - unit))
+        count = self.near(2 if over < 0 and 2 * unit <= most else 1, min(5, (most - over) // unit))
+        return Surface(self.size - count * unit - over, stride, depth, tiled)
+
+    def lasts(self, surface: Surface) -> list[Pixel]:
+        """Where a rectangle may end: at the last pixel of the last whole row, or past it; in a later row at the last pixel
+        that is there, or past it; and in the first row of which nothing is."""
+        pixels, rows = room(surface.base, surface.step, surface.depth, surface.tiled, self.size)
+        past = next(y for y in itertools.count(rows) if not surface.has(0, y, self.size))
+        there = {y: sum(surface.has(x, y, self.size) for x in range(pixels)) for y in range(rows, past)}
+        found = [(pixels - 1, rows - 1), (pixels, rows - 1)] if rows else []
+        for y in self.rng.sample([y for y in there if there[y] < pixels] or [*there], min(1, len(there))):
+            found += [(there[y] - 1, y), (there[y], y)]
+        return [*found, (self.near(0, pixels - 1), past)]
+
+    def box(self, lasts: list[Pixel]) -> Pixel:
+        """The sides of a rectangle that can end at each of these pixels."""
+        across, down = (min(place[axis] for place in lasts) + 1 for axis in (0, 1))
+        return self.near(1, min(4, across)), self.near(1, min(3, down))
+
+    def each_end(self, number: int, lasts: list[Pixel]) -> None:
+        """A command for each pixel of the target at which its rectangle is to end, or its line, as long as a side of that."""
+        (width, height), turn = halves(self.engine.registers["dstSize"]), self.near(0, 3) if number == COPY else 0
+        right, below = (width - 1) * (turn & 1), (height - 1) * (turn >> 1)
+        if number == HOST:
+            self.hold(srcXY=0)
+        self.send(COMMAND, (0x66 if number in FROM_MEMORY else 0x55) << 24 | turn << 14 | number)  # 55 inverts the target
+        for x, y in lasts:
+            left, top = x - width + 1, y - height + 1
+            if number in (LINE, POLYLINE):  # the latter from there, as it leaves out its end
+                self.set(srcXY=xy(x, y) if number == POLYLINE else self.pick((xy(left, y), xy(x, top))))
+            elif number != FILL:
+                self.set(dstXY=xy(left + right, top + below))
+            words = {FILL: xy(left, top), LINE: xy(x, y), POLYLINE: xy(left - 1, y), HOST: self.rng.getrandbits(32)}
+            self.send(0x80, words.get(number, xy(self.near(0, 3) + right, self.near(0, 9) + below)))
+
+    def each_source(self, number: int, lasts: list[Pixel]) -> None:
+        """A copy for each pixel of the source at which what it takes is to end."""
+        sides = halves(self.engine.registers["dstSize"])
+        taken = [size - 1 for size in sides]
+        if number == STRETCH:
+            taken = [(size - 1) * side // size for size, side in zip(sides, halves(self.engine.registers["srcSize"]))]
+        self.send(COMMAND, 0x66000000 | number)
+        for x, y in lasts:
+            self.send(0x80, xy(x - taken[0], y - taken[1]))
+
+    def ready(self, **registers: int) -> None:
+        """A clip that leaves everything, colours, and these registers."""
+        self.set(clip0Max=0x0FFF0FFF, colorFore=self.rng.getrandbits(32), colorBack=self.rng.getrandbits(32), **registers)
+
+    def targets(self, which: int) -> None:
+        """Each command onto targets of one format, in rows or tiles, of which all whole rows are there, or all but a byte,
+        or a byte more, or a part of the next row."""
+        depth, tiled, two = DEPTHS[which % 4], which // 4 % 2 == 1, which % 2
+        numbers, overs = (FILL, (LINE, POLYLINE)[two]), (None, which % 3 - 1, (which + 1) % 3 - 1)
+        self.ready()
+        if which // 8:
+            numbers, overs = (HOST, FROM_MEMORY[two]), overs[:2]
+            self.set(srcBaseAddr=self.near(0, 300), srcFormat=1 << 22 | self.rng.getrandbits(14))  # mono, packed
+        for over in overs:
+            surface = self.ending(depth, tiled, over)
+            lasts = self.lasts(surface)
+            size = xy(*self.box(lasts))
+            self.aim("dst", surface)
+            self.set(dstSize=size)
+            if STRETCH in numbers:
+                self.set(srcSize=size)
+            for number in numbers:
+                self.each_end(number, lasts)
+        _, _, pixels, rows = self.engine.rooms()  # a fill that reaches past all sides, of which the clip leaves a corner
+        self.set(clip0Min=xy(max(0, pixels - 9), max(0, rows - 4)), clip0Max=xy(pixels, rows), dstXY=xy(-1, -1),
+                 dstSize=xy(pixels + self.near(2, 9), rows + self.near(2, 9)))
+        self.send(COMMAND, 0x55000100 | FILL)
+
+    def sources(self, which: int) -> None:
+        """Copies and stretched copies from such surfaces, of one format; from mono ones in rows alone."""
+        depth, tiled = DEPTHS[which % 4] if which < 8 else 1, 4 <= which < 8
+        self.ready(dstBaseAddr=self.near(0, 99), dstFormat=FORMAT[depth if depth > 1 else (8, 32)[which % 2]] << 16 | 64,
+                   dstXY=xy(1, 1))
+        for over in (-1, 0, 1, None):
+            surface = self.ending(depth, tiled, over)
+            lasts = self.lasts(surface)
+            width, height = self.box(lasts)
+            self.aim("src", surface)
+            self.set(dstSize=xy(width, height), srcSize=xy(self.near(1, width), self.near(1, height)))
+            for number in FROM_MEMORY:
+                self.each_source(number, lasts)
+
+    def packings(self, which: int) -> None:
+        """Copies and stretched copies from packed sources at the end of the memory, whose stride field says less than the
+        packing, or more, or 0."""
+        depth, onto = ((1, 16), (8, 8), (24, 32), (32, 24))[which]
+        self.ready(dstFormat=FORMAT[onto] << 16 | 96, dstXY=xy(1, 1))
+        for number, packing in itertools.product(FROM_MEMORY, (1, 2, 3)):
+            width = self.near(9, 20) if depth == 1 else self.near(3, 5)
+            step, row = packed(width, depth, packing), row_bytes(width, depth)
+            field = (0, row if row < step else row - 1, step + self.near(1, 30))[(packing + which) % 3]
+            surface = Surface(self.size - step * self.near(3, 6) - self.near(0, step - 1), step, depth)
+            height = self.near(1, 3)
+            lasts = [*dict.fromkeys((max(x, width - 1), y) for x, y in self.lasts(surface)), (surface.columns(), height - 1)]
+            self.aim("src", surface, packing, field)
+            self.set(dstSize=xy(width, height), srcSize=xy(width, height))
+            self.each_source(number, lasts)
+
+    def formats(self, which: int) -> None:
+        """Every format of a target, in rows and tiles, under fills or lines; or of a source, packed in one way, in copies."""
+        self.ready(dstSize=xy(1, 1), srcSize=xy(1, 1), dstFormat=FORMAT[8 if which % 2 else 32] << 16 | 64)
+        self.send(COMMAND, 0x66000000 | (FILL, LINE, COPY, COPY, STRETCH, STRETCH)[which])
+        side, packing = ("dst", 0) if which < 2 else ("src", which - 2 << 22)
+        for tiled in (0, 1):
+            stride = self.near(1, 3) if tiled else self.near(32, 99)
+            self.set(**{side + "BaseAddr": tiled << 31 | self.near(500, 3000)})
+            for form in range(8 if tiled or side == "dst" else 16):
+                self.set(**{side + "Format": packing | form << 16 | stride})
+                self.send(0x80, xy(self.near(0, 5) if side == "dst" else 0, self.near(0, 5)))
+
+    def lengths(self, which: int) -> None:
+        """A memory of one length. Bases at its beginning, before its end, at it and past it, strides of 0, 1, a few and the
+        most, in rows and tiles; under fills of one pixel, and copies from one."""
+        form, end = FORMAT[DEPTHS[which % 4]] << 16, self.size & LAST_BASE
+        bases = (0, end - self.near(1, 9) & LAST_BASE, end, end + self.near(1, 9), LAST_BASE)
+        self.ready(dstSize=xy(1, 1), srcSize=xy(1, 1))
+        self.send(COMMAND, 0x55000000 | FILL)
+        for side in ("dst", "src"):
+            if side == "src":
+                bases = bases[1:]
+                self.set(dstBaseAddr=0, dstFormat=form | 4, dstXY=0)
+                self.send(COMMAND, 0x66000000 | FROM_MEMORY[which % 2])
+            for turn, (base, tiled) in enumerate(itertools.product(bases if self.size <= ROOM else bases[:2], (0, 1))):
+                stride = (0, 1, self.near(2, 9), 0x3FFF)[(turn + turn // 4 + which) % 4]
+                self.set(**{side + "BaseAddr": tiled << 31 | base, side + "Format": form | stride})
+                self.send(0x80, xy(self.near(0, 1), 0))
+        for name in SURFACES if self.size > ROOM else ():
+            self.send(OFFSETS[name], self.other(name))
+
+    def between(self, which: int) -> None:
+        """Fills by words and by runs, and between them one of the four registers changes, so that other places are on the
+        target: in rows, or now in rows and now in tiles."""
+        strides = (1, 3) if which % 2 else (20, 40)
+        self.ready(dstSize=xy(1, self.near(1, 2)) if which % 2 else xy(self.near(1, 3), self.near(1, 2)),
+                   dstFormat=FORMAT[DEPTHS[which]] << 16 | self.near(*strides), dstBaseAddr=self.size - self.near(50, 300))
+        self.send(COMMAND, 0x55000000 | FILL)
+        for turn in range(13):
+            target, name = self.engine.target(), SURFACES[turn % 4]
+            self.fills(self.lasts(target))
+            if name == "dstFormat":
+                word = FORMAT[self.pick(DEPTHS)] << 16 | self.near(*strides)
+            elif name != "dstBaseAddr":
+                word = self.other(name)
+            elif which % 2 and not target.tiled:
+                word = TILE_BIT | self.size - self.near(4200, 9000)
+            else:
+                word = self.near(0, 300) if which % 2 == 0 and self.chance(0.5) else self.size - self.near(50, 300)
+            self.set(**{name: word})
+
+    def fills(self, lasts: list[Pixel]) -> None:
+        """Fills that end at these pixels, or at the first of them, by runs up to each that is refused or by single words."""
+        width, height = halves(self.engine.registers["dstSize"])
+        places = [xy(x - width + 1, y - height + 1) for x, y in lasts]
+        if self.chance(0.4):
+            for place in places[:3]:
+                self.send(0x80, place)
+            return
+        taken = self.send_run(places)
+        if places[taken + 1:]:
+            self.send_run(places[taken + 1:])
+
+    def other(self, name: str) -> int:
+        """A word for one of the four registers with which other numbers would be kept, if there is one."""
+        for _ in range(99):
+            word = self.near(0, 1) << 31 | self.near(0, self.size) & LAST_BASE
+            if name.endswith("Format"):
+                form = self.pick([*(TARGET_BITS if name == "dstFormat" else SOURCE_BITS)])
+                word = self.near(0, 3) << 22 | form << 16 | self.near(1, 60)
+            if kept_with(self.engine, name, word) != self.engine.rooms():
+                break
+        return word
+
+    def left(self, side: str, number: int) -> dict[str, int]:
+        """What the stream of this number leaves in the registers of one side. Of 40 streams one leaves each format that has
+        no pixels, in rows and in tiles; the others have each stride and each way in which a base lies to the end."""
+        listed, forms = (SOURCE_BITS, 16) if side == "src" else (TARGET_BITS, 8)
+        kinds = [*itertools.product(range(forms), (0, 1))]
+        none = [(form, tiled) for form, tiled in kinds if form not in listed or tiled and listed[form] == 1]
+        place = random.Random(self.shuffled[side]).sample(range(40), 40)[number]
+        packing = self.near(0, 3) << 22 if side == "src" else 0
+        if place < len(none):
+            form, tiled = none[place]
+            stride, base = self.near(1, 3) if tiled else self.near(1, 40), self.near(0, self.size // 2)
+        else:
+            turn, tiled = divmod(place - len(none), 2)
+            some = [form for form in listed if (form, tiled) not in none]
+            form, stride = some[(turn + turn // 8) % len(some)], STRIDES[turn % len(STRIDES)][tiled]
+            unit = max(1, 4096 * stride if tiled else stride)
+            fit = min(4, (self.size - 1) // unit)
+            bases = [self.size - unit * self.near(min(2, fit), fit) - over for over in (-1, 0, 1)]
+            bases += [0, self.size, self.size - 1, self.size + self.near(1, 99), LAST_BASE]
+            base = max(0, bases[turn % 8])
+        return {side + "BaseAddr": tiled << 31 | base, side + "Format": packing | form << 16 | stride}
+
+    def left_waiting(self, number: int) -> dict[str, int]:
+        """The same with a source and a target that a host blit can have, packed."""
+        depth, tiled, unit = DEPTHS[number % 4], number % 2, 4096 if number % 2 else 40
+        return dict(dstBaseAddr=tiled << 31 | max(0, self.size - unit - self.near(0, 9)),
+                    dstFormat=FORMAT[depth] << 16 | (1 if tiled else self.near(4, 9)),
+                    srcBaseAddr=self.near(0, self.size // 2),
+                    srcFormat=number % 3 + 1 << 22 | FORMAT[depth if number % 2 else 1] << 16 | self.near(1, 9))
+
+    def leave(self, number: int) -> None:
+        """The end of the stream of this number, of 46: the four registers, the last of them by turns. That one is the last
+        write, or it is written again in vain on a memory without its last byte; or the pattern or other registers follow, or
+        all that. In the last six all four are written again in vain, while a host blit waits."""
+        how, waits = number // 8, number >= 40
+        words = self.left_waiting(number - 40) if waits else {**self.left("dst", number), **self.left("src", number)}
+        names = [SURFACES[(number + how + turn) % 4] for turn in range(4)]
+        self.set(**{name: words[name] for name in names})
+        if waits:
+            self.set(clip0Max=0, dstSize=xy(self.near(9, 40), self.near(2, 9)), srcXY=0)
+            self.send(COMMAND, 0xCC000100 | HOST)
+            for name in names:
+                self.send(OFFSETS[name], self.other(name))
+        if how in (1, 4):
+            self.send(OFFSETS[names[-1]], self.other(names[-1]), 1)
+        for _ in range(self.near(1, 2) if how in (2, 4) else 0):
+            self.send(self.pick((0x44, 0x48, 0x100 + 4 * self.near(0, 63))), self.rng.getrandbits(32))
+        others = [name for name in OFFSETS if name not in (*SURFACES, "command")]
+        for name in self.rng.sample(others, 2 if how in (3, 4) else 0):
+            self.set(**{name: self.rng.getrandbits(32)})
+
+
+def kept_with(engine: Engine, name: str, word: int) -> Rooms:
+    """The numbers that would be kept with this word in a register."""
+    asked = Engine(engine.length)
+    asked.registers = dict(engine.registers)
+    asked.store(name, word)
+    return asked.rooms()
+
+
 def note(tally: Counter, before: dict[str, int], waited: bool, offset: int, word: int, answer: Answer,
          after: Engine) -> None:
     """Counts what a write tried, for the table of coverage."""
     number, count, changed = answer
     tally["answers", number] += 1
-    asked = Engine(0)  # the registers as the command found them
+    asked = Engine(after.length)  # the registers as the command found them
     asked.registers = before
     if offset == COMMAND:
         asked.store("command", word)
@@ -1529,6 +1838,8 @@ def note_tiles(tally: Counter, asked: Engine, name: str, answer: Answer, length:
         note_spans(tally, asked, f"{number} {name}", nothing, [surface.span([*both]) for _, surface, *both in ends])
         tally["tiles at the end", f"{number} {name} from stride 0{nothing}"] += source.tiled and source.step == 0
     tally["tiles at the end", f"{number} {name} to stride 0{nothing}"] += target.tiled and target.step == 0
+    if number in (0, 7):
+        note_rooms(tally, asked, name, number, ends)
     for side, surface, first, last in ends:
         if surface.tiled and (kind not in (LINE, POLYLINE) or first == last):
             note_end(tally, side, surface, last, number, length)
@@ -1559,6 +1870,83 @@ def note_end(tally: Counter, side: str, surface: Surface, last: Pixel, number: i
         power = max((power for power in (24, 31, 32, 33) if high >> power), default=0)
         tally["tiles at the end", f"7 {side} past {f'2^{power}' if power else 'it'}"] += 1
         tally["tiles at the end", f"7 {side} one pixel past it"] += x > 0 and surface.has(x - 1, y, length)
+
+
+def note_rooms(tally: Counter, asked: Engine, name: str, number: int, ends: list[tuple[str, Surface, Pixel, Pixel]]) -> None:
+    """Counts how what is covered or taken ends, by what is kept of its surface. It was taken, or off this surface alone."""
+    off = [side for side, surface, *both in ends if not all(surface.has(*place, asked.length) for place in both)]
+    for side, surface, first, last in ends:
+        straight = first[0] == last[0] or first[1] == last[1]
+        if number == 7 and off != [side] or asked.number() in (LINE, POLYLINE) and not straight:
+            continue
+        kept = asked.rooms()[:2] if side == "source" else asked.rooms()[2:]
+        if side == "source" and bits(asked.registers["srcFormat"], 23, 22):
+            note_packed(tally, f"{number} {name}", surface.step, asked.registers["srcFormat"], last, kept)
+        else:
+            note_room(tally, f"{number} {name} {side}", surface, last, kept, asked.length)
+
+
+def note_room(tally: Counter, name: str, surface: Surface, last: Pixel, kept: Pixel, length: int) -> None:
+    """Counts one end of a command, by its last pixel."""
+    (x, y), (pixels, rows), there = last, kept, surface.has(0, last[1], length)
+    number, _, side = name.split()
+    if 0 <= x < pixels and y >= 0:
+        where = ("the last whole row" if y == rows - 1 else "" if y < rows else "a partial row" if there else
+                 "one row past all" if y == rows or surface.has(0, y - 1, length) else "")
+    else:
+        where = "one pixel past a row" if x == pixels and 0 <= y < rows else ""
+    layout, unit = ("tiles", 4096 * surface.step) if surface.tiled else ("rows", surface.step)
+    for label in filter(None, (where, "the last pixel of a row" if x == pixels - 1 and 0 <= y < rows else "")):
+        tally["rooms by commands", f"{name} in {layout}: {label}"] += 1
+        tally["rooms by formats", f"{number} {side} at {surface.depth} in {layout}: {label}"] += 1
+    over = over_a_multiple(length - surface.base, unit)
+    tally["rooms by bytes", f"{number} {side} in {layout}: {over}"] += over != ""
+
+
+def over_a_multiple(left: int, unit: int) -> str:
+    """How many bytes lie past the whole rows, where it is about none of them."""
+    if left <= 0 or unit < 3:
+        return ""
+    return {unit - 1: "one less than a multiple", 0: "a multiple", 1: "one more than a multiple"}.get(left % unit, "")
+
+
+def note_packed(tally: Counter, name: str, step: int, form: int, last: Pixel, kept: Pixel) -> None:
+    """Counts a packed source, which does not go by what is kept."""
+    field = bits(form, 13, 0)
+    says = "0" if field == 0 else "less" if field < step else "more" if field > step else "the same"
+    inside = "inside" if last[0] < kept[0] and last[1] < kept[1] else "past"
+    tally["rooms packed", f"{name}, the field says {says}: {inside} what is kept"] += 1
+    tally["rooms packed", f"{name[0]} packing {bits(form, 23, 22)}, the field says {says}"] += 1
+
+
+def note_left(tally: Counter, maker: RoomMaker) -> None:
+    """Counts what a stream leaves in the four registers and beside them, and with which write."""
+    registers, rooms, size = maker.engine.registers, maker.engine.rooms(), maker.size
+    tally["rooms left", maker.last] += 1
+    for name, number in zip(("source pixels", "source rows", "target pixels", "target rows"), rooms):
+        tally["numbers left", f"{maker.last}: {name}"] += number > 0
+    sides = ("source", "src", SOURCE_BITS, rooms[:2]), ("target", "dst", TARGET_BITS, rooms[2:])
+    for side, name, listed, (pixels, rows) in sides:
+        base, word = registers[name + "BaseAddr"], registers[name + "Format"]
+        at, stride, form, packing = base & LAST_BASE, bits(word, 13, 0), bits(word, 19, 16), bits(word, 23, 22)
+        layout = "tiles" if base & TILE_BIT else "rows"
+        tally["formats left", f"{side} {form} in {layout}"] += stride > 0
+        if form not in listed or layout == "tiles" and listed[form] == 1:
+            continue
+        how = "rows" if rows else "no rows" if pixels else "no pixels"
+        places = {0: "0", size - 1: "the last byte", size: "the end", LAST_BASE: "2^24 - 1"}
+        where = places.get(at, "past it" if at > size else "inside")
+        tally["formats left", f"{side} {form} in {layout}, {how}"] += 1
+        tally["strides left", f"{side} {stride if stride in (0, 1, 0x3FFF) else 'of a few'} in {layout}, {how}"] += 1
+        tally["bases left", f"{side} {where} in {layout}"] += 1
+        over = over_a_multiple(size - at, stride * (4096 if layout == "tiles" else 1))
+        tally["bases left", f"{side} {over} in {layout}"] += over != "" and rows > 0
+        if packing and layout == "tiles":
+            tally["packings left", f"{packing} in tiles"] += stride > 0
+        elif packing:
+            step = packed(halves(registers["dstSize"])[0], listed[form], packing)
+            other = room(at, step, listed[form], False, size) != (pixels, rows)
+            tally["packings left", f"{packing} in rows, other numbers"] += other
 
 
 def note_edges(tally: Counter, name: str, surface: Surface, first: Pixel, last: Pixel) -> None:
@@ -1704,9 +2092,16 @@ def planned(k: int, tally: Counter) -> Maker | None:
         plan, which = RUN_PLANNED[k - RUNS]
         maker = RunMaker(k, (26_000, 0, 3, LIMIT + 1)[which] if plan == "lengths" else 18_000, tally)
         getattr(maker, plan)(which)
-    elif LINES <= k:
+    elif LINES <= k < ROOMS:
         maker = LineMaker(k, 45_000, tally)
         maker.ends(k - LINES)
+    elif ROOMS <= k:
+        plan, which, size = ROOM_PLANNED[k - ROOMS]
+        maker = RoomMaker(k, size, tally)
+        getattr(maker, plan)(which)
+        if size <= ROOM:
+            maker.leave(5 * (k - ROOMS) % 46)
+        note_left(tally, maker)
     else:
         return None
     return maker

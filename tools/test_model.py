@@ -2,9 +2,9 @@
 document 000, host blit example 1, the line example, both stipple examples, the pattern's origin,
 the strides of packed sources and the order of mono pixels, at the lines that the comments give;
 points that the papers leave open, by the readings of docs/DECISIONS.md; and of the change
-requests the stretched copy, what really changed, the smear, runs of words, tiles and command packets, mostly worked
-out by hand, tiles also by the map that source document 002 prints. Then that the recorded streams hold every kind of run,
-and the recorded pieces every kind of packet and cut.
+requests the stretched copy, what really changed, the smear, runs of words, tiles, command packets and widths, mostly worked
+out by hand, tiles also by the map that source document 002 prints. Then that the recorded streams hold every kind of run
+and of surface that the memory ends in, and the recorded pieces every kind of packet and cut.
 Names in quotes in the comments are entries of docs/DECISIONS.md, with the section they stand under where two have one
 heading. Run: python3 test_model.py"""
 
@@ -17,11 +17,13 @@ import tempfile
 import unittest
 from collections import Counter
 from pathlib import Path
+from unittest.mock import patch
 
 import model
 import parcels
 import streams
-from model import OFFSETS, Engine, PacketReader, Surface, line_points, packet_kind, packet_offsets, packet_picture, play, row_view
+from model import (OFFSETS, REGISTERS, SOURCE_BITS, Engine, PacketReader, Surface, line_points, packet_kind, packet_offsets,
+                   packet_picture, play, room, row_view)
 from parcels import EXAMPLE, spelled
 
 TO8 = "0C=FFF0FFF 14=10020 60=1 64=2 "  # 8 bpp, stride 32, back 1, fore 2
@@ -992,6 +994,84 @@ class Packets(unittest.TestCase):
             self.assertEqual(packet_picture(data), f"refused {number} at {index}\n")
 
 
+def rooms(text, length=65536):
+    """The four numbers after some writes."""
+    return Card(text, length).engine.rooms()
+
+
+class Widths(unittest.TestCase):
+    def test_samples(self):
+        for text, numbers in (("14=40007", (2, 9362)), ("14=40007 10=FFFA", (2, 0)), ("10=80000000 14=50003", (96, 160)),
+                              ("14=20007", (0, 0)), ("14=40000", (0, 0))):
+            self.assertEqual(rooms(text), (0, 0, *numbers))
+            source = " ".join({"14": "54", "10": "34"}[write[:2]] + write[2:] for write in text.split())
+            self.assertEqual(rooms(source), (*numbers, 0, 0))
+        self.assertEqual(rooms("54=4"), (32, 16384, 0, 0))
+        self.assertEqual(rooms("54=4 34=80000000"), (0,) * 4)
+
+    def test_partial_row(self):  # pixel (0, 2) has bytes 14 to 16
+        fill = OPEN + "14=40007 68=10001 70=CC000005 80=10001+1 80=20000"
+        self.assertEqual(rooms(fill + "+1", 17), (0, 0, 2, 2))
+        self.assertEqual(rooms(fill + "!7", 16), (0, 0, 2, 2))
+        tiles = "10=80000000 14=10001 80=1F007F+1 80=210001"
+        self.assertEqual(rooms(DOT + "70=CC000005 " + tiles + "+1 80=210002!7", 4096 + 130), (0, 0, 128, 32))
+
+    def test_formats(self):
+        none = (0, 0)
+        for form in range(16):
+            rows = {1: (40, 1638), 3: (20, 1638), 4: (13, 1638), 5: (10, 1638)}.get(form, none)
+            tiles = {1: (256, 256), 3: (128, 256), 4: (85, 256), 5: (64, 256)}.get(form, none)
+            if form < 8:
+                self.assertEqual(rooms(f"14={form}0028"), none + rows)
+                self.assertEqual(rooms(f"10=80000000 14={form}0002"), none + tiles)
+            for packing in range(4):  # of no effect
+                word = packing << 22 | form << 16
+                self.assertEqual(rooms(f"68=50003 54={word | 40:X}"), ((320, 1638) if form == 0 else rows) + none)
+                self.assertEqual(rooms(f"68=50003 34=80000000 54={word | 2:X}"), tiles + none)
+        self.assertEqual(rooms("14=FFF98007 54=FF01C007"), (7, 9362, 7, 9362))  # bits that are not kept
+
+    def test_bases(self):
+        for base, rows in ((0, 14), (10, 12), (93, 1), (94, 0), (100, 0), (101, 0), (2 ** 24 - 1, 0)):
+            self.assertEqual(rooms(f"14=10007 10={base:X} 54=7 34={base:X}", 100), (56, rows, 7, rows))
+        for left, rows in ((-1, 0), (0, 0), (8191, 0), (8192, 32), (8193, 32), (16383, 32), (16384, 64)):
+            base = f"{1 << 31 | 20000 - left:X}"
+            self.assertEqual(rooms(f"14=40002 10={base} 54=30002 34={base}", 20000), (128, rows, 85, rows))
+
+    def test_limits(self):
+        self.assertEqual(rooms("14=10001 54=10001", model.LIMIT), (1, model.LIMIT, 1, model.LIMIT))
+        self.assertEqual(rooms("10=80000000 14=13FFF 54=3FFF", model.LIMIT), (131064, 1024, 2097024, 0))
+        self.assertEqual(rooms("10=80000000 14=100FF", model.LIMIT)[2:], (32640, 512))
+        self.assertEqual(rooms("14=10001!1 54=1!1", model.LIMIT + 1), (0,) * 4)
+
+    def test_after_any_write(self):
+        card = Card("10=64 14=10028 34=C8 54=400004", 1000)
+        for text in ("100=FFFFFFFF 44=1 1FC=2", "64=1 58=30003 5C=1 6C=2 40=FFF 38=1", OPEN + "68=20008 5C=0 6C=0",
+                     "74=0!2 70=108!4", "70=CC000105+16 80=20002+16 80=FF0000!7", "70=100 80=7", "70=CC000103",
+                     "10=0!3 14=0!3 34=0!3 54=0!3 100=0!3", "80=FFFF+16", "6C=0 70=CC000503 70=CC000000"):
+            self.assertEqual(card.do(text).engine.rooms(), (32, 200, 40, 22))
+        for offset, word in ((0x10, 0), (0x14, 0), (0x34, 0), (0x54, 0), (0x100, 0)):
+            self.assertEqual(card.engine.write(bytearray(999), offset, word), (1, 0, 0))
+        self.assertEqual(card.engine.rooms(), (32, 200, 40, 22))
+        self.assertEqual(streams.register_bytes(card.engine)[-17:], b"\0" + struct.pack("<4I", 32, 200, 40, 22))
+
+    def test_inside_is_on_the_surface(self):
+        """Pixels below both numbers are on the surface. The next row, or the last of the next row of tiles, is not all in
+        memory; so it lacks a pixel, unless its last bytes are no pixel's."""
+        small = itertools.product((1, 8, 16, 24, 32), range(1, 9), (False,), range(4), range(0, 40, 3))
+        tiles = [(depth, stride, True, base, 4096 * stride + more) for depth, stride, base, more in itertools.product(
+            (8, 16, 24, 32), (1, 2), (0, 5), (-1, 0, 4, 5, 6, 133, 4000, 4096))]
+        past = Counter()
+        for depth, stride, tiled, base, length in itertools.chain(small, tiles):
+            surface, (pixels, rows) = Surface(base, stride, depth, tiled), room(base, stride, depth, tiled, length)
+            self.assertEqual(pixels, surface.columns())
+            self.assertTrue(all(surface.has(x, y, length) for y in range(rows) for x in range(pixels)))
+            row, whole = rows + (31 if tiled else 0), pixels * depth == 8 * stride * (128 if tiled else 1)
+            more = all(surface.has(x, row, length) for x in range(pixels))
+            self.assertTrue(not (whole and more), surface)
+            past[whole, more] += 1
+        self.assertTrue(all(past[kind] > 9 for kind in ((True, False), (False, False), (False, True))), past)
+
+
 COMMANDS = ("copy", "stretch", "host", "fill", "line", "polyline")
 PAIRS = [(source, target) for target in streams.DEPTHS for source in streams.FORMAT if model.allowed(source, target)]
 
@@ -1032,7 +1112,7 @@ def kinds_of_runs():
 class RecordedLines(unittest.TestCase):
     def test_every_direction(self):  # each of 81 x 81 ends by each of the four kinds, taken or off the surface
         tally, ends = Counter(), Counter()
-        for k in range(streams.LINES, streams.STREAMS):
+        for k in range(streams.LINES, streams.ROOMS):
             records = streams.build(k, tally).records
             ends.update(((k - streams.LINES) // 9, word) for offset, word, kind in records if offset == 0x80)
         places = {streams.xy(x, y) for x in range(81) for y in range(81)}
@@ -1042,6 +1122,127 @@ class RecordedLines(unittest.TestCase):
         self.assertTrue(all(tally["lines", slope] > 2000 for slope in slopes))
         self.assertTrue(tally["refusals", "7 line by launch"] > 100 and tally["refusals", "7 polyline by launch"] > 50)
         self.assertEqual(tally["lines", "stipple, illegal phase"], 0)
+
+
+def kinds_of_rooms():
+    """What the recorded streams must hold on surfaces that the memory ends in, by the names in their tally."""
+    ends = [(0, "the last whole row"), (0, "a partial row"), (0, "the last pixel of a row"), (7, "a partial row"),
+            (7, "one row past all"), (7, "one pixel past a row")]
+    for (number, end), layout in itertools.product(ends, ("rows", "tiles")):
+        yield from (("rooms by commands", f"{number} {name} target in {layout}: {end}") for name in COMMANDS)
+        yield from (("rooms by commands", f"{number} {name} source in {layout}: {end}") for name in ("copy", "stretch"))
+        for depth, side in itertools.product(streams.DEPTHS, ("source", "target")):
+            yield "rooms by formats", f"{number} {side} at {depth} in {layout}: {end}"
+    yield from (("rooms by formats", f"{number} source at 1 in rows: {end}") for number, end in ends)
+    multiples = ("one less than a multiple", "a multiple", "one more than a multiple")
+    for side, layout, multiple in itertools.product(("source", "target"), ("rows", "tiles"), multiples):
+        yield from (("rooms by bytes", f"{number} {side} in {layout}: {multiple}") for number in (0, 7))
+        yield "bases left", f"{side} {multiple} in {layout}"
+    for name, says, number in itertools.product(("copy", "stretch"), ("0", "less", "more"), (0, 7)):
+        for where in ("past",) if says == "0" else ("past", "inside"):
+            yield "rooms packed", f"{number} {name}, the field says {says}: {where} what is kept"
+    for packing, says, number in itertools.product((1, 2, 3), ("0", "less", "more"), (0, 7)):
+        yield "rooms packed", f"{number} packing {packing}, the field says {says}"
+    for name, number in itertools.product(streams.SURFACES, (0, 1, 3)):
+        yield from ((group, f"{number} {name}, other numbers") for group in ("rooms kept", "rooms left"))
+    for what, side, number in itertools.product(("pattern", "a register"), ("source", "target"), ("pixels", "rows")):
+        yield "numbers left", f"0 {what}: {side} {number}"
+    for name, *way in itertools.product(streams.SURFACES, ("run", "word"), ("run", "word")):
+        yield "rooms between fills", f"{name}, {' then '.join(way)}"
+    bases = ("0", "inside", "the last byte", "the end", "past it", "2^24 - 1")
+    for side, layout in itertools.product(("source", "target"), ("rows", "tiles")):
+        yield from (("formats left", f"{side} {form} in {layout}") for form in range(16 if side == "source" else 8))
+        yield from (("formats left", f"{side} {form} in {layout}, rows") for form in model.TARGET_BITS)
+        yield from (("bases left", f"{side} {base} in {layout}") for base in bases)
+        yield from (("strides left", f"{side} {how}") for how in (
+            f"0 in {layout}, no pixels", f"1 in {layout}, rows", f"of a few in {layout}, rows",
+            f"16383 in {layout}, {'rows' if layout == 'rows' else 'no rows'}"))
+    yield "formats left", "source 0 in rows, rows"
+    for packing in (1, 2, 3):
+        yield from (("packings left", f"{packing} in {how}") for how in ("rows, other numbers", "tiles"))
+
+
+def writes_of(maker):
+    """The writes of a stream with the numbers of their answers, without its runs."""
+    records = iter(maker.records)
+    for (first, second, kind), answer in zip(records, maker.answers):
+        if kind == 2:
+            for _ in range(-(-first // 3)):
+                next(records)
+        else:
+            yield first, second, answer[0]
+
+
+def kept_by(maker, stores):
+    """The four numbers at the end of a stream where they are worked out anew, for one side, only as this says."""
+    engine, kept = Engine(maker.size), [0] * 4
+    for offset, word, number in writes_of(maker):
+        name = REGISTERS[offset][0] if offset in REGISTERS else ""
+        if name in streams.SURFACES:
+            part = slice(0, 2) if name.startswith("src") else slice(2, 4)
+            if stores(name, number):
+                kept[part] = streams.kept_with(engine, name, word)[part]
+            if number == 0:
+                engine.store(name, word)
+    return tuple(kept)
+
+
+def by_packing(engine):
+    """The four numbers, those of a packed source by its step."""
+    source, kept = engine.source(), engine.rooms()
+    if source is None:
+        return kept
+    return *room(source.base, source.step, source.depth, source.tiled, engine.length), *kept[2:]
+
+
+WRONG_ROOMS = (  # each in the place of model.room
+    lambda base, *rest: room(0, *rest),  # no base
+    lambda base, *rest: room(base + 1, *rest),  # a byte less
+    lambda *given: room(*given[:4], given[4] + 1),  # a byte more
+    lambda base, stride, *rest: room(max(0, base - stride * (4096 if rest[1] else 1)), stride, *rest),  # a row more
+    lambda base, stride, depth, *rest: room(base, stride, depth or 1, *rest),  # unlisted is mono
+    lambda base, stride, depth, *rest: room(base, stride, depth or 8, *rest),  # unlisted is 8 bpp
+    lambda base, stride, depth, *rest: room(base, stride, 32 if depth == 24 else depth, *rest),  # 24 bpp in four bytes
+    lambda base, stride, depth, tiled, length: room(base, stride, depth, tiled and depth != 1, length),  # mono tiles
+    lambda base, stride, depth, tiled, length: room(base, stride, depth, False, length),  # no tiles
+    lambda *given: (room(*given)[0], room(*given)[1] // (32 if given[3] else 1)),  # rows of tiles
+    lambda *given: room(*given) if room(*given)[1] else (0, 0),  # no rows, no pixels
+    lambda *given: room(*given) if room(*given)[0] else (0, 0),  # no pixels, no rows
+    lambda base, stride, *rest: room(base, stride % 1024, *rest),  # a short stride
+)
+
+
+class RecordedRooms(unittest.TestCase):
+    @classmethod
+    def setUpClass(cls):
+        cls.tally = Counter()
+        cls.makers = [streams.build(k, cls.tally) for k in range(streams.ROOMS, streams.STREAMS)]
+        cls.right = [maker.engine.rooms() for maker in cls.makers]
+
+    def test_every_kind(self):
+        self.assertEqual([kind for kind in kinds_of_rooms() if self.tally[kind] == 0], [])
+        self.assertTrue(all(20 <= len(maker.answers) <= 80 for maker in self.makers))
+        sizes = {maker.size for maker in self.makers}
+        self.assertTrue({16, 17, 4095, 4096, 8191, 65536, model.LIMIT, model.LIMIT + 1} <= sizes)
+
+    def differ(self, kept):
+        """In how many streams these are not the numbers at the end."""
+        return sum(kept(maker) != numbers for maker, numbers in zip(self.makers, self.right))
+
+    def test_wrong_stores_show(self):  # a register that is forgotten, or one whose refused words are looked at
+        self.assertEqual(self.differ(lambda maker: kept_by(maker, lambda _, number: number == 0)), 0)
+        for one in streams.SURFACES:
+            self.assertTrue(self.differ(lambda maker: kept_by(maker, lambda name, number: number == 0 and name != one)) > 3)
+            for refused in (1, 3):
+                late = lambda name, number: number == 0 or number == refused and name == one
+                self.assertTrue(self.differ(lambda maker: kept_by(maker, late)) > 0, (one, refused))
+
+    def test_wrong_numbers_show(self):
+        by_three_bits = {form: SOURCE_BITS.get(form % 8) for form in range(16)}
+        for place, wrong in enumerate((*WRONG_ROOMS, by_three_bits)):
+            with patch.object(model, "SOURCE_BITS" if wrong is by_three_bits else "room", wrong):
+                self.assertTrue(self.differ(lambda maker: maker.engine.rooms()) > 0, place)
+        self.assertTrue(self.differ(lambda maker: by_packing(maker.engine)) > 3)
 
 
 def kinds_of_parcels():

@@ -2,6 +2,7 @@
 use bank::Bank;
 use paint::Tally;
 use registers::Regs;
+use rooms::Rooms;
 ghost use mathlib.Core.Path.{_≡_};
 ghost use mathlib.Core.List.{List};
 ghost use Prim.Native.Nat.{ℕ, _+_, _^_, _≤_, min};
@@ -109,10 +110,10 @@ fn unpainted(number: u32, ends: Ends, blit: Blit) -> Act
     }
 }
 
-fn fill(regs: Regs, pattern: &[u8; 256], blit: Blit, mem: &mut [u8]) -> Act
+fn fill(regs: Regs, pattern: &[u8; 256], blit: Blit, mem: &mut [u8], rooms: Rooms) -> Act
     ensures { λ r. ⌜ deed (bankOf regs (now (pattern .entry))) r (now (mem .exit)) ≡ judged (filling (bankOf regs (now (pattern .entry))) blit (now (mem .entry))) (bankOf regs (now (pattern .entry))) blit (now (mem .entry)) ⌝ }
 {
-    let verdict = table::fill_verdict(mem.len(), regs);
+    let verdict = table::fill_verdict(mem.len(), regs, rooms);
     if verdict != 0 {
         return unpainted(verdict, ends_of(regs), blit);
     }
@@ -128,10 +129,10 @@ fn fill(regs: Regs, pattern: &[u8; 256], blit: Blit, mem: &mut [u8]) -> Act
     }
 }
 
-fn copy(regs: Regs, pattern: &[u8; 256], blit: Blit, mem: &mut [u8]) -> Act
+fn copy(regs: Regs, pattern: &[u8; 256], blit: Blit, mem: &mut [u8], rooms: Rooms) -> Act
     ensures { λ r. ⌜ deed (bankOf regs (now (pattern .entry))) r (now (mem .exit)) ≡ judged (copying (bankOf regs (now (pattern .entry))) blit (now (mem .entry))) (bankOf regs (now (pattern .entry))) blit (now (mem .entry)) ⌝ }
 {
-    let verdict = table::copy_verdict(mem.len(), regs);
+    let verdict = table::copy_verdict(mem.len(), regs, rooms);
     if verdict != 0 {
         return unpainted(verdict, ends_of(regs), blit);
     }
@@ -149,10 +150,10 @@ fn copy(regs: Regs, pattern: &[u8; 256], blit: Blit, mem: &mut [u8]) -> Act
     }
 }
 
-fn stretch(regs: Regs, pattern: &[u8; 256], blit: Blit, mem: &mut [u8]) -> Act
+fn stretch(regs: Regs, pattern: &[u8; 256], blit: Blit, mem: &mut [u8], rooms: Rooms) -> Act
     ensures { λ r. ⌜ deed (bankOf regs (now (pattern .entry))) r (now (mem .exit)) ≡ judged (stretching (bankOf regs (now (pattern .entry))) blit (now (mem .entry))) (bankOf regs (now (pattern .entry))) blit (now (mem .entry)) ⌝ }
 {
-    let verdict = table::stretch_verdict(mem.len(), regs);
+    let verdict = table::stretch_verdict(mem.len(), regs, rooms);
     if verdict != 0 {
         return unpainted(verdict, ends_of(regs), blit);
     }
@@ -191,10 +192,10 @@ fn draw(regs: Regs, pattern: &[u8; 256], blit: Blit, mem: &mut [u8]) -> Act
 }
 
 // Opens the host blit that the registers hold.
-fn begin(regs: Regs, blit: Blit, mem: &[u8]) -> Act
+fn begin(regs: Regs, blit: Blit, mem: &[u8], rooms: Rooms) -> Act
     ensures { λ r. ⌜ ((p : List ℕ) → deed (bankOf regs p) r (now (mem .entry)) ≡ judged (opening (bankOf regs p) (now (mem .entry))) (bankOf regs p) blit (now (mem .entry))) ⌝ }
 {
-    let verdict = table::host_verdict(mem.len(), regs);
+    let verdict = table::host_verdict(mem.len(), regs, rooms);
     if verdict != 0 {
         return unpainted(verdict, ends_of(regs), blit);
     }
@@ -251,10 +252,10 @@ fn paint_words(regs: Regs, pattern: &[u8; 256], blit: Blit, mem: &mut [u8], word
 }
 
 // A word of data for the host blit that the registers hold, opened or not yet.
-fn feed(regs: Regs, pattern: [u8; 256], blit: Blit, mem: &mut [u8], word: u32) -> Act
+fn feed(regs: Regs, pattern: [u8; 256], blit: Blit, mem: &mut [u8], word: u32, rooms: Rooms) -> Act
     ensures { λ r. ⌜ deed (bankOf regs pattern) r (now (mem .exit)) ≡ judged (feeding (bankOf regs pattern) blit (now (mem .entry)) word) (bankOf regs pattern) blit (now (mem .entry)) ⌝ }
 {
-    let verdict = table::host_verdict(mem.len(), regs);
+    let verdict = table::host_verdict(mem.len(), regs, rooms);
     if verdict != 0 {
         return unpainted(verdict, ends_of(regs), blit);
     }
@@ -286,16 +287,16 @@ fn feed(regs: Regs, pattern: [u8; 256], blit: Blit, mem: &mut [u8], word: u32) -
 }
 
 // The command that the registers hold.
-pub fn carry(regs: Regs, pattern: &[u8; 256], blit: Blit, mem: &mut [u8]) -> Act
+pub fn carry(regs: Regs, pattern: &[u8; 256], blit: Blit, mem: &mut [u8], rooms: Rooms) -> Act
     ensures { λ r. ⌜ deed (bankOf regs (now (pattern .entry))) r (now (mem .exit)) ≡ judged (carrying (bankOf regs (now (pattern .entry))) blit (now (mem .entry))) (bankOf regs (now (pattern .entry))) blit (now (mem .entry)) ⌝ }
 {
     let number = regs.command % 16;
     match number {
         0 => unpainted(0, ends_of(regs), blit),
-        1 => copy(regs, pattern, blit, mem),
-        2 => stretch(regs, pattern, blit, mem),
-        3 => begin(regs, blit, mem),
-        5 => fill(regs, pattern, blit, mem),
+        1 => copy(regs, pattern, blit, mem, rooms),
+        2 => stretch(regs, pattern, blit, mem, rooms),
+        3 => begin(regs, blit, mem, rooms),
+        5 => fill(regs, pattern, blit, mem, rooms),
         6 | 7 => draw(regs, pattern, blit, mem),
         _ => unpainted(4, ends_of(regs), blit),
     }
@@ -317,23 +318,23 @@ fn aim(regs: Regs, word: u32) -> Regs
 }
 
 // The command started with a launch write's word. A host blit takes its words by `feed`.
-pub fn start(regs: Regs, pattern: &[u8; 256], blit: Blit, mem: &mut [u8], word: u32) -> Act
+pub fn start(regs: Regs, pattern: &[u8; 256], blit: Blit, mem: &mut [u8], word: u32, rooms: Rooms) -> Act
     ensures { λ r. ⌜ deed (bankOf regs (now (pattern .entry))) r (now (mem .exit)) ≡ judged (carrying (aimed (bankOf regs (now (pattern .entry))) word) blit (now (mem .entry))) (aimed (bankOf regs (now (pattern .entry))) word) blit (now (mem .entry)) ⌝ }
 {
     let next = aim(regs, word);
-    carry(next, pattern, blit, mem)
+    carry(next, pattern, blit, mem, rooms)
 }
 
 // A launch write: data for a host blit, or the command started with its word.
-pub fn launch(regs: Regs, pattern: [u8; 256], blit: Blit, mem: &mut [u8], word: u32) -> Act
+pub fn launch(regs: Regs, pattern: [u8; 256], blit: Blit, mem: &mut [u8], word: u32, rooms: Rooms) -> Act
     ensures { λ r. ⌜ deed (bankOf regs pattern) r (now (mem .exit)) ≡ judged (starting (bankOf regs pattern) blit (now (mem .entry)) word) (aimed (bankOf regs pattern) word) blit (now (mem .entry)) ⌝ }
 {
     let number = regs.command % 16;
     if number == 3 {
-        return feed(regs, pattern, blit, mem, word);
+        return feed(regs, pattern, blit, mem, word, rooms);
     }
     let lent = pattern;
-    start(regs, &lent, blit, mem, word)
+    start(regs, &lent, blit, mem, word, rooms)
 }
 
 // What became of words of data: the row that refuses them, or 0; the host blit after those that were used; their tally, and how many they are.
@@ -395,11 +396,11 @@ fn undrawn(number: u32, blit: Blit, used: usize) -> Fed
 
 // Words of data for the host blit that the registers hold, opened or not yet: those up to its end, with one verdict for all of them. A blit that needs no
 // words uses up one.
-pub fn feed_run(bank: Bank, blit: Blit, mem: &mut [u8], words: &[u32]) -> Fed
+pub fn feed_run(bank: Bank, blit: Blit, mem: &mut [u8], words: &[u32], rooms: Rooms) -> Fed
     ensures { λ r. ⌜ fed r (now (mem .exit)) ≡ feedingRun bank blit (now (mem .entry)) (now (words .entry)) ⌝ }
 {
     let regs = bank.regs;
-    let verdict = table::host_verdict(mem.len(), regs);
+    let verdict = table::host_verdict(mem.len(), regs, rooms);
     if verdict != 0 {
         return undrawn(verdict, blit, 0);
     }

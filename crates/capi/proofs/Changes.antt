@@ -1,7 +1,7 @@
 -- What a write leaves: but for some words of the state, the bytes of the engine before it are those of the engine after it.
 -- Assumes nothing.
 use mathlib.Core.Path.{_≡_, refl, sym, ap, _∙_}
-use mathlib.Core.Bool.{Bool, true, false, cond, true≢false}
+use mathlib.Core.Bool.{true, false, cond, true≢false}
 use mathlib.Core.List.{List, [], _∷_}
 use Prim.Native.Nat.{ℕ, _+_, _*_, _/_, _^_}
 use native.Mathlib.Omega.{arith}
@@ -15,8 +15,9 @@ use Rattle.registers.specs.Regs.{putReg, getReg}
 use Rattle.registers.specs.Kept.{kept, oneOf}
 use Rattle.registers.specs.Offsets.{placeOf}
 use Rattle.bank.specs.Bank.{stored}
-use Rattle.registers.proofs.Arms.{Each}
+use Rattle.registers.proofs.Arms.{Each, none-of}
 use Rattle.registers.proofs.RegsLaws.{registers, get-put, get-nowhere}
+use Rattle.rooms.specs.Room.{ofTarget, ofSource}
 use Rattle.host.specs.Host.{wordsOf}
 use Rattle.command.specs.Decode.{feedOf}
 use Rattle.cuts.specs.Cut.{bit, number}
@@ -46,27 +47,15 @@ like-laid os e after h w =
 
 -- ---- a register after a store into another
 
-first-no : (t x : Bool) → cond t true x ≡ false → t ≡ false
-first-no true x h = h
-first-no false x h = refl
-
-rest-no : (t x : Bool) → cond t true x ≡ false → x ≡ false
-rest-no true x h = absurd (true≢false h)
-rest-no false x h = h
-
-pub none-of : (a : ℕ) (l : List ℕ) → oneOf a l ≡ false → Each (λ b. eqb a b ≡ false) l
-none-of a [] h = tt
-none-of a (b ∷ l) h = (first-no (eqb a b) (oneOf a l) h, none-of a l (rest-no (eqb a b) (oneOf a l) h))
-
 get-other : (o v a : ℕ) (r : Regs) → (o ≡ a → ⊥) → getReg a (putReg o v r) ≡ getReg a r
 get-other o v a r n =
     by-test (λ t. oneOf a registers ≡ t → getReg a (putReg o v r) ≡ getReg a r) (oneOf a registers)
     (λ _ e. get-put o v r a e ∙ ap (λ t. cond t v (getReg a r)) (ne-eqb o a n))
     (λ _ e. get-nowhere a (putReg o v r) (none-of a registers e) ∙ sym (get-nowhere a r (none-of a registers e))) refl
 
-slot-other : (e : Engine) (o d a : ℕ) → (o ≡ a → ⊥) → slot e a ≡ slot (storedIn e o d) a
+slot-other : (e : Engine) (o d a : ℕ) → (o ≡ a → ⊥) → storedIn e o d .rooms ≡ e .rooms → slot e a ≡ slot (storedIn e o d) a
 unfolding slot storedIn stored
-slot-other e o d a n = rw (get-other o (kept o d) a (e .bank .regs) n)
+slot-other e o d a n same = rw (same, get-other o (kept o d) a (e .bank .regs) n)
 
 -- ---- the ways an engine changes
 
@@ -76,10 +65,33 @@ like-same e = record { pattern = refl; slots = λ o f. refl }
 pub like-then : {os : List ℕ} {a b c : Engine} → Like os a b → Like os b c → Like os a c
 like-then h k = record { pattern = h .pattern ∙ k .pattern; slots = λ o f. h .slots o f ∙ k .slots o f }
 
-pub like-stored : (os : List ℕ) (e : Engine) (o d : ℕ) → oneOf o os ≡ true → Like os e (storedIn e o d)
+pub like-stored : (os : List ℕ) (e : Engine) (o d : ℕ) → oneOf o os ≡ true → storedIn e o d .rooms ≡ e .rooms → Like os e (storedIn e o d)
 unfolding storedIn stored
-like-stored os e o d t =
-    record { pattern = refl; slots = λ a f. slot-other e o d a (λ q. true≢false (sym t ∙ ap (λ x. oneOf x os) q ∙ f)) }
+like-stored os e o d t same =
+    record { pattern = refl; slots = λ a f. slot-other e o d a (λ q. true≢false (sym t ∙ ap (λ x. oneOf x os) q ∙ f)) same }
+
+-- by a store into a register of a surface: that word, and those of what is kept of the surface
+abbrev pub targetSlots : ℕ → List ℕ
+targetSlots o = o ∷ 0x84 ∷ 0x88 ∷ []
+
+abbrev pub sourceSlots : ℕ → List ℕ
+sourceSlots o = o ∷ 0x7c ∷ 0x80 ∷ []
+
+target-slot : (e : Engine) (o d a : ℕ) → ofTarget o ≡ true → Each (λ b. eqb a b ≡ false) (targetSlots o) → slot e a ≡ slot (storedIn e o d) a
+unfolding slot storedIn stored
+target-slot e o d a t (eo, (e84, (e88, _))) = rw (t, e84, e88, get-other o (kept o d) a (e .bank .regs) (λ q. eqb-false a o eo (sym q)))
+
+source-slot : (e : Engine) (o d a : ℕ) → ofTarget o ≡ false → ofSource o ≡ true → Each (λ b. eqb a b ≡ false) (sourceSlots o) → slot e a ≡ slot (storedIn e o d) a
+unfolding slot storedIn stored
+source-slot e o d a t f (eo, (e7c, (e80, _))) = rw (t, f, e7c, e80, get-other o (kept o d) a (e .bank .regs) (λ q. eqb-false a o eo (sym q)))
+
+pub like-target : (e : Engine) (o d : ℕ) → ofTarget o ≡ true → Like (targetSlots o) e (storedIn e o d)
+unfolding storedIn stored
+like-target e o d t = record { pattern = refl; slots = λ a f. target-slot e o d a t (none-of a (targetSlots o) f) }
+
+pub like-source : (e : Engine) (o d : ℕ) → ofTarget o ≡ false → ofSource o ≡ true → Like (sourceSlots o) e (storedIn e o d)
+unfolding storedIn stored
+like-source e o d t f = record { pattern = refl; slots = λ a g. source-slot e o d a t f (none-of a (sourceSlots o) g) }
 
 -- by a command: these words of the state
 abbrev Led : Engine → Engine → Type 0
@@ -94,11 +106,11 @@ led-blit e b = record { pattern = refl; slots = λ a f. blit-slot e b a (none-of
 
 led-rect : (e : Engine) → Led e (afterRect e)
 unfolding rectEnded storedIn
-led-rect e = like-stored commandSlots e 0x6c _ refl
+led-rect e = like-stored commandSlots e 0x6c _ refl refl
 
 led-line : (e : Engine) (style : ℕ) → Led e (afterLine e style)
 unfolding lineEnded storedIn
-led-line e style = like-then (like-stored commandSlots e 0x40 style refl) (like-stored commandSlots (storedIn e 0x40 style) 0x5c _ refl)
+led-line e style = like-then (like-stored commandSlots e 0x40 style refl refl) (like-stored commandSlots (storedIn e 0x40 style) 0x5c _ refl refl)
 
 -- ---- every command
 
@@ -144,21 +156,21 @@ module _ (b : Engine) where
       by-number (λ (d : Deed). Leaves b (judging old e m d)) (number (regs e)) _ _ _ _ _ _ _ (λ _. h) (λ _. copied-led old e m g h) (λ _. stretched-led old e m g h)
       (λ _. begun-led old e m g h) (λ _. filled-led old e m g h) (λ _ _. lined-led old e m g h) (λ _. g)
 
-led-stored : (e : Engine) (o d : ℕ) → oneOf o commandSlots ≡ true → Led e (storedIn e o d)
+led-stored : (e : Engine) (o d : ℕ) → oneOf o commandSlots ≡ true → storedIn e o d .rooms ≡ e .rooms → Led e (storedIn e o d)
 led-stored = like-stored commandSlots
 
 launched-led : (e : Engine) (m : List ℕ) (d : ℕ) → Leaves e (launched e m d)
 unfolding launched starting storedIn
 launched-led e m d =
     by-number (λ (k : Deed). Leaves e (judging e e m k)) (number (regs e)) _ _ _ _ _ _ _ (λ _. like-same e)
-    (λ _. copied-led e e (storedIn e 0x5c d) m (like-same e) (led-stored e 0x5c d refl))
-    (λ _. stretched-led e e (storedIn e 0x5c d) m (like-same e) (led-stored e 0x5c d refl)) (λ _. fed-led e e m d (like-same e)) (λ _. filled-led e e (storedIn e 0x6c d) m (like-same e) (led-stored e 0x6c d refl))
-    (λ _ _. lined-led e e (storedIn e 0x6c d) m (like-same e) (led-stored e 0x6c d refl)) (λ _. like-same e)
+    (λ _. copied-led e e (storedIn e 0x5c d) m (like-same e) (led-stored e 0x5c d refl refl))
+    (λ _. stretched-led e e (storedIn e 0x5c d) m (like-same e) (led-stored e 0x5c d refl refl)) (λ _. fed-led e e m d (like-same e)) (λ _. filled-led e e (storedIn e 0x6c d) m (like-same e) (led-stored e 0x6c d refl refl))
+    (λ _ _. lined-led e e (storedIn e 0x6c d) m (like-same e) (led-stored e 0x6c d refl refl)) (λ _. like-same e)
 
 commanded-led : (e : Engine) (m : List ℕ) (d : ℕ) → Leaves e (commanded e m d)
-unfolding commanded
+unfolding commanded storedIn
 commanded-led e m d =
-    let h = like-then (led-stored e 0x70 d refl) (led-blit (storedIn e 0x70 d) _) in
+    let h = like-then (led-stored e 0x70 d refl refl) (led-blit (storedIn e 0x70 d) _) in
     picked (Leaves e) (bit d 8) _ _ (λ _. carried-led e e (idle (storedIn e 0x70 d)) m (like-same e) h) (λ _. h)
 
 -- ---- offsets that are neither a plain register's nor the pattern's

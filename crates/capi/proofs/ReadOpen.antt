@@ -15,7 +15,7 @@ use Rattle.registers.specs.Regs.{getReg}
 use Rattle.registers.specs.Kept.{oneOf}
 use Rattle.registers.specs.Offsets.{placeOf}
 use Rattle.bank.specs.Bank.{getWord, freshBank}
-use Rattle.registers.proofs.Arms.{either-same, Each, of-each}
+use Rattle.registers.proofs.Arms.{either-same, Each, of-each, none-of}
 use Rattle.registers.proofs.RegsLaws.{registers, get-zero}
 use Rattle.registers.proofs.OffsetLaws.{register-listed, pattern-word}
 use Rattle.engine.specs.Step.{freshEngine, readFrom}
@@ -24,7 +24,6 @@ use Rattle.basics.specs.Word.{wordAt}
 use Rattle.state.specs.Layout.{stateSize, patternAt, byteOf, slot, byteIn, encoded, regsIn, patternIn, decoded, isState, withSlots, fixedSlots}
 use Rattle.capi.specs.Calls.{packed, packedReading, readOf, opening, openedTo}
 use Rattle.state.proofs.Places.{Word, slots-laid}
-use Rattle.capi.proofs.Changes.{none-of}
 
 -- ---- read
 

@@ -15,19 +15,22 @@ use Rattle.registers.specs.Offsets.{placeOf}
 use Rattle.bank.specs.Bank.{putWord, stored, patterned}
 use Rattle.registers.proofs.Arms.{Each, of-each}
 use Rattle.registers.proofs.RegsLaws.{registers}
+use Rattle.registers.proofs.KeptLaws.{kept-word}
+use Rattle.rooms.specs.Room.{worked, ofTarget, ofSource}
 use Rattle.registers.proofs.OffsetLaws.{register-listed, pattern-word}
 use Rattle.engine.specs.declared.Engine.{Engine}
 use Rattle.engine.specs.declared.Answer.{Answer}
 use Rattle.engine.specs.declared.Answer.the-variants.{Taken, Memory, Waiting}
 use Rattle.engine.specs.Step.{Step, step, changedOf, withBank, storedIn, toRegister, toPattern, written}
 use Rattle.acts.proofs.Cases.{by-test}
-use Rattle.basics.specs.Word.{withWord}
-use Rattle.state.specs.Layout.{stateSize, patternAt, byteOf, slot, byteIn, encoded, decoded, isState, Bytes, withSlots, commandSlots}
-use Rattle.capi.specs.Calls.{packed, Call, call, packedAnswer, called, writtenTo, Opening, opening, plainly}
+use Rattle.basics.specs.Word.{wordAt, withWord}
+use Rattle.state.specs.Layout.{stateSize, patternAt, byteOf, slot, byteIn, encoded, regsIn, openedIn, decoded, isState, Bytes, withSlots, commandSlots, followed}
+use Rattle.capi.specs.Calls.{packed, Call, call, packedAnswer, called, writtenTo, Opening, opening, tested, plainly, registered}
 use Rattle.capi.specs.Asked.{Draws}
 use Rattle.state.proofs.Places.{Word, word-own, word-other, word-length, encoded-length, encoded-byte, same-bytes}
+use Rattle.state.proofs.Follows.{followed-none, read-own, read-other}
 use Rattle.state.proofs.Back.{Opened, opened, bytes-back}
-use Rattle.capi.proofs.Changes.{like-laid, like-stored, written-led}
+use Rattle.capi.proofs.Changes.{targetSlots, sourceSlots, like-laid, like-stored, like-target, like-source, written-led}
 
 -- a state is written by the engine that it holds
 pub by-engine : (s m : List ℕ) (o d : ℕ) → isState s ≡ true → writtenTo s m o d ≡ called (written (decoded s) m o d)
@@ -63,30 +66,56 @@ command-written s m o d t b q {e} {after} {left} {a} p w v u k =
 abbrev joined : List ℕ → Opening → Call
 joined m x = call (x .state) m (x .answer) 0
 
-by-tests : (big right waits : Bool) (e after : Engine) {s s′ : List ℕ} (m : List ℕ) → encoded e ≡ s → encoded after ≡ s′
+by-tests : (big right waits : Bool) (e after : Engine) {s s′ : List ℕ} (m : List ℕ) → encoded e ≡ s → (right ≡ true → encoded after ≡ s′)
     → called (cond big (step e m Memory) (cond right (cond waits (step e m Waiting) (step after m (Taken 0 0))) (step e m Memory)))
     ≡ joined m (cond big (opening s (packed 1 0)) (cond right (cond waits (opening s (packed 3 0)) (opening s′ 0)) (opening s (packed 1 0))))
 by-tests true right waits e after m p q = ap (λ x. call x m (packed 1 0) 0) p
 by-tests false true true e after m p q = ap (λ x. call x m (packed 3 0) 0) p
-by-tests false true false e after m p q = ap (λ x. call x m 0 0) q
+by-tests false true false e after m p q = ap (λ x. call x m 0 0) (q refl)
 by-tests false false waits e after m p q = ap (λ x. call x m (packed 1 0) 0) p
 
 -- the tests, by the engine that a state holds
-held-tests : (s : List ℕ) (len at d : ℕ)
-    → plainly s len at d ≡ cond (ltb (2 ^ 24) len) (opening s (packed 1 0))
-    (cond (eqb len (decoded s .opened)) (cond (decoded s .blit .waiting) (opening s (packed 3 0)) (opening (withWord s at d) 0)) (opening s (packed 1 0)))
-unfolding plainly decoded
-held-tests s len at d = refl
+held-tests : (s : List ℕ) (len : ℕ) (x : List ℕ)
+    → tested s len x ≡ cond (ltb (2 ^ 24) len) (opening s (packed 1 0))
+    (cond (eqb len (decoded s .opened)) (cond (decoded s .blit .waiting) (opening s (packed 3 0)) (opening x 0)) (opening s (packed 1 0)))
+unfolding tested decoded
+held-tests s len x = refl
 
-plain-written : (s m : List ℕ) (o d at v : ℕ) → isState s ≡ true → Bytes s → (after : Engine)
+plain-written : (s m : List ℕ) (o d : ℕ) (x : List ℕ) → isState s ≡ true → Bytes s → (after : Engine)
     → written (decoded s) m o d
     ≡ cond (ltb (2 ^ 24) (length m)) (step (decoded s) m Memory)
     (cond (eqb (length m) (decoded s .opened)) (cond (decoded s .blit .waiting) (step (decoded s) m Waiting) (step after m (Taken 0 0))) (step (decoded s) m Memory))
-    → encoded after ≡ withWord s at v → {s′ : List ℕ} {r : ℕ} → opening s′ r ≡ plainly s (length m) at v → call s′ m r 0 ≡ writtenTo s m o d
-plain-written s m o d at v t b after w k p =
-    ap (joined m) (p ∙ held-tests s (length m) at v)
+    → (length m ≡ decoded s .opened → encoded after ≡ x) → {s′ : List ℕ} {r : ℕ} → opening s′ r ≡ tested s (length m) x → call s′ m r 0 ≡ writtenTo s m o d
+plain-written s m o d x t b after w k p =
+    ap (joined m) (p ∙ held-tests s (length m) x)
     ∙ sym (by-engine s m o d t ∙ ap called w
-    ∙ by-tests (ltb (2 ^ 24) (length m)) (eqb (length m) (decoded s .opened)) (decoded s .blit .waiting) (decoded s) after m (bytes-back s (opened s t b)) k)
+    ∙ by-tests (ltb (2 ^ 24) (length m)) (eqb (length m) (decoded s .opened)) (decoded s .blit .waiting) (decoded s) after m (bytes-back s (opened s t b))
+    (λ e. k (eqb-true (length m) (decoded s .opened) e)))
+
+-- what the tests do not let through is the same for all; what they let through is what was to be made
+module _ (s : List ℕ) (len : ℕ) {s′ : List ℕ} {r : ℕ} where
+  pub tested-refused : (x y : List ℕ) → opening s′ r ≡ tested s len x → (r ≡ 0 → ⊥) → opening s′ r ≡ tested s len y
+  unfolding tested
+  tested-refused x y = by (ltb (2 ^ 24) len) (eqb len (openedIn s)) (eqb (wordAt s 0x04) 1)
+    where
+      by : (big right waits : Bool) → opening s′ r ≡ cond big (opening s (packed 1 0)) (cond right (cond waits (opening s (packed 3 0)) (opening x 0)) (opening s (packed 1 0)))
+          → (r ≡ 0 → ⊥) → opening s′ r ≡ cond big (opening s (packed 1 0)) (cond right (cond waits (opening s (packed 3 0)) (opening y 0)) (opening s (packed 1 0)))
+      by true right waits p n = p
+      by false true true p n = p
+      by false true false p n = absurd (n (ap (λ (c : Opening). c .answer) p))
+      by false false waits p n = p
+
+  pub tested-taken : (x : List ℕ) → opening s′ r ≡ tested s len x → r ≡ 0 → (s′ ≡ x) × (len ≤ 2 ^ 24) × ((y : List ℕ) → opening y 0 ≡ tested s len y)
+  unfolding tested
+  tested-taken x = by (ltb (2 ^ 24) len) (eqb len (openedIn s)) (eqb (wordAt s 0x04) 1) refl
+    where
+      by : (big right waits : Bool) → ltb (2 ^ 24) len ≡ big
+          → opening s′ r ≡ cond big (opening s (packed 1 0)) (cond right (cond waits (opening s (packed 3 0)) (opening x 0)) (opening s (packed 1 0))) → r ≡ 0
+          → (s′ ≡ x) × (len ≤ 2 ^ 24) × ((y : List ℕ) → opening y 0 ≡ cond big (opening s (packed 1 0)) (cond right (cond waits (opening s (packed 3 0)) (opening y 0)) (opening s (packed 1 0))))
+      by true right waits e p z = let a : r ≡ packed 1 0 = ap (λ (c : Opening). c .answer) p in absurd (omega arith)
+      by false true true e p z = let a : r ≡ packed 3 0 = ap (λ (c : Opening). c .answer) p in absurd (omega arith)
+      by false true false e p z = (ap (λ (c : Opening). c .state) p, ltb-false (2 ^ 24) len e, λ y. refl)
+      by false false waits e p z = let a : r ≡ packed 1 0 = ap (λ (c : Opening). c .answer) p in absurd (omega arith)
 
 -- of a register
 
@@ -105,11 +134,73 @@ own-slot e d = (refl, (refl, (refl, (refl, (refl, (refl, (refl, (refl, (refl, (r
 only-itself : (o : ℕ) → oneOf o (o ∷ []) ≡ true
 only-itself o = rw (eq-eqb o o refl)
 
-stored-bytes : (s : List ℕ) (o d : ℕ) → Opened s → placeOf o ≡ Register → encoded (storedIn (decoded s) o d) ≡ withWord s o (kept o d)
-stored-bytes s o d h q =
-    let e = decoded s in
-    sym (like-laid (o ∷ []) e (storedIn e o d) (like-stored (o ∷ []) e o d (only-itself o)) (register-word o q, tt))
-    ∙ ap₂ (λ b v. withWord b o v) (bytes-back s h) (of-each (λ a. slot (storedIn e a d) a ≡ kept a d) registers (own-slot e d) o (register-listed o q))
+-- one that is no surface's: its word
+module _ (s : List ℕ) (h : Opened s) (o d : ℕ) (q : placeOf o ≡ Register) where
+  abbrev e : Engine
+  e = decoded s
+
+  own-word : slot (storedIn e o d) o ≡ kept o d
+  own-word = of-each (λ a. slot (storedIn e a d) a ≡ kept a d) registers (own-slot e d) o (register-listed o q)
+
+  kept-same : ofTarget o ≡ false → ofSource o ≡ false → storedIn e o d .rooms ≡ e .rooms
+  unfolding storedIn
+  kept-same t f = rw (t, f)
+
+  stored-bytes : ofTarget o ≡ false → ofSource o ≡ false → encoded (storedIn e o d) ≡ withWord s o (kept o d)
+  stored-bytes t f =
+      sym (like-laid (o ∷ []) e (storedIn e o d) (like-stored (o ∷ []) e o d (only-itself o) (kept-same t f)) (register-word o q, tt))
+      ∙ ap₂ (λ b v. withWord b o v) (bytes-back s h) own-word
+
+  -- and the target's or the source's: with what is kept
+  target-laid : ofTarget o ≡ true → encoded (storedIn e o d) ≡ withSlots (withWord s o (kept o d)) (storedIn e o d) (0x84 ∷ 0x88 ∷ [])
+  target-laid t =
+      sym (like-laid (targetSlots o) e (storedIn e o d) (like-target e o d t) (register-word o q, ((refl, omega arith), ((refl, omega arith), tt))))
+      ∙ ap₂ (λ b v. withSlots (withWord b o v) (storedIn e o d) (0x84 ∷ 0x88 ∷ [])) (bytes-back s h) own-word
+
+  source-laid : ofTarget o ≡ false → ofSource o ≡ true → encoded (storedIn e o d) ≡ withSlots (withWord s o (kept o d)) (storedIn e o d) (0x7c ∷ 0x80 ∷ [])
+  source-laid t f =
+      sym (like-laid (sourceSlots o) e (storedIn e o d) (like-source e o d t f) (register-word o q, ((refl, omega arith), ((refl, omega arith), tt))))
+      ∙ ap₂ (λ b v. withSlots (withWord b o v) (storedIn e o d) (0x7c ∷ 0x80 ∷ [])) (bytes-back s h) own-word
+
+-- what is kept goes by the words that stand there then
+module _ (s : List ℕ) (h : Opened s) (d : ℕ) (f : d < 2 ^ 32) where
+  abbrev at : ℕ → List ℕ
+  at o = withWord s o (kept o d)
+
+  room : (o : ℕ) → o + 4 ≤ stateSize → o + 4 ≤ length s
+  room o l = rw (h .size) l
+
+  -- the word of a register after its own store, and after another's
+  mine : (o : ℕ) → o % 4 ≡ 0 → o + 4 ≤ stateSize → wordAt (at o) o ≡ kept o d
+  mine o m l = read-own s o (kept o d) m (room o l) (kept-word o d f)
+
+  others : (o a : ℕ) → o % 4 ≡ 0 → a % 4 ≡ 0 → (a ≡ o → ⊥) → wordAt (at o) a ≡ wordAt s a
+  others o a m n apart = read-other s o (kept o d) m a n apart
+
+  abbrev Follows : ℕ → Type 0
+  Follows o = encoded (storedIn (decoded s) o d) ≡ followed (at o) (openedIn s) o
+
+  target-follows : Each Follows (0x10 ∷ 0x14 ∷ [])
+  unfolding followed placeOf slot storedIn stored putReg decoded regsIn worked
+  target-follows = (
+    target-laid s h 0x10 d refl refl ∙ sym (rw (mine 0x10 refl (omega arith), others 0x10 0x14 refl refl (λ e. omega arith))),
+    (target-laid s h 0x14 d refl refl ∙ sym (rw (mine 0x14 refl (omega arith), others 0x14 0x10 refl refl (λ e. omega arith))), tt),
+  )
+
+  source-follows : Each Follows (0x34 ∷ 0x54 ∷ [])
+  unfolding followed placeOf slot storedIn stored putReg decoded regsIn worked
+  source-follows = (
+    source-laid s h 0x34 d refl refl refl ∙ sym (rw (mine 0x34 refl (omega arith), others 0x34 0x54 refl refl (λ e. omega arith))),
+    (source-laid s h 0x54 d refl refl refl ∙ sym (rw (mine 0x54 refl (omega arith), others 0x54 0x34 refl refl (λ e. omega arith))), tt),
+  )
+
+  pub followed-bytes : (o : ℕ) → placeOf o ≡ Register → Follows o
+  followed-bytes o q = by-offset (ofTarget o) (ofSource o) refl refl
+    where
+      by-offset : (t u : Bool) → ofTarget o ≡ t → ofSource o ≡ u → Follows o
+      by-offset true u x y = of-each Follows (0x10 ∷ 0x14 ∷ []) target-follows o x
+      by-offset false true x y = of-each Follows (0x34 ∷ 0x54 ∷ []) source-follows o y
+      by-offset false false x y = stored-bytes s h o d q x y ∙ sym (followed-none (at o) (openedIn s) o x y)
 
 register-step : (e : Engine) (m : List ℕ) (o d : ℕ) → placeOf o ≡ Register → (o ≡ 0x70 → ⊥)
     → written e m o d
@@ -118,10 +209,12 @@ register-step : (e : Engine) (m : List ℕ) (o d : ℕ) → placeOf o ≡ Regist
 unfolding written toRegister
 register-step e m o d q n = rw (q, ne-eqb o 0x70 n)
 
-pub register-written : (s m : List ℕ) (o d : ℕ) → isState s ≡ true → Bytes s → placeOf o ≡ Register → (o ≡ 0x70 → ⊥) → {s′ : List ℕ} {r : ℕ}
-    → opening s′ r ≡ plainly s (length m) o (kept o d) → call s′ m r 0 ≡ writtenTo s m o d
-register-written s m o d t b q n p =
-    plain-written s m o d o (kept o d) t b (storedIn (decoded s) o d) (register-step (decoded s) m o d q n) (stored-bytes s o d (opened s t b) q) p
+pub register-written : (s m : List ℕ) (o d : ℕ) → isState s ≡ true → Bytes s → d < 2 ^ 32 → placeOf o ≡ Register → (o ≡ 0x70 → ⊥) → {s′ : List ℕ} {r : ℕ}
+    → opening s′ r ≡ registered s (length m) o d → call s′ m r 0 ≡ writtenTo s m o d
+unfolding decoded
+register-written s m o d t b f q n p =
+    plain-written s m o d (followed (withWord s o (kept o d)) (length m) o) t b (storedIn (decoded s) o d) (register-step (decoded s) m o d q n)
+    (λ e. followed-bytes s (opened s t b) d f o q ∙ ap (λ len. followed (withWord s o (kept o d)) len o) (sym e)) p
 
 -- of the pattern
 
@@ -186,5 +279,5 @@ pub pattern-written : (s m : List ℕ) (o d : ℕ) {i : ℕ} → isState s ≡ t
 pattern-written s m o d {i} t b q p =
     let h = opened s t b in
     let w = pattern-word o q in
-    plain-written s m o d (patternAt + i) d t b (withBank (decoded s) (patterned (decoded s .bank) i d)) (pattern-step (decoded s) m o d q)
-    (patterned-bytes (decoded s) i d (w .0) (w .1) (held-size s (h .size)) ∙ ap (λ x. withWord x (patternAt + i) d) (bytes-back s h)) p
+    plain-written s m o d (withWord s (patternAt + i) d) t b (withBank (decoded s) (patterned (decoded s .bank) i d)) (pattern-step (decoded s) m o d q)
+    (λ _. patterned-bytes (decoded s) i d (w .0) (w .1) (held-size s (h .size)) ∙ ap (λ x. withWord x (patternAt + i) d) (bytes-back s h)) p

@@ -12,7 +12,8 @@ use Rattle.engine.specs.declared.Answer.{Answer}
 use Rattle.engine.specs.Step.{Step, numberOf, countOf, changedOf, freshEngine, written, readFrom}
 use Rattle.words.specs.Words.{Ran, ran}
 use Rattle.basics.specs.Word.{wordAt, withWord}
-use Rattle.state.specs.Layout.{stateSize, encoded, decoded, openedIn, isState}
+use Rattle.registers.specs.Kept.{kept}
+use Rattle.state.specs.Layout.{stateSize, encoded, decoded, openedIn, isState, followed}
 
 -- the number of a state that open did not make
 abbrev pub notState : ℕ
@@ -92,9 +93,16 @@ partOf m base format x y width =
 
 -- ---- what the code does on the way
 
--- a word that draws nothing, at its place in the state, for a memory of len bytes
-unfoldable pub plainly : List ℕ → ℕ → ℕ → ℕ → Opening
-plainly s len at d =
+-- what a write that draws nothing makes of a state for a memory of len bytes, where the tests let it make `after` of it
+unfoldable pub tested : List ℕ → ℕ → List ℕ → Opening
+tested s len after =
     cond (ltb (2 ^ 24) len) (opening s (packed 1 0))
-    (cond (eqb len (openedIn s)) (cond (eqb (wordAt s 0x04) 1) (opening s (packed 3 0)) (opening (withWord s at d) 0))
+    (cond (eqb len (openedIn s)) (cond (eqb (wordAt s 0x04) 1) (opening s (packed 3 0)) (opening after 0))
     (opening s (packed 1 0)))
+
+-- a word at its place; and a register's, with what is kept of a surface
+abbrev pub plainly : List ℕ → ℕ → ℕ → ℕ → Opening
+plainly s len at d = tested s len (withWord s at d)
+
+abbrev pub registered : List ℕ → ℕ → ℕ → ℕ → Opening
+registered s len o d = tested s len (followed (withWord s o (kept o d)) len o)

@@ -8,7 +8,7 @@ ghost use mathlib.Core.Bool.{true};
 ghost use Prim.Native.Nat.{_+_, _<_, _≤_};
 ghost use lib.ListN.{length};
 ghost use Rattle.state.specs.Layout.{stateSize, isState, Bytes};
-ghost use Rattle.capi.specs.Calls.{packedAnswer, call, opening, writtenTo, runCall, ranTo, openedTo, readOf, part, partOf, plainly};
+ghost use Rattle.capi.specs.Calls.{packedAnswer, call, opening, writtenTo, runCall, ranTo, openedTo, readOf, part, partOf, plainly, registered};
 ghost use Rattle.capi.specs.Asked.{Draws};
 ghost use Rattle.capi.specs.Packets.{kept, byCall, pieceCall, openedReader, packetCall, packetsTo};
 ghost use Rattle.packets.specs.Answers.{lent, Done, called};
@@ -20,7 +20,7 @@ fn pack(a: Answer) -> u64
     (a.number() as u64) * 0x1_0000_0000 + (a.count() as u64)
 }
 
-// A word that draws nothing, stored at its place in the state.
+// A word that draws nothing, stored at its place in the state where the tests let it.
 fn put_plain(s: &mut [u8], len: usize, at: usize, word: u32) -> u64
     requires { ⌜ (length (now s) ≡ stateSize) × (at + 4 ≤ stateSize) ⌝ }
     ensures { λ r. ⌜ opening (now (s .exit)) r ≡ plainly (now (s .entry)) len at word ⌝ }
@@ -35,6 +35,20 @@ fn put_plain(s: &mut [u8], len: usize, at: usize, word: u32) -> u64
         return 0x3_0000_0000;
     }
     basics::put_word(s, at, word);
+    0
+}
+
+// A word for a register that starts nothing: its kept bits are stored, and of a surface's register what is kept of that surface.
+fn put_register(s: &mut [u8], len: usize, offset: u32, word: u32) -> u64
+    requires { ⌜ (length (now s) ≡ stateSize) × (offset + 4 ≤ stateSize) ⌝ }
+    ensures { λ r. ⌜ opening (now (s .exit)) r ≡ registered (now (s .entry)) len offset word ⌝ }
+{
+    let kept = registers::kept_bits(offset, word);
+    let answer = put_plain(s, len, offset as usize, kept);
+    if answer != 0 {
+        return answer;
+    }
+    state::follow(s, len as u32, offset);
     0
 }
 
@@ -57,7 +71,7 @@ fn run(s: &mut [u8], mem: &mut [u8], offset: u32, word: u32, changed: &mut u32) 
 pub extern "C" fn rimebarrow_state_size() -> usize
     ensures { λ r. ⌜ r ≡ stateSize ⌝ }
 {
-    380
+    396
 }
 
 // A fresh engine for a memory of size bytes: 0, or 255 where the state has another length.
@@ -65,7 +79,7 @@ pub extern "C" fn rimebarrow_state_size() -> usize
 pub extern "C" fn rimebarrow_open(state: &mut [u8], size: usize) -> u32
     ensures { λ r. ⌜ opening (now (state .exit)) r ≡ openedTo (now (state .entry)) size ⌝ }
 {
-    if state.len() != 380 {
+    if state.len() != 396 {
         return 255;
     }
     state::clear(state);
@@ -97,14 +111,9 @@ pub extern "C" fn rimebarrow_write(
             if offset == 0x70 {
                 return run(state, memory, offset, word, changed);
             }
-            put_plain(
-                state,
-                memory.len(),
-                offset as usize,
-                registers::kept_bits(offset, word),
-            )
+            put_register(state, memory.len(), offset, word)
         }
-        Place::Pattern(at) => put_plain(state, memory.len(), 0x7c + at, word),
+        Place::Pattern(at) => put_plain(state, memory.len(), 0x8c + at, word),
         Place::Launch => run(state, memory, offset, word, changed),
         Place::Nowhere => run(state, memory, offset, word, changed),
     }
@@ -262,7 +271,7 @@ pub extern "C" fn rimebarrow_read(state: &[u8], offset: u32) -> u64
     let place = registers::find_place(offset);
     match place {
         Place::Register => basics::word_at(state, offset as usize) as u64,
-        Place::Pattern(at) => basics::word_at(state, 0x7c + at) as u64,
+        Place::Pattern(at) => basics::word_at(state, 0x8c + at) as u64,
         Place::Launch => 0x2_0000_0000,
         Place::Nowhere => 0x2_0000_0000,
     }

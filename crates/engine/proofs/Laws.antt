@@ -32,7 +32,7 @@ unfolding settled
 settled-deed e r a m =
     let b = bankOf r (e .bank .pattern) in
     by-test
-    (λ t. outcome (cond t (record { engine = record { bank = withEnds b (a .ends); blit = a .blit; opened = e .opened }; answer = Taken (a .tally .count) (a .tally .changed) }) (record { engine = e; answer = refusal (a .number) })) m ≡ cond t (making e (deed b a m .makes)) (step e m (refusal (a .number)))) (eqb (a .number) 0)
+    (λ t. outcome (cond t (record { engine = record { bank = withEnds b (a .ends); blit = a .blit; opened = e .opened; rooms = e .rooms }; answer = Taken (a .tally .count) (a .tally .changed) }) (record { engine = e; answer = refusal (a .number) })) m ≡ cond t (making e (deed b a m .makes)) (step e m (refusal (a .number)))) (eqb (a .number) 0)
     (λ _. refl) (λ _. refl)
 
 judged-settling : (e : Engine) (d : Deed) (b : Bank) (k : Blit) (m : List ℕ) → settling e (judged d b k m) ≡ judging e e m d

@@ -20,6 +20,9 @@ use Rattle.registers.specs.declared.Regs.{Regs}
 use Rattle.bank.specs.declared.Reading.{Reading}
 use Rattle.bank.specs.Bank.{readNumber, readValue}
 use Rattle.registers.specs.Kept.{kept}
+use Rattle.rooms.specs.declared.Rooms.{Rooms}
+use Rattle.rooms.specs.Room.{worked}
+use Rattle.formats.specs.Step.{packingOf}
 use Rattle.registers.specs.declared.Place.{Place}
 use Rattle.registers.specs.declared.Place.the-variants.{Register, Pattern, Launch, Nowhere}
 use Rattle.registers.specs.Offsets.{placeOf}
@@ -190,6 +193,39 @@ OneOwner = (s : Surface) (p q : Px) (j k : ℕ) → p .x < rowPixels s → q .x 
 -- a pixel on it lies in memory, byte by byte; a mono pixel lies in one byte
 abbrev pub InMemory : Type 0
 InMemory = (s : Surface) (len : ℕ) (p : Px) (k : ℕ) → onSurface s len (p .x) (p .y) ≡ true → k < byteCount s → byteAt s (firstByte s (p .x) + k) (p .y) < len
+
+-- ---- Kept. What is kept of both surfaces beside the registers: pixels in a row, and whole rows that memory has room for (rooms/specs/Room)
+
+-- it is what the registers say: of a fresh engine
+abbrev pub KeptFresh : Type 0
+KeptFresh = (len : ℕ) → freshEngine len .rooms ≡ worked len (regs (freshEngine len))
+
+-- and after any write of one of which it was, taken or refused, whatever its offset names
+abbrev pub KeptAlways : Type 0
+KeptAlways = (e : Engine) (m : List ℕ) (o d : ℕ) → e .rooms ≡ worked (e .opened) (regs e)
+    → written e m o d .engine .rooms ≡ worked (e .opened) (regs (written e m o d .engine))
+
+-- so of every engine that a fresh one becomes by any writes, each with the memory lent for it, of any length
+abbrev pub KeptEver : Type 0
+KeptEver = (len : ℕ) (ws : List Lent) → lentTo (freshEngine len) ws .rooms ≡ worked len (regs (lentTo (freshEngine len) ws))
+
+-- a pixel below both numbers is on the target, and on a source that is not packed
+pub record RoomHolds : Type 0 where
+  pub target : (len : ℕ) (r : Regs) (p : Px) → p .x < worked len r .target .pixels → p .y < worked len r .target .rows
+      → onSurface (target r) len (p .x) (p .y) ≡ true
+  pub source : (len : ℕ) (r : Regs) (p : Px) → packingOf (r .srcFormat) ≡ 0 → p .x < worked len r .source .pixels → p .y < worked len r .source .rows
+      → onSurface (origins r) len (p .x) (p .y) ≡ true
+
+-- an engine that keeps something else
+abbrev pub keeping : Engine → Rooms → Engine
+keeping e k = record { bank = e .bank; blit = e .blit; opened = e .opened; rooms = k }
+
+-- gives the same answer and leaves the same memory; and of the engine all the same, but for what is kept
+abbrev pub KeptAside : Type 0
+KeptAside = (e : Engine) (k : Rooms) (m : List ℕ) (o d : ℕ) →
+    (written (keeping e k) m o d .answer ≡ written e m o d .answer)
+    × (written (keeping e k) m o d .memory ≡ written e m o d .memory)
+    × (keeping (written (keeping e k) m o d .engine) k ≡ keeping (written e m o d .engine) k)
 
 -- ---- Waiting. A host blit that waits
 

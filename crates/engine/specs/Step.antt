@@ -14,6 +14,7 @@ use Rattle.registers.specs.declared.Place.the-variants.{Register, Pattern, Laun
 use Rattle.bank.specs.Bank.{freshBank, stored, patterned, readAt}
 use Rattle.registers.specs.Offsets.{placeOf}
 use Rattle.cuts.specs.Cut.{bit}
+use Rattle.rooms.specs.Room.{noRooms, after}
 use Rattle.acts.specs.declared.Blit.{Blit}
 use Rattle.acts.specs.declared.Act.{Act}
 use Rattle.acts.specs.Deed.{noBlit, Made, bankOf, withEnds, Deed, carrying, starting}
@@ -64,20 +65,22 @@ refusal n = cond (eqb n 4) NotBuilt (cond (eqb n 5) Format (cond (eqb n 6) Host 
 
 -- opened for a memory of so many bytes
 unfoldable pub freshEngine : ℕ → Engine
-freshEngine len = record { bank = freshBank; blit = noBlit; opened = len }
+freshEngine len = record { bank = freshBank; blit = noBlit; opened = len; rooms = noRooms }
 
 abbrev pub withBank : Engine → Bank → Engine
-withBank e b = record { bank = b; blit = e .blit; opened = e .opened }
+withBank e b = record { bank = b; blit = e .blit; opened = e .opened; rooms = e .rooms }
 
 abbrev pub withBlit : Engine → Blit → Engine
-withBlit e b = record { bank = e .bank; blit = b; opened = e .opened }
+withBlit e b = record { bank = e .bank; blit = b; opened = e .opened; rooms = e .rooms }
 
 abbrev pub regs : Engine → Regs
 regs e = e .bank .regs
 
--- the kept bits of a word in a register; no host blit waiting
+-- the kept bits of a word in a register, and what is kept of the surface that it is a register of; no host blit waiting
 unfoldable pub storedIn : Engine → ℕ → ℕ → Engine
-storedIn e o d = withBank e (stored (e .bank) o d)
+storedIn e o d =
+    let b = stored (e .bank) o d in
+    record { bank = b; blit = e .blit; opened = e .opened; rooms = after (e .opened) o (b .regs) (e .rooms) }
 
 abbrev pub idle : Engine → Engine
 idle e = withBlit e noBlit
@@ -97,7 +100,7 @@ done e st = step e (st .mem) (Taken (st .tally .count) (st .tally .changed))
 
 -- ---- the commands: a refusal gives back the engine as it was before the write
 abbrev pub making : Engine → Made → Step
-making e k = done (record { bank = k .bank; blit = k .blit; opened = e .opened }) (k .left)
+making e k = done (record { bank = k .bank; blit = k .blit; opened = e .opened; rooms = e .rooms }) (k .left)
 
 abbrev pub judging : Engine → Engine → List ℕ → Deed → Step
 judging old e m d = cond (eqb (d .verdict) 0) (making e (d .makes)) (step old m (refusal (d .verdict)))
@@ -146,7 +149,7 @@ unfoldable pub settled : Engine → Regs → Act → Outcome
 settled e r a =
     cond (eqb (a .number) 0)
     (record {
-      engine = record { bank = withEnds (bankOf r (e .bank .pattern)) (a .ends); blit = a .blit; opened = e .opened };
+      engine = record { bank = withEnds (bankOf r (e .bank .pattern)) (a .ends); blit = a .blit; opened = e .opened; rooms = e .rooms };
       answer = Taken (a .tally .count) (a .tally .changed);
     })
     (record { engine = e; answer = refusal (a .number) })

@@ -5,14 +5,17 @@ use bank::Bank;
 use bank::Reading;
 use registers::Place;
 use registers::Regs;
+use rooms::Rooms;
 ghost use mathlib.Core.Path.{_≡_};
+ghost use Prim.Native.Nat.{_^_, _≤_};
 ghost use Rattle.engine.specs.Step.{numberOf, countOf, changedOf, refusal, freshEngine, settled, step, launched, commanded, toRegister, toPattern, written, readFrom};
 
-// The register state, the host blit, and the length of the memory that the engine was opened for.
+// The register state, the host blit, the length of the memory that the engine was opened for, and what is kept of both surfaces beside the registers.
 pub struct Engine {
     pub bank: Bank,
     pub blit: Blit,
     pub opened: usize,
+    pub rooms: Rooms,
 }
 
 // The answers of document 01's table, 0 to 8 in this order; 0 has the count of pixels written, and how many of them changed.
@@ -107,6 +110,7 @@ impl Engine {
             bank: Bank::fresh(),
             blit: acts::no_blit(),
             opened: len,
+            rooms: rooms::no_rooms(),
         }
     }
 
@@ -131,6 +135,7 @@ impl Engine {
         let next = acts::with_ends(regs, act.ends);
         let pattern = self.bank.pattern;
         let blit = act.blit;
+        let rooms = self.rooms;
         Outcome {
             engine: Engine {
                 bank: Bank {
@@ -139,6 +144,7 @@ impl Engine {
                 },
                 blit: blit,
                 opened: self.opened,
+                rooms: rooms,
             },
             answer: Answer::Taken(act.tally.count, act.tally.changed),
         }
@@ -150,7 +156,8 @@ impl Engine {
         let regs = self.bank.regs;
         let pattern = self.bank.pattern;
         let blit = self.blit;
-        let act = acts::launch(regs, pattern, blit, mem, word);
+        let rooms = self.rooms;
+        let act = acts::launch(regs, pattern, blit, mem, word, rooms);
         self.settle(regs, act)
     }
 
@@ -160,15 +167,17 @@ impl Engine {
         let old = self.bank;
         let bank = old.store(0x70, word);
         let resting = acts::no_blit();
+        let rooms = self.rooms;
         let next = Engine {
             bank: bank,
             blit: resting,
             opened: self.opened,
+            rooms: rooms,
         };
         if word / 0x100 % 2 == 1 {
             let regs = bank.regs;
             let pattern = self.bank.pattern;
-            let act = acts::carry(regs, &pattern, resting, mem);
+            let act = acts::carry(regs, &pattern, resting, mem, rooms);
             return self.settle(regs, act);
         }
         Outcome {
@@ -178,6 +187,7 @@ impl Engine {
     }
 
     fn take_register(self, mem: &mut [u8], offset: u32, word: u32) -> Outcome
+        requires { ⌜ self .opened ≤ 2 ^ 24 ⌝ }
         ensures { λ r. ⌜ step (r .engine) (now (mem .exit)) (r .answer) ≡ toRegister self (now (mem .entry)) offset word ⌝ }
     {
         if offset == 0x70 {
@@ -191,8 +201,12 @@ impl Engine {
         }
         let old = self.bank;
         let bank = old.store(offset, word);
+        let regs = bank.regs;
+        let kept = self.rooms;
+        let rooms = rooms::follow(self.opened as u32, offset, regs, kept);
         let mut next = self;
         next.bank = bank;
+        next.rooms = rooms;
         Outcome {
             engine: next,
             answer: Answer::Taken(0, 0),

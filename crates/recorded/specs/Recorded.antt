@@ -10,6 +10,7 @@ use lib.Dec.{eqb, ltb}
 use lib.ListN.{length, getD}
 use Rattle.basics.specs.Each.{each}
 use Rattle.bank.specs.Bank.{readValue}
+use Rattle.rooms.specs.declared.Rooms.{Rooms}
 use Rattle.engine.specs.declared.Engine.{Engine}
 use Rattle.engine.specs.Step.{readFrom}
 
@@ -47,6 +48,12 @@ unfoldable pub readsFrom : Engine → ℕ → ℕ → List ℕ
 readsFrom e o zero = []
 readsFrom e o (suc n) = readValue (readFrom e o) ∷ readsFrom e (o + 4) n
 
--- of registers 08 to 70, of the pattern, and of one byte for a waiting host blit
+-- what is kept of source and target
+abbrev pub roomWords : Rooms → List ℕ
+roomWords k = k .source .pixels ∷ k .source .rows ∷ k .target .pixels ∷ k .target .rows ∷ []
+
+-- of registers 08 to 70, of the pattern, of one byte for a waiting host blit, and of what is kept
 abbrev pub registerSum : Engine → ℕ
-registerSum e = mixed (cond (e .blit .waiting) 1 0) (each mixedWord (readsFrom e 0x100 64) (each mixedWord (readsFrom e 0x08 27) noBytes))
+registerSum e =
+    each mixedWord (roomWords (e .rooms))
+    (mixed (cond (e .blit .waiting) 1 0) (each mixedWord (readsFrom e 0x100 64) (each mixedWord (readsFrom e 0x08 27) noBytes)))

@@ -1,12 +1,13 @@
 // What the programs that play recorded streams share: the memory at the start, how much of it is lent, and checksums.
 use bank::Reading;
 use engine::Engine;
+use rooms::Rooms;
 ghost use mathlib.Core.Path.{_≡_};
 ghost use Prim.Native.Nat.{_+_, _*_, _/_, _%_, _^_, _≤_, _<_};
 ghost use lib.ListN.{length};
 ghost use Rattle.basics.specs.Each.{each};
 ghost use Rattle.bank.specs.Bank.{readValue};
-ghost use Rattle.recorded.specs.Recorded.{startByte, Started, lentOf, leastOf, mixed, mixedWord, memorySum, readsFrom, registerSum};
+ghost use Rattle.recorded.specs.Recorded.{startByte, Started, lentOf, leastOf, mixed, mixedWord, memorySum, readsFrom, roomWords, registerSum};
 
 // Byte i of the memory at the start.
 fn start_byte(i: usize, seed: u32) -> u8
@@ -86,16 +87,29 @@ fn mix_reads(e: Engine, sum: u64, offset: u32, words: u32) -> u64
     h
 }
 
+// After what is kept of source and target.
+fn mix_rooms(sum: u64, k: Rooms) -> u64
+    ensures { λ r. ⌜ r ≡ each mixedWord (roomWords k) sum ⌝ }
+{
+    let source = k.source;
+    let target = k.target;
+    let one = mix_word(sum, source.pixels);
+    let two = mix_word(one, source.rows);
+    let three = mix_word(two, target.pixels);
+    mix_word(three, target.rows)
+}
+
 pub fn sum_registers(e: Engine) -> u64
     ensures { λ r. ⌜ r ≡ registerSum e ⌝ }
 {
     let registers = mix_reads(e, 2166136261, 0x08, 27);
     let pattern = mix_reads(e, registers, 0x100, 64);
     let waiting = e.blit.waiting;
+    let rooms = e.rooms;
     if waiting {
-        return mix_byte(pattern, 1);
+        return mix_rooms(mix_byte(pattern, 1), rooms);
     }
-    mix_byte(pattern, 0)
+    mix_rooms(mix_byte(pattern, 0), rooms)
 }
 
 fn wide(x: u8) -> u32

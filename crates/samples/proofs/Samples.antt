@@ -11,6 +11,7 @@ use Rattle.surface.specs.Pixels.{across, rect}
 use Rattle.spans.specs.Span.{allOn}
 use Rattle.formats.specs.Format.{targetOf, sourceOf}
 use Rattle.formats.specs.Step.{rowLength, stepOf, dataBytes, dataWords}
+use Rattle.rooms.specs.Room.{wholeRows, roomOf, targetRoom, sourceRoom, worked}
 use Rattle.views.specs.View.{viewAnswer}
 use Rattle.line.specs.Line.{far, towards, xMajor, longer, shorter, aside, place, pointAt, pointsFrom, pointCount, points}
 use Rattle.line.specs.Stipple.{stepped, after, styleAfter}
@@ -31,7 +32,7 @@ use Rattle.table.specs.Table.{allOnAt, fillVerdict, copyVerdict}
 use Rattle.acts.specs.Deed.{rectEnded, carrying}
 use Rattle.engine.specs.Step.{freshEngine, refusal, storedIn, carried, commanded, toRegister, written}
 use Rattle.packets.specs.Header.{steppedFrom, maskedFrom, offsetsOf}
-use Rattle.samples.specs.Sheet.{Line, marked, playedLines, thumbnails, rowSmears, columnSmears, keyed, keyedSmears, smears, tiles, fillChanges, copyChanges, changes, sheet, headers}
+use Rattle.samples.specs.Sheet.{Line, marked, playedLines, thumbnails, rowSmears, columnSmears, keyed, keyedSmears, smears, tiles, fillChanges, copyChanges, changes, headers, rooms, sheet}
 
 -- the lines of a list hold
 abbrev Hold : List Line → Type 0
@@ -93,9 +94,15 @@ headers-hold : Hold headers
 unfolding offsetsOf steppedFrom maskedFrom
 headers-hold = refl
 
+rooms-hold : Hold rooms
+unfolding wholeRows roomOf targetRoom sourceRoom worked rowBytes byteAt rowPixels firstByte byteCount inMemory onSurface across allOn targetOf sourceOf stepOf steppedXY ropBit ropBits byteOf readBytes writeBytes readPx writePx rect patternBit patternPixel patternIn dab paint fillSource chosen mixed sourcePlace sourceBy giving kept putReg placeOf freshBank stored clipOf cutAt fillCut inkOf fillTask fillVerdict rectEnded carrying freshEngine refusal storedIn carried commanded toRegister written
+rooms-hold = refl
+
 pub samples : map (λ line. line .given) sheet ≡ map (λ line. line .said) sheet
 samples =
-    joined marked (playedLines ++ (thumbnails ++ (smears ++ (tiles ++ (changes ++ headers))))) marked-hold
-    (joined playedLines (thumbnails ++ (smears ++ (tiles ++ (changes ++ headers)))) played-hold
-    (joined thumbnails (smears ++ (tiles ++ (changes ++ headers))) thumbnails-hold
-    (joined smears (tiles ++ (changes ++ headers)) smears-hold (joined tiles (changes ++ headers) tiles-hold (joined changes headers changes-hold headers-hold)))))
+    joined marked (playedLines ++ (thumbnails ++ (smears ++ (tiles ++ (changes ++ (headers ++ rooms)))))) marked-hold
+    (joined playedLines (thumbnails ++ (smears ++ (tiles ++ (changes ++ (headers ++ rooms))))) played-hold
+    (joined thumbnails (smears ++ (tiles ++ (changes ++ (headers ++ rooms)))) thumbnails-hold
+    (joined smears (tiles ++ (changes ++ (headers ++ rooms))) smears-hold
+    (joined tiles (changes ++ (headers ++ rooms)) tiles-hold
+    (joined changes (headers ++ rooms) changes-hold (joined headers rooms headers-hold rooms-hold))))))

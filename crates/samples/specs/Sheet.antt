@@ -13,6 +13,8 @@ use Rattle.surface.specs.declared.Surface.{Surface}
 use Rattle.surface.specs.Place.{surface, byteAt, byteOf, rowPixels, monoBit}
 use Rattle.surface.specs.Pixels.{origin}
 use Rattle.formats.specs.Step.{stepOf, dataWords}
+use Rattle.rooms.specs.declared.Room.{Room}
+use Rattle.rooms.specs.Room.{targetRoom, sourceRoom}
 use Rattle.views.specs.View.{viewAnswer}
 use Rattle.packets.specs.Header.{turnedDown, offsetsOf}
 use Rattle.line.specs.Line.{lineFrom, flat, points}
@@ -240,5 +242,33 @@ headers =
     ∷ is (map isNine (0x2c000052 ∷ 0x00044101 ∷ 0x00004101 ∷ 0x00000002 ∷ [])) (0 ∷ 0 ∷ 0 ∷ 0 ∷ [])
     ∷ []
 
+-- pixels in a row and whole rows
+abbrev pub sides : Room → List ℕ
+sides k = k .pixels ∷ k .rows ∷ []
+
+-- those that the engine keeps of a target of 24 bpp and stride 7 in a memory of n bytes, and the number that a fill of its pixel (0, 2) is answered
+abbrev pub thirdRow : ℕ → List ℕ
+thirdRow n =
+    let s = played (fresh (zeros n)) (0x14 ∷ 0x40007 ∷ 0x0c ∷ 0x30002 ∷ 0x68 ∷ 0x10001 ∷ 0x6c ∷ 0x20000 ∷ 0x70 ∷ 0xcc000105 ∷ []) in
+    sides (s .engine .rooms .target) ++ (numberOf (s .answer) ∷ [])
+
+abbrev pub rooms : List Line
+rooms =
+    -- of 65,536 bytes: 24 bpp and stride 7 from byte 0 on, and from byte 65,530 on; 32 bpp in tiles, 3 across
+    is (sides (targetRoom 65536 0 0x40007)) (2 ∷ 9362 ∷ [])
+    ∷ is (sides (targetRoom 65536 65530 0x40007)) (2 ∷ 0 ∷ [])
+    ∷ is (sides (targetRoom 65536 0x80000000 0x50003)) (96 ∷ 160 ∷ [])
+    -- a mono source of stride 4, and the same in tiles; 24 bpp and stride 7 with packing 1, which goes by the stride
+    ∷ is (sides (sourceRoom 65536 0 4)) (32 ∷ 16384 ∷ [])
+    ∷ is (sides (sourceRoom 65536 0x80000000 4)) (0 ∷ 0 ∷ [])
+    ∷ is (sides (sourceRoom 65536 0 0x440007)) (2 ∷ 9362 ∷ [])
+    -- format 2, which is not listed, and a stride of 0: of a target and of a source
+    ∷ is (sides (targetRoom 65536 0 0x20007) ++ sides (sourceRoom 65536 0 0x20007)) (0 ∷ 0 ∷ 0 ∷ 0 ∷ [])
+    ∷ is (sides (targetRoom 65536 0 0x40000) ++ sides (sourceRoom 65536 0 0x40000)) (0 ∷ 0 ∷ 0 ∷ 0 ∷ [])
+    -- two whole rows of 7 bytes: the third row's first pixel is in bytes 14 to 16, in a memory of 17 bytes; of 16 it is a 7
+    ∷ is (thirdRow 17) (2 ∷ 2 ∷ 0 ∷ [])
+    ∷ is (thirdRow 16) (2 ∷ 2 ∷ 7 ∷ [])
+    ∷ []
+
 abbrev pub sheet : List Line
-sheet = marked ++ (playedLines ++ (thumbnails ++ (smears ++ (tiles ++ (changes ++ headers)))))
+sheet = marked ++ (playedLines ++ (thumbnails ++ (smears ++ (tiles ++ (changes ++ (headers ++ rooms))))))

@@ -25,7 +25,7 @@ use Rattle.state.proofs.Places.{Word, same-bytes, encoded-length, encod
 -- ---- the places of the words
 
 abbrev words : List ℕ
-words = 0x00 ∷ 0x04 ∷ 0x08 ∷ 0x0c ∷ 0x10 ∷ 0x14 ∷ 0x18 ∷ 0x1c ∷ 0x20 ∷ 0x24 ∷ 0x28 ∷ 0x2c ∷ 0x30 ∷ 0x34 ∷ 0x38 ∷ 0x3c ∷ 0x40 ∷ 0x44 ∷ 0x48 ∷ 0x4c ∷ 0x50 ∷ 0x54 ∷ 0x58 ∷ 0x5c ∷ 0x60 ∷ 0x64 ∷ 0x68 ∷ 0x6c ∷ 0x70 ∷ 0x74 ∷ 0x78 ∷ []
+words = 0x00 ∷ 0x04 ∷ 0x08 ∷ 0x0c ∷ 0x10 ∷ 0x14 ∷ 0x18 ∷ 0x1c ∷ 0x20 ∷ 0x24 ∷ 0x28 ∷ 0x2c ∷ 0x30 ∷ 0x34 ∷ 0x38 ∷ 0x3c ∷ 0x40 ∷ 0x44 ∷ 0x48 ∷ 0x4c ∷ 0x50 ∷ 0x54 ∷ 0x58 ∷ 0x5c ∷ 0x60 ∷ 0x64 ∷ 0x68 ∷ 0x6c ∷ 0x70 ∷ 0x74 ∷ 0x78 ∷ 0x7c ∷ 0x80 ∷ 0x84 ∷ 0x88 ∷ []
 
 abbrev allBelow : (ℕ → Bool) → ℕ → Bool
 allBelow f zero = true
@@ -99,94 +99,8 @@ high-back a b h = omega arith
 
 slots-held : (s : List ℕ) → Opened s → Each (λ o. slot (decoded s) o ≡ wordAt s o) words
 unfolding slot decoded regsIn getReg
-slots-held s h = (
-  sym (h .marked),
-  (
-    flag-back (wordAt s 0x04) (h .flag),
-    (
-      refl,
-      (
-        refl,
-        (
-          refl,
-          (
-            refl,
-            (
-              refl,
-              (
-                refl,
-                (
-                  refl,
-                  (
-                    refl,
-                    (
-                      refl,
-                      (
-                        refl,
-                        (
-                          refl,
-                          (
-                            refl,
-                            (
-                              refl,
-                              (
-                                refl,
-                                (
-                                  refl,
-                                  (
-                                    refl,
-                                    (
-                                      refl,
-                                      (
-                                        refl,
-                                        (
-                                          refl,
-                                          (
-                                            refl,
-                                            (
-                                              refl,
-                                              (
-                                                refl,
-                                                (
-                                                  refl,
-                                                  (
-                                                    refl,
-                                                    (
-                                                      refl,
-                                                      (
-                                                        refl,
-                                                        (
-                                                          refl,
-                                                          (low-back (wordAt s 0x74) (wordAt s 0x78) (small s 0x74 (h .bytes)), (high-back (wordAt s 0x74) (wordAt s 0x78) (small s 0x74 (h .bytes)), tt)),
-                                                        ),
-                                                      ),
-                                                    ),
-                                                  ),
-                                                ),
-                                              ),
-                                            ),
-                                          ),
-                                        ),
-                                      ),
-                                    ),
-                                  ),
-                                ),
-                              ),
-                            ),
-                          ),
-                        ),
-                      ),
-                    ),
-                  ),
-                ),
-              ),
-            ),
-          ),
-        ),
-      ),
-    ),
-  ),
-)
+slots-held s h =
+    (sym (h .marked), (flag-back (wordAt s 0x04) (h .flag), (refl, (refl, (refl, (refl, (refl, (refl, (refl, (refl, (refl, (refl, (refl, (refl, (refl, (refl, (refl, (refl, (refl, (refl, (refl, (refl, (refl, (refl, (refl, (refl, (refl, (refl, (refl, (low-back (wordAt s 0x74) (wordAt s 0x78) (small s 0x74 (h .bytes)), (high-back (wordAt s 0x74) (wordAt s 0x78) (small s 0x74 (h .bytes)), (refl, (refl, (refl, (refl, tt)))))))))))))))))))))))))))))))))))
 
 byte-back : (s : List ℕ) (k : ℕ) → Bytes s → byteOf (wordAt s (k / 4 * 4)) (k % 4) ≡ getD s k 0
 unfolding byteOf
@@ -242,10 +156,14 @@ slot-fits e f o =
     (λ _. picked (λ v. v < 2 ^ 32) (eqb o 0x44) _ _ (λ _. f .taken)
     (λ _. picked (λ v. v < 2 ^ 32) (eqb o 0x48) _ _ (λ _. f .last)
     (λ _. picked (λ v. v < 2 ^ 32) (eqb o 0x74) _ _ (λ _. omega arith)
-    (λ _. picked (λ v. v < 2 ^ 32) (eqb o 0x78) _ _ (λ _. omega (arith, f .opened)) (λ _. f .registers o))))))
+    (λ _. picked (λ v. v < 2 ^ 32) (eqb o 0x78) _ _ (λ _. omega (arith, f .opened))
+    (λ _. picked (λ v. v < 2 ^ 32) (eqb o 0x7c) _ _ (λ _. f .source .0)
+    (λ _. picked (λ v. v < 2 ^ 32) (eqb o 0x80) _ _ (λ _. f .source .1)
+    (λ _. picked (λ v. v < 2 ^ 32) (eqb o 0x84) _ _ (λ _. f .target .0)
+    (λ _. picked (λ v. v < 2 ^ 32) (eqb o 0x88) _ _ (λ _. f .target .1) (λ _. f .registers o))))))))))
 
 all-right : Each (λ o. (eqb (o % 4) 0 && ltb o patternAt) ≡ true) words
-all-right = (refl, (refl, (refl, (refl, (refl, (refl, (refl, (refl, (refl, (refl, (refl, (refl, (refl, (refl, (refl, (refl, (refl, (refl, (refl, (refl, (refl, (refl, (refl, (refl, (refl, (refl, (refl, (refl, (refl, (refl, (refl, tt)))))))))))))))))))))))))))))))
+all-right = (refl, (refl, (refl, (refl, (refl, (refl, (refl, (refl, (refl, (refl, (refl, (refl, (refl, (refl, (refl, (refl, (refl, (refl, (refl, (refl, (refl, (refl, (refl, (refl, (refl, (refl, (refl, (refl, (refl, (refl, (refl, (refl, (refl, (refl, (refl, tt)))))))))))))))))))))))))))))))))))
 
 words-back : (e : Engine) → Fits e → Each (λ o. wordAt (encoded e) o ≡ slot e o) words
 words-back e f =
@@ -274,9 +192,9 @@ pattern-back e l =
 
 engine-from : (e : Engine) → e .opened < 2 ^ 64 → patternIn (encoded e) ≡ e .bank .pattern → Each (λ o. wordAt (encoded e) o ≡ slot e o) words → decoded (encoded e) ≡ e
 unfolding decoded regsIn slot getReg
-engine-from e o p (_, (w04, (w08, (w0c, (w10, (w14, (w18, (w1c, (w20, (w24, (w28, (w2c, (w30, (w34, (w38, (w3c, (w40, (w44, (w48, (w4c, (w50, (w54, (w58, (w5c, (w60, (w64, (w68, (w6c, (w70, (w74, (w78, _))))))))))))))))))))))))))))))) =
+engine-from e o p (_, (w04, (w08, (w0c, (w10, (w14, (w18, (w1c, (w20, (w24, (w28, (w2c, (w30, (w34, (w38, (w3c, (w40, (w44, (w48, (w4c, (w50, (w54, (w58, (w5c, (w60, (w64, (w68, (w6c, (w70, (w74, (w78, (w7c, (w80, (w84, (w88, _))))))))))))))))))))))))))))))))))) =
     let z : e .opened % 2 ^ 32 + e .opened / 2 ^ 32 * 2 ^ 32 ≡ e .opened = omega arith in
-    simp (w04, w08, w0c, w10, w14, w18, w1c, w20, w24, w28, w2c, w30, w34, w38, w3c, w40, w44, w48, w4c, w50, w54, w58, w5c, w60, w64, w68, w6c, w70, w74, w78, p, flag-held, z)
+    simp (w04, w08, w0c, w10, w14, w18, w1c, w20, w24, w28, w2c, w30, w34, w38, w3c, w40, w44, w48, w4c, w50, w54, w58, w5c, w60, w64, w68, w6c, w70, w74, w78, w7c, w80, w84, w88, p, flag-held, z)
 
 pub engine-back : EngineBack
 engine-back e f = engine-from e (f .opened) (pattern-back e (f .pattern)) (words-back e f)

@@ -1,3 +1,4 @@
 pub mod Lists
 pub mod Places
 pub mod Back
+pub mod Follows

@@ -8,14 +8,17 @@ use lib.ListN.{length, getD, take, drop}
 use Rattle.basics.specs.Word.{wordAt, withWord}
 use Rattle.registers.specs.declared.Regs.{Regs}
 use Rattle.registers.specs.Regs.{getReg}
+use Rattle.rooms.specs.declared.Room.{Room}
+use Rattle.rooms.specs.declared.Rooms.{Rooms}
+use Rattle.rooms.specs.Room.{targetRoom, sourceRoom, ofTarget, ofSource}
 use Rattle.engine.specs.declared.Engine.{Engine}
 
 -- the length of a state, where the pattern starts, and the word that a state begins with
 abbrev pub stateSize : ℕ
-stateSize = 380
+stateSize = 396
 
 abbrev pub patternAt : ℕ
-patternAt = 0x7c
+patternAt = 0x8c
 
 abbrev pub mark : ℕ
 mark = 0x656d6952
@@ -26,8 +29,8 @@ byteOf d k = cond (eqb k 0) (d % 2 ^ 8) (cond (eqb k 1) (d / 2 ^ 8 % 2 ^ 8) (con
 
 -- ---- an engine's bytes
 
--- the word at byte o: the mark, whether a blit waits, the words it has had and the last of them, the length of the memory in two words; a register at its
--- own offset
+-- the word at byte o: the mark, whether a blit waits, the words it has had and the last of them, the length of the memory in two words, and what is kept of
+-- source and target; a register at its own offset
 unfoldable pub slot : Engine → ℕ → ℕ
 slot e o =
     cond (eqb o 0) mark (
@@ -36,7 +39,11 @@ slot e o =
     cond (eqb o 0x48) (e .blit .last) (
     cond (eqb o 0x74) (e .opened % 2 ^ 32) (
     cond (eqb o 0x78) (e .opened / 2 ^ 32) (
-    getReg o (e .bank .regs)))))))
+    cond (eqb o 0x7c) (e .rooms .source .pixels) (
+    cond (eqb o 0x80) (e .rooms .source .rows) (
+    cond (eqb o 0x84) (e .rooms .target .pixels) (
+    cond (eqb o 0x88) (e .rooms .target .rows) (
+    getReg o (e .bank .regs)))))))))))
 
 -- the words, and after them the pattern
 unfoldable pub byteIn : Engine → ℕ → ℕ
@@ -87,11 +94,18 @@ patternIn s = take 256 (drop patternAt s)
 abbrev pub openedIn : List ℕ → ℕ
 openedIn s = wordAt s 0x74 + wordAt s 0x78 * 2 ^ 32
 
+abbrev pub roomIn : List ℕ → ℕ → Room
+roomIn s i = record { pixels = wordAt s i; rows = wordAt s (i + 4) }
+
+abbrev pub roomsIn : List ℕ → Rooms
+roomsIn s = record { source = roomIn s 0x7c; target = roomIn s 0x84 }
+
 unfoldable pub decoded : List ℕ → Engine
 decoded s = record {
   bank = record { regs = regsIn s; pattern = patternIn s };
   blit = record { waiting = eqb (wordAt s 0x04) 1; taken = wordAt s 0x44; last = wordAt s 0x48 };
   opened = openedIn s;
+  rooms = roomsIn s;
 }
 
 -- whether bytes are a state: their number, the mark, and a flag that is 0 or 1
@@ -115,3 +129,14 @@ fixedSlots = 0 ∷ 0x74 ∷ 0x78 ∷ []
 
 abbrev pub commandSlots : List ℕ
 commandSlots = 0x40 ∷ 0x5c ∷ 0x6c ∷ 0x70 ∷ 0x04 ∷ 0x44 ∷ 0x48 ∷ []
+
+-- what is kept of a surface, put there
+abbrev pub withRoom : List ℕ → ℕ → Room → List ℕ
+withRoom s i k = withWord (withWord s i (k .pixels)) (i + 4) (k .rows)
+
+-- after a store at a register's place: what goes by that register, worked out anew for a memory of len bytes
+unfoldable pub followed : List ℕ → ℕ → ℕ → List ℕ
+followed s len o =
+    cond (ofTarget o) (withRoom s 0x84 (targetRoom len (wordAt s 0x10) (wordAt s 0x14)))
+    (cond (ofSource o) (withRoom s 0x7c (sourceRoom len (wordAt s 0x34) (wordAt s 0x54)))
+    s)

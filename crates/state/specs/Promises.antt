@@ -19,6 +19,8 @@ pub record Fits (e : Engine) : Type 0 where
   pub taken : e .blit .taken < 2 ^ 32
   pub last : e .blit .last < 2 ^ 32
   pub opened : e .opened < 2 ^ 64
+  pub source : (e .rooms .source .pixels < 2 ^ 32) × (e .rooms .source .rows < 2 ^ 32)
+  pub target : (e .rooms .target .pixels < 2 ^ 32) × (e .rooms .target .rows < 2 ^ 32)
   pub pattern : length (e .bank .pattern) ≡ 256
 
 abbrev pub EngineBack : Type 0

@@ -3,16 +3,19 @@ use acts::Blit;
 use bank::Bank;
 use engine::Engine;
 use registers::Regs;
+use rooms::Room;
+use rooms::Rooms;
 ghost use mathlib.Core.Path.{_≡_};
 ghost use mathlib.Core.Bool.{true};
+ghost use Prim.Native.Nat.{_^_, _≤_};
 ghost use lib.ListN.{length, replicate};
-ghost use Rattle.state.specs.Layout.{stateSize, regsIn, patternIn, openedIn, decoded, isState, Bytes, withSlots, commandSlots};
+ghost use Rattle.state.specs.Layout.{stateSize, regsIn, patternIn, openedIn, roomIn, decoded, isState, Bytes, withSlots, commandSlots, followed};
 
 // Whether open made these bytes: their number, the mark, and a flag that is one.
 pub fn is_state(s: &[u8]) -> bool
     ensures { λ r. ⌜ (r ≡ isState (now (s .entry))) × (r ≡ true → Bytes (now (s .entry))) ⌝ }
 {
-    if s.len() != 380 {
+    if s.len() != 396 {
         return false;
     }
     (basics::word_at(s, 0) == 0x656d_6952) & (basics::word_at(s, 4) < 2)
@@ -58,7 +61,7 @@ fn decode_pattern(s: &[u8]) -> [u8; 256]
     let mut p = [0u8; 256];
     let mut i = 0;
     while i < 256 {
-        p[i] = s[0x7c + i];
+        p[i] = s[0x8c + i];
         i += 1;
     }
     p
@@ -69,6 +72,16 @@ pub fn opened_for(s: &[u8]) -> usize
     ensures { λ r. ⌜ r ≡ openedIn (now (s .entry)) ⌝ }
 {
     basics::word_at(s, 0x74) as usize + basics::word_at(s, 0x78) as usize * 0x1_0000_0000
+}
+
+fn decode_room(s: &[u8], at: usize) -> Room
+    requires { ⌜ (length (now s) ≡ stateSize) × (at ≤ 0x84) ⌝ }
+    ensures { λ r. ⌜ r ≡ roomIn (now (s .entry)) at ⌝ }
+{
+    Room {
+        pixels: basics::word_at(s, at),
+        rows: basics::word_at(s, at + 4),
+    }
 }
 
 pub fn decode(s: &[u8]) -> Engine
@@ -88,6 +101,10 @@ pub fn decode(s: &[u8]) -> Engine
             last: basics::word_at(s, 0x48),
         },
         opened: opened_for(s),
+        rooms: Rooms {
+            source: decode_room(s, 0x7c),
+            target: decode_room(s, 0x84),
+        },
     }
 }
 
@@ -109,12 +126,32 @@ pub fn save(s: &mut [u8], e: Engine)
     basics::put_word(s, 0x48, blit.last);
 }
 
+// What is kept of the surface that a register belongs to, worked out anew after a store into it.
+pub fn follow(s: &mut [u8], len: u32, offset: u32)
+    requires { ⌜ (length (now s) ≡ stateSize) × (len ≤ 2 ^ 24) ⌝ }
+    ensures { λ _. ⌜ now (s .exit) ≡ followed (now (s .entry)) len offset ⌝ }
+{
+    match offset {
+        0x10 | 0x14 => {
+            let k = rooms::target_room(len, basics::word_at(s, 0x10), basics::word_at(s, 0x14));
+            basics::put_word(s, 0x84, k.pixels);
+            basics::put_word(s, 0x88, k.rows);
+        }
+        0x34 | 0x54 => {
+            let k = rooms::source_room(len, basics::word_at(s, 0x34), basics::word_at(s, 0x54));
+            basics::put_word(s, 0x7c, k.pixels);
+            basics::put_word(s, 0x80, k.rows);
+        }
+        _ => {}
+    }
+}
+
 pub fn clear(s: &mut [u8])
     requires { ⌜ length (now s) ≡ stateSize ⌝ }
     ensures { λ _. ⌜ now (s .exit) ≡ replicate stateSize 0 ⌝ }
 {
     let mut i = 0;
-    while i < 380 {
+    while i < 396 {
         s[i] = 0;
         i += 1;
     }

@@ -1,6 +1,8 @@
-// Rows 5 to 8 of the table of answers, for a command as the registers have it.
+// Rows 5 to 8 of the table of answers, for a command as the registers have it. What is kept of both surfaces shortens the tests of row 7; no answer hangs on it.
 use cuts::Cut;
 use registers::Regs;
+use rooms::Room;
+use rooms::Rooms;
 use scale::Scale;
 use scale::Stretch;
 use surface::Surface;
@@ -34,7 +36,7 @@ fn host_fine(r: Regs) -> bool
 }
 
 // Whether every source pixel that a copy needs is on its surface: the first is not negative, and the last is there.
-fn needed_on(len: usize, s: Surface, c: Cut) -> bool
+fn needed_on(len: usize, s: Surface, c: Cut, room: Room) -> bool
     requires { ⌜ Small s ⌝ }
     ensures { λ r. ⌜ r ≡ allOnAt s len (needed c) ⌝ }
 {
@@ -50,7 +52,7 @@ fn needed_on(len: usize, s: Surface, c: Cut) -> bool
     if c.sy < 16384 {
         return false;
     }
-    spans::rect_on(len, s, c.sx - 16384, c.sy - 16384, c.w, c.h)
+    rooms::rect_in(len, s, room, c.sx - 16384, c.sy - 16384, c.w, c.h)
 }
 
 // Whether the spans of what a copy paints and of what it needs meet; the source's rectangle is that of cut b.
@@ -71,11 +73,13 @@ fn spans_clash(t: Surface, s: Surface, c: Cut, b: Cut) -> bool
 
 // Rows 7 and 8 of a command that paints cut c of t and takes box b of s: something is off its surface, or the spans meet.
 // A lenient command may have both on one surface.
-fn source_rows(len: usize, t: Surface, s: Surface, c: Cut, b: Cut, lenient: bool) -> u32
+fn source_rows(len: usize, t: Surface, s: Surface, c: Cut, b: Cut, lenient: bool, k: Rooms) -> u32
     requires { ⌜ Small t × Small s × (0 < c .w → 0 < c .h → (0 < b .w) × (0 < b .h)) ⌝ }
     ensures { λ n. ⌜ n ≡ sourceRows t s len c (needed b) lenient ⌝ }
 {
-    if !spans::rect_on(len, t, c.x, c.y, c.w, c.h) | !needed_on(len, s, b) {
+    let ours = k.target;
+    let theirs = k.source;
+    if !rooms::rect_in(len, t, ours, c.x, c.y, c.w, c.h) | !needed_on(len, s, b, theirs) {
         return 7;
     }
     if !(lenient & surface::same_surface(t, s)) & spans_clash(t, s, c, b) {
@@ -84,7 +88,7 @@ fn source_rows(len: usize, t: Surface, s: Surface, c: Cut, b: Cut, lenient: bool
     0
 }
 
-pub fn fill_verdict(len: usize, r: Regs) -> u32
+pub fn fill_verdict(len: usize, r: Regs, k: Rooms) -> u32
     ensures { λ n. ⌜ n ≡ fillVerdict r len ⌝ }
 {
     if !formats::names_target(r.dstFormat) {
@@ -92,13 +96,14 @@ pub fn fill_verdict(len: usize, r: Regs) -> u32
     }
     let t = command::target_surface(r);
     let c = cuts::fill_cut(r);
-    if spans::rect_on(len, t, c.x, c.y, c.w, c.h) {
+    let room = k.target;
+    if rooms::rect_in(len, t, room, c.x, c.y, c.w, c.h) {
         return 0;
     }
     7
 }
 
-pub fn copy_verdict(len: usize, r: Regs) -> u32
+pub fn copy_verdict(len: usize, r: Regs, k: Rooms) -> u32
     ensures { λ n. ⌜ n ≡ copyVerdict r len ⌝ }
 {
     if !both_fine(r) {
@@ -107,7 +112,7 @@ pub fn copy_verdict(len: usize, r: Regs) -> u32
     let t = command::target_surface(r);
     let s = command::source_surface(r);
     let c = cuts::copy_cut(r);
-    source_rows(len, t, s, c, c, true)
+    source_rows(len, t, s, c, c, true, rooms::tell(r.srcFormat, k))
 }
 
 // The source places that target places take, on one axis: the first, and how many there are from it to the last.
@@ -148,7 +153,7 @@ fn taken_cut(t: Stretch, c: Cut) -> Cut
 }
 
 // Rows 7 and 8 of a stretch to the pixels of a cut. Source positions go up with the target's, so that the box has them all, and its corners are taken.
-fn stretch_rows(len: usize, t: Stretch, c: Cut) -> u32
+fn stretch_rows(len: usize, t: Stretch, c: Cut, k: Rooms) -> u32
     requires { ⌜ OnScales t c ⌝ }
     ensures { λ n. ⌜ n ≡ stretchRows t c len ⌝ }
 {
@@ -162,7 +167,7 @@ fn stretch_rows(len: usize, t: Stretch, c: Cut) -> u32
         return 0;
     }
     let b = taken_cut(t, c);
-    source_rows(len, target, from, c, b, false)
+    source_rows(len, target, from, c, b, false, k)
 }
 
 // Whether row 6 applies to a stretch: its source has no width or no height, and its target has both.
@@ -173,7 +178,7 @@ fn stretch_fault(r: Regs) -> bool
         & ((r.srcSize % 0x2000 == 0) | (r.srcSize / 0x1_0000 % 0x2000 == 0))
 }
 
-pub fn stretch_verdict(len: usize, r: Regs) -> u32
+pub fn stretch_verdict(len: usize, r: Regs, k: Rooms) -> u32
     ensures { λ n. ⌜ n ≡ stretchVerdict r len ⌝ }
 {
     if !both_fine(r) {
@@ -184,7 +189,7 @@ pub fn stretch_verdict(len: usize, r: Regs) -> u32
     }
     let t = command::decode_stretch(r);
     let c = cuts::fill_cut(r);
-    stretch_rows(len, t, c)
+    stretch_rows(len, t, c, rooms::tell(r.srcFormat, k))
 }
 
 // Whether row 6 applies to a host blit.
@@ -198,7 +203,7 @@ fn host_fault(r: Regs) -> bool
             | (!(r.srcXY == 0) | ((r.srcFormat / 0x40_0000 % 4 == 0) & (s.stride < row))))
 }
 
-pub fn host_verdict(len: usize, r: Regs) -> u32
+pub fn host_verdict(len: usize, r: Regs, k: Rooms) -> u32
     ensures { λ n. ⌜ n ≡ hostVerdict r len ⌝ }
 {
     if !host_fine(r) {
@@ -209,7 +214,8 @@ pub fn host_verdict(len: usize, r: Regs) -> u32
     }
     let t = command::target_surface(r);
     let c = cuts::fill_cut(r);
-    if spans::rect_on(len, t, c.x, c.y, c.w, c.h) {
+    let room = k.target;
+    if rooms::rect_in(len, t, room, c.x, c.y, c.w, c.h) {
         return 0;
     }
     7

@@ -32,7 +32,7 @@ use Rattle.words.proofs.Laws.{Fits, worded, Went, sum-joins, fits-launc
 -- the run after some words of a blit
 abbrev pub fedTo : Ran → Feeding → Ran
 fedTo t x = record {
-  engine = record { bank = feedEnded (t .engine .bank) (x .blit); blit = x .blit; opened = t .engine .opened };
+  engine = record { bank = feedEnded (t .engine .bank) (x .blit); blit = x .blit; opened = t .engine .opened; rooms = t .engine .rooms };
   memory = x .left .mem;
   number = 0;
   taken = t .taken + x .used;

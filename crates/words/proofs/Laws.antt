@@ -109,7 +109,7 @@ module _ (t : Ran) (w : ℕ) (fits : Fits t) (other : number (regs (t .engine)) 
 
   pub start-goes : a .number ≡ 0
       → record {
-        engine = record { bank = withEnds (t .engine .bank) (a .ends); blit = a .blit; opened = t .engine .opened };
+        engine = record { bank = withEnds (t .engine .bank) (a .ends); blit = a .blit; opened = t .engine .opened; rooms = t .engine .rooms };
         memory = m′;
         number = 0;
         taken = t .taken + 1;

@@ -3,6 +3,7 @@ use acts::Blit;
 use bank::Bank;
 use engine::Engine;
 use paint::Tally;
+use rooms::Rooms;
 ghost use mathlib.Core.Path.{_≡_};
 ghost use Prim.Native.Nat.{_+_, _%_, _^_, _<_};
 ghost use Rattle.words.specs.Words.{ran, ranOf};
@@ -33,14 +34,15 @@ fn add(t: Sums, n: usize, tally: Tally) -> Sums
     }
 }
 
-fn ended(bank: Bank, blit: Blit, opened: usize, number: u32, sums: Sums) -> Run
-    ensures { λ r. ⌜ r ≡ record { engine = record { bank = bank; blit = blit; opened = opened }; number = number; sums = sums } ⌝ }
+fn ended(bank: Bank, blit: Blit, opened: usize, rooms: Rooms, number: u32, sums: Sums) -> Run
+    ensures { λ r. ⌜ r ≡ record { engine = record { bank = bank; blit = blit; opened = opened; rooms = rooms }; number = number; sums = sums } ⌝ }
 {
     Run {
         engine: Engine {
             bank: bank,
             blit: blit,
             opened: opened,
+            rooms: rooms,
         },
         number: number,
         sums: sums,
@@ -52,6 +54,7 @@ pub fn take_run(e: Engine, mem: &mut [u8], words: &[u32]) -> Run
     ensures { λ r. ⌜ ranOf r (now (mem .exit)) ≡ ran e (now (mem .entry)) (now (words .entry)) ⌝ }
 {
     let opened = e.opened;
+    let rooms = e.rooms;
     let mut bank = e.bank;
     let mut blit = e.blit;
     let mut sums = Sums {
@@ -62,29 +65,29 @@ pub fn take_run(e: Engine, mem: &mut [u8], words: &[u32]) -> Run
     while sums.taken < words.len() {
         let at = sums.taken;
         if 0x100_0000 < mem.len() {
-            return ended(bank, blit, opened, 1, sums);
+            return ended(bank, blit, opened, rooms, 1, sums);
         }
         if mem.len() != opened {
-            return ended(bank, blit, opened, 1, sums);
+            return ended(bank, blit, opened, rooms, 1, sums);
         }
         if bank.regs.command % 16 == 3 {
-            let fed = acts::feed_run(bank, blit, mem, &words[at..]);
+            let fed = acts::feed_run(bank, blit, mem, &words[at..], rooms);
             if fed.number != 0 {
-                return ended(bank, blit, opened, fed.number, sums);
+                return ended(bank, blit, opened, rooms, fed.number, sums);
             }
             let rest = fed.blit;
             bank = acts::end_feed(bank, rest);
             blit = rest;
             sums = add(sums, fed.used, fed.tally);
         } else {
-            let act = acts::start(bank.regs, &bank.pattern, blit, mem, words[at]);
+            let act = acts::start(bank.regs, &bank.pattern, blit, mem, words[at], rooms);
             if act.number != 0 {
-                return ended(bank, blit, opened, act.number, sums);
+                return ended(bank, blit, opened, rooms, act.number, sums);
             }
             bank.regs = acts::with_ends(bank.regs, act.ends);
             blit = act.blit;
             sums = add(sums, 1, act.tally);
         }
     }
-    ended(bank, blit, opened, 0, sums)
+    ended(bank, blit, opened, rooms, 0, sums)
 }

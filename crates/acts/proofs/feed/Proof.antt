@@ -65,8 +65,8 @@ add-if3 c = search needs
 ends-of-requires-2 : tie.Need-ends-of-requires-2
 ends-of-requires-2 c κs = search needs
 
-add-t20 : tie.Need-add-t20
-add-t20 c = search needs
+add-t21 : tie.Need-add-t21
+add-t21 c = search needs
 
 same-length : tie.Need-same-length
 same-length c = search needs
@@ -111,7 +111,7 @@ feed-spec =
     paint-word-requires
     add-if3
     ends-of-requires-2
-    add-t20
+    add-t21
     same-length
     returns-3
     end-rect-requires-2

@@ -3,12 +3,12 @@
 use borrow.Author.Needs.{needs}
 use mathlib.Core.Path.{sym, _∙_}
 use borrow.Author.Tests.{eq-eqb, ne-eqb, lt-ltb, le-ltb}
-use Rattle.capi.specs.Calls.{plainly}
+use Rattle.capi.specs.Calls.{tested}
 use Rattle.capi.proofs.put_plain.Statement.{statement}
 use Rattle.capi.proofs.put_plain.Tie as tie
 
 returns : tie.Need-returns
-unfolding plainly
+unfolding tested
 returns c = simp (lt-ltb _ _ (c .if1 .taken))
 
 opened-for-requires : tie.Need-opened-for-requires
@@ -18,7 +18,7 @@ same-length : tie.Need-same-length
 same-length c = search needs
 
 returns-2 : tie.Need-returns-2
-unfolding plainly
+unfolding tested
 returns-2 c = simp (le-ltb _ _ (c .before .before .before .if1 .left), ne-eqb _ _ (λ e. c .if2 .taken (e ∙ sym (c .before .opened-for .ensures))))
 
 word-at-requires : tie.Need-word-at-requires
@@ -28,7 +28,7 @@ same-length-2 : tie.Need-same-length-2
 same-length-2 c = search needs
 
 returns-3 : tie.Need-returns-3
-unfolding plainly
+unfolding tested
 returns-3 c =
     simp (
       le-ltb _ _ (c .before .before .before .before .before .before .if1 .left),
@@ -43,7 +43,7 @@ same-length-3 : tie.Need-same-length-3
 same-length-3 c = search needs
 
 returns-4 : tie.Need-returns-4
-unfolding plainly
+unfolding tested
 returns-4 c =
     simp (
       le-ltb _ _ (c .before .before .before .before .before .before .before .before .before .before .if1 .left),

@@ -1,7 +1,7 @@
 -- `rimebarrow_write` meets its contract: by whether the bytes are a state, and by what the offset names.
 -- Assumes nothing.
 use borrow.Author.Needs.{needs}
-use mathlib.Core.Path.{_≡_, sym, ap, _∙_}
+use mathlib.Core.Path.{_≡_, sym, _∙_}
 use mathlib.Core.Bool.{true}
 use mathlib.Core.List.{List}
 use Prim.Native.Nat.{ℕ}
@@ -10,7 +10,6 @@ use lib.ListN.{length}
 use borrow.Author.Tests.{not-true, not-false}
 use Rattle.registers.proofs.OffsetLaws.{pattern-word}
 use Rattle.state.specs.Layout.{stateSize, isState, Bytes}
-use Rattle.capi.specs.Calls.{plainly}
 use Rattle.state.proofs.Back.{opened}
 use Rattle.capi.proofs.Writes.{not-written, register-word, register-written, pattern-written}
 use Rattle.capi.proofs.Changes.{draws-command, draws-launch, draws-nowhere}
@@ -60,13 +59,10 @@ same-length-3 c = search needs
 returns-2 : tie.Need-returns-2
 returns-2 c = search needs
 
-kept-bits-requires : tie.Need-kept-bits-requires
-kept-bits-requires c κs = search needs
-
-put-plain-requires : tie.Need-put-plain-requires
-put-plain-requires c κs =
-    let w = register-word _ (sym (c .before .before .before .before .before .find-place .ensures) ∙ c .before .before .before .enum-told .given .1) in
-    (size (c .before .before .before .before .before .before), omega (arith, w .0, w .1))
+put-register-requires : tie.Need-put-register-requires
+put-register-requires c κs =
+    let w = register-word _ (sym (c .before .before .before .before .find-place .ensures) ∙ c .before .before .enum-told .given .1) in
+    (size (c .before .before .before .before .before), omega (arith, w .0, w .1))
 
 enum-known-place : tie.Need-enum-known-place
 enum-known-place c = search needs
@@ -74,8 +70,8 @@ enum-known-place c = search needs
 add-put-plain : tie.Need-add-put-plain
 add-put-plain c = let w = pattern-word _ (sym (c .before .before .before .before .find-place .ensures) ∙ c .before .before .place .given .1) in omega (arith, w .1)
 
-put-plain-requires-2 : tie.Need-put-plain-requires-2
-put-plain-requires-2 c κs = let w = pattern-word _ (sym (c .before .before .before .before .find-place .ensures) ∙ c .before .before .place .given .1) in (size (c .before .before .before .before .before), omega (arith, w .1))
+put-plain-requires : tie.Need-put-plain-requires
+put-plain-requires c κs = let w = pattern-word _ (sym (c .before .before .before .before .find-place .ensures) ∙ c .before .before .place .given .1) in (size (c .before .before .before .before .before), omega (arith, w .1))
 
 enum-told-2 : tie.Need-enum-told-2
 enum-told-2 c = search needs
@@ -94,15 +90,17 @@ same-length-4 c = search needs
 
 returns-3 : tie.Need-returns-3
 returns-3 c =
-    register-written (S (c .before .before .before .before .before .before .before .before .before)) (M (c .before .before .before .before .before .before .before .before .before)) (c .before .before .before .before .before .before .before .before .before .before .before .before .before .before .args .offset) (c .before .before .before .before .before .before .before .before .before .before .before .before .before .before .args .word) (whole (c .before .before .before .before .before .before .before .before .before)) (each-byte (c .before .before .before .before .before .before .before .before .before)) (sym (c .before .before .before .before .before .before .before .before .find-place .ensures) ∙ c .before .before .before .before .before .before .enum-told .given .1) (c .before .before .before .before .before .if2 .left)
-    (c .before .before .put-plain .ensures ∙ ap (plainly (S (c .before .before .before .before .before .before .before .before .before)) (length (M (c .before .before .before .before .before .before .before .before .before))) (c .before .before .before .before .before .before .before .before .before .before .before .before .before .before .args .offset)) (c .before .before .before .kept-bits .ensures))
+    let f = c .before .before in
+    let e = f .before .before .before .before .before .before in
+    let a = e .before .before .before .before .before .args in
+    register-written (S e) (M e) (a .offset) (a .word) (whole e) (each-byte e) (omega arith) (sym (f .before .before .before .before .before .find-place .ensures) ∙ f .before .before .before .enum-told .given .1) (f .before .before .if2 .left) (f .put-register .ensures)
 
 same-length-5 : tie.Need-same-length-5
 same-length-5 c = search needs
 
 returns-4 : tie.Need-returns-4
 returns-4 c =
-    pattern-written (S (c .before .before .before .before .before .before .before .before)) (M (c .before .before .before .before .before .before .before .before)) (c .before .before .before .before .before .before .before .before .before .before .before .before .before .args .offset) (c .before .before .before .before .before .before .before .before .before .before .before .before .before .args .word) (whole (c .before .before .before .before .before .before .before .before)) (each-byte (c .before .before .before .before .before .before .before .before)) (sym (c .before .before .before .before .before .before .before .find-place .ensures) ∙ c .before .before .before .before .before .place .given .1) (c .before .before .put-plain2 .ensures)
+    pattern-written (S (c .before .before .before .before .before .before .before .before)) (M (c .before .before .before .before .before .before .before .before)) (c .before .before .before .before .before .before .before .before .before .before .before .before .before .args .offset) (c .before .before .before .before .before .before .before .before .before .before .before .before .before .args .word) (whole (c .before .before .before .before .before .before .before .before)) (each-byte (c .before .before .before .before .before .before .before .before)) (sym (c .before .before .before .before .before .before .before .find-place .ensures) ∙ c .before .before .before .before .before .place .given .1) (c .before .before .put-plain .ensures)
 
 same-length-6 : tie.Need-same-length-6
 same-length-6 c = search needs
@@ -135,11 +133,10 @@ rimebarrow-write-spec =
     same-length-2
     same-length-3
     returns-2
-    kept-bits-requires
-    put-plain-requires
+    put-register-requires
     enum-known-place
     add-put-plain
-    put-plain-requires-2
+    put-plain-requires
     enum-told-2
     run-requires-2
     enum-told-3

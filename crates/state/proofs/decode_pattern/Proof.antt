@@ -35,7 +35,7 @@ loop-less c = search needs
 
 loop-again : tie.Need-loop-again Inv-loop μ-loop
 loop-again c =
-    (copied-next _ _ (c .before .before .loop .i) (omega arith) (c .before .before .loop .inv .0), (length-set (c .before .before .loop .p) (c .before .before .loop .i) (getD (c .before .before .before .args .s .now) (124 + c .before .before .loop .i) 0) ∙ c .before .before .loop .inv .1 .0, omega arith))
+    (copied-next _ _ (c .before .before .loop .i) (omega arith) (c .before .before .loop .inv .0), (length-set (c .before .before .loop .p) (c .before .before .loop .i) (getD (c .before .before .before .args .s .now) (140 + c .before .before .loop .i) 0) ∙ c .before .before .loop .inv .1 .0, omega arith))
 
 returns : tie.Need-returns Inv-loop μ-loop
 returns c =

@@ -25,17 +25,20 @@ source-surface-requires c κs = search needs
 copy-cut-requires : tie.Need-copy-cut-requires
 copy-cut-requires c κs = search needs
 
+tell-requires : tie.Need-tell-requires
+tell-requires c κs = search needs
+
 source-rows-requires : tie.Need-source-rows-requires
 source-rows-requires c κs =
-    let r = c .before .before .before .before .before .args .r in
-    rw (c .before .before .target-surface .ensures, c .before .source-surface .ensures)
+    let r = c .before .before .before .before .before .before .args .r in
+    rw (c .before .before .before .target-surface .ensures, c .before .before .source-surface .ensures)
     (target-small (r .dstBaseAddr) (r .dstFormat), source-small (r .srcBaseAddr) (r .srcFormat) (width r) (omega arith), λ w h. (w, h))
 
 returns-2 : tie.Need-returns-2
 returns-2 c =
-    let k = c .before .before .before in
+    let k = c .before .before .before .before in
     let f = k .before .before .both-fine in
-    rw (k .target-surface .ensures, c .before .before .source-surface .ensures, c .before .copy-cut .ensures) at (c .source-rows .ensures)
+    rw (k .target-surface .ensures, c .before .before .before .source-surface .ensures, c .before .before .copy-cut .ensures) at (c .source-rows .ensures)
     ∙ copy-rows (k .before .before .before .args .r) (k .before .before .before .args .len) (sym (f .ensures) ∙ not-false (f .result) (k .before .if1 .left))
 
 pub copy-verdict-spec : {M : Type 1} → statement M
@@ -47,5 +50,6 @@ copy-verdict-spec =
     target-surface-requires
     source-surface-requires
     copy-cut-requires
+    tell-requires
     source-rows-requires
     returns-2)

@@ -24,14 +24,14 @@ target-surface-requires c κs = search needs
 fill-cut-requires : tie.Need-fill-cut-requires
 fill-cut-requires c κs = search needs
 
-rect-on-requires : tie.Need-rect-on-requires
-rect-on-requires c κs = rw (c .before .target-surface .ensures) (target-small (c .before .before .before .before .args .r .dstBaseAddr) (c .before .before .before .before .args .r .dstFormat))
+rect-in-requires : tie.Need-rect-in-requires
+rect-in-requires c κs = rw (c .before .before .target-surface .ensures) (target-small (c .before .before .before .before .before .args .r .dstBaseAddr) (c .before .before .before .before .before .args .r .dstFormat))
 
 returns-2 : tie.Need-returns-2
-returns-2 c = fill-by (c .before .before .before .before .before .before .args .r) (c .before .before .before .before .before .before .args .len) (sym (c .before .before .before .before .before .names-target .ensures) ∙ not-false (c .before .before .before .before .before .names-target .result) (c .before .before .before .before .if1 .left)) (ap₂ (λ (s : Surface) (k : Cut). allOn s (c .before .before .before .before .before .before .args .len) (covered k)) (sym (c .before .before .before .target-surface .ensures)) (sym (c .before .before .fill-cut .ensures)) ∙ sym (c .before .rect-on .ensures) ∙ c .if2 .taken)
+returns-2 c = fill-by (c .before .before .before .before .before .before .before .args .r) (c .before .before .before .before .before .before .before .args .len) (sym (c .before .before .before .before .before .before .names-target .ensures) ∙ not-false (c .before .before .before .before .before .before .names-target .result) (c .before .before .before .before .before .if1 .left)) (ap₂ (λ (s : Surface) (k : Cut). allOn s (c .before .before .before .before .before .before .before .args .len) (covered k)) (sym (c .before .before .before .before .target-surface .ensures)) (sym (c .before .before .before .fill-cut .ensures)) ∙ sym (c .before .rect-in .ensures) ∙ c .if2 .taken)
 
 returns-3 : tie.Need-returns-3
-returns-3 c = fill-by (c .before .before .before .before .before .before .args .r) (c .before .before .before .before .before .before .args .len) (sym (c .before .before .before .before .before .names-target .ensures) ∙ not-false (c .before .before .before .before .before .names-target .result) (c .before .before .before .before .if1 .left)) (ap₂ (λ (s : Surface) (k : Cut). allOn s (c .before .before .before .before .before .before .args .len) (covered k)) (sym (c .before .before .before .target-surface .ensures)) (sym (c .before .before .fill-cut .ensures)) ∙ sym (c .before .rect-on .ensures) ∙ c .if2 .left)
+returns-3 c = fill-by (c .before .before .before .before .before .before .before .args .r) (c .before .before .before .before .before .before .before .args .len) (sym (c .before .before .before .before .before .before .names-target .ensures) ∙ not-false (c .before .before .before .before .before .before .names-target .result) (c .before .before .before .before .before .if1 .left)) (ap₂ (λ (s : Surface) (k : Cut). allOn s (c .before .before .before .before .before .before .before .args .len) (covered k)) (sym (c .before .before .before .before .target-surface .ensures)) (sym (c .before .before .before .fill-cut .ensures)) ∙ sym (c .before .rect-in .ensures) ∙ c .if2 .left)
 
 pub fill-verdict-spec : {M : Type 1} → statement M
 fill-verdict-spec =
@@ -41,6 +41,6 @@ fill-verdict-spec =
     returns
     target-surface-requires
     fill-cut-requires
-    rect-on-requires
+    rect-in-requires
     returns-2
     returns-3)

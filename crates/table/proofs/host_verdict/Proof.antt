@@ -30,14 +30,14 @@ target-surface-requires c κs = search needs
 fill-cut-requires : tie.Need-fill-cut-requires
 fill-cut-requires c κs = search needs
 
-rect-on-requires : tie.Need-rect-on-requires
-rect-on-requires c κs = rw (c .before .target-surface .ensures) (target-small (c .before .before .before .before .before .before .args .r .dstBaseAddr) (c .before .before .before .before .before .before .args .r .dstFormat))
+rect-in-requires : tie.Need-rect-in-requires
+rect-in-requires c κs = rw (c .before .before .target-surface .ensures) (target-small (c .before .before .before .before .before .before .before .args .r .dstBaseAddr) (c .before .before .before .before .before .before .before .args .r .dstFormat))
 
 returns-3 : tie.Need-returns-3
-returns-3 c = host-by (c .before .before .before .before .before .before .before .before .args .r) (c .before .before .before .before .before .before .before .before .args .len) (sym (c .before .before .before .before .before .before .before .host-fine .ensures) ∙ not-false (c .before .before .before .before .before .before .before .host-fine .result) (c .before .before .before .before .before .before .if1 .left)) (sym (c .before .before .before .before .before .host-fault .ensures) ∙ c .before .before .before .before .if2 .left) (ap₂ (λ (s : Surface) (k : Cut). allOn s (c .before .before .before .before .before .before .before .before .args .len) (covered k)) (sym (c .before .before .before .target-surface .ensures)) (sym (c .before .before .fill-cut .ensures)) ∙ sym (c .before .rect-on .ensures) ∙ c .if3 .taken)
+returns-3 c = host-by (c .before .before .before .before .before .before .before .before .before .args .r) (c .before .before .before .before .before .before .before .before .before .args .len) (sym (c .before .before .before .before .before .before .before .before .host-fine .ensures) ∙ not-false (c .before .before .before .before .before .before .before .before .host-fine .result) (c .before .before .before .before .before .before .before .if1 .left)) (sym (c .before .before .before .before .before .before .host-fault .ensures) ∙ c .before .before .before .before .before .if2 .left) (ap₂ (λ (s : Surface) (k : Cut). allOn s (c .before .before .before .before .before .before .before .before .before .args .len) (covered k)) (sym (c .before .before .before .before .target-surface .ensures)) (sym (c .before .before .before .fill-cut .ensures)) ∙ sym (c .before .rect-in .ensures) ∙ c .if3 .taken)
 
 returns-4 : tie.Need-returns-4
-returns-4 c = host-by (c .before .before .before .before .before .before .before .before .args .r) (c .before .before .before .before .before .before .before .before .args .len) (sym (c .before .before .before .before .before .before .before .host-fine .ensures) ∙ not-false (c .before .before .before .before .before .before .before .host-fine .result) (c .before .before .before .before .before .before .if1 .left)) (sym (c .before .before .before .before .before .host-fault .ensures) ∙ c .before .before .before .before .if2 .left) (ap₂ (λ (s : Surface) (k : Cut). allOn s (c .before .before .before .before .before .before .before .before .args .len) (covered k)) (sym (c .before .before .before .target-surface .ensures)) (sym (c .before .before .fill-cut .ensures)) ∙ sym (c .before .rect-on .ensures) ∙ c .if3 .left)
+returns-4 c = host-by (c .before .before .before .before .before .before .before .before .before .args .r) (c .before .before .before .before .before .before .before .before .before .args .len) (sym (c .before .before .before .before .before .before .before .before .host-fine .ensures) ∙ not-false (c .before .before .before .before .before .before .before .before .host-fine .result) (c .before .before .before .before .before .before .before .if1 .left)) (sym (c .before .before .before .before .before .before .host-fault .ensures) ∙ c .before .before .before .before .before .if2 .left) (ap₂ (λ (s : Surface) (k : Cut). allOn s (c .before .before .before .before .before .before .before .before .before .args .len) (covered k)) (sym (c .before .before .before .before .target-surface .ensures)) (sym (c .before .before .before .fill-cut .ensures)) ∙ sym (c .before .rect-in .ensures) ∙ c .if3 .left)
 
 pub host-verdict-spec : {M : Type 1} → statement M
 host-verdict-spec =
@@ -49,6 +49,6 @@ host-verdict-spec =
     returns-2
     target-surface-requires
     fill-cut-requires
-    rect-on-requires
+    rect-in-requires
     returns-3
     returns-4)

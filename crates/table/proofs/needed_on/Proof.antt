@@ -19,12 +19,12 @@ returns-3 c = sym (needed-negative (c .before .before .before .before .before .b
 returns-4 : tie.Need-returns-4
 returns-4 c = sym (needed-negative (c .before .before .before .before .before .before .before .before .args .s) (c .before .before .before .before .before .before .before .before .args .len) (c .before .before .before .before .before .before .before .before .args .c) (omega arith) (omega arith) (λ l t. omega (arith, c .if4 .taken)))
 
-rect-on-requires : tie.Need-rect-on-requires
-rect-on-requires c κs = search needs
+rect-in-requires : tie.Need-rect-in-requires
+rect-in-requires c κs = search needs
 
 returns-5 : tie.Need-returns-5
-returns-5 c = c .rect-on .ensures ∙ sym (needed-as-pixels (c .before .before .before .before .before .before .before .before .before .before .before .args .s) (c .before .before .before .before .before .before .before .before .before .before .before .args .len) (c .before .before .before .before .before .before .before .before .before .before .before .args .c) (omega arith) (omega arith) (c .before .before .before .before .before .if3 .left) (c .before .before .before .if4 .left))
+returns-5 c = c .rect-in .ensures ∙ sym (needed-as-pixels (c .before .before .before .before .before .before .before .before .before .before .before .args .s) (c .before .before .before .before .before .before .before .before .before .before .before .args .len) (c .before .before .before .before .before .before .before .before .before .before .before .args .c) (omega arith) (omega arith) (c .before .before .before .before .before .if3 .left) (c .before .before .before .if4 .left))
 
 pub needed-on-spec : {M : Type 1} → statement M
 needed-on-spec =
-    tie.close (tie.spec returns returns-2 returns-3 returns-4 rect-on-requires returns-5)
+    tie.close (tie.spec returns returns-2 returns-3 returns-4 rect-in-requires returns-5)

@@ -28,17 +28,20 @@ decode-stretch-requires c κs = search needs
 fill-cut-requires : tie.Need-fill-cut-requires
 fill-cut-requires c κs = search needs
 
+tell-requires : tie.Need-tell-requires
+tell-requires c κs = search needs
+
 stretch-rows-requires : tie.Need-stretch-rows-requires
-stretch-rows-requires c κs = rw (c .before .decode-stretch .ensures, c .fill-cut .ensures) (stretch-scales (c .before .before .before .before .before .before .args .r))
+stretch-rows-requires c κs = rw (c .before .before .decode-stretch .ensures, c .before .fill-cut .ensures) (stretch-scales (c .before .before .before .before .before .before .before .args .r))
 
 returns-3 : tie.Need-returns-3
 returns-3 c =
-    let a = c .before .before .before .before .before .before .before .args in
+    let a = c .before .before .before .before .before .before .before .before .args in
     c .stretch-rows .ensures
-    ∙ ap₂ (λ (t : Stretch) (k : Cut). stretchRows t k (a .len)) (c .before .before .decode-stretch .ensures) (c .before .fill-cut .ensures)
+    ∙ ap₂ (λ (t : Stretch) (k : Cut). stretchRows t k (a .len)) (c .before .before .before .decode-stretch .ensures) (c .before .before .fill-cut .ensures)
     ∙ stretch-by (a .r) (a .len)
-    (sym (c .before .before .before .before .before .before .both-fine .ensures) ∙ not-false (c .before .before .before .before .before .before .both-fine .result) (c .before .before .before .before .before .if1 .left))
-    (sym (c .before .before .before .before .stretch-fault .ensures) ∙ c .before .before .before .if2 .left)
+    (sym (c .before .before .before .before .before .before .before .both-fine .ensures) ∙ not-false (c .before .before .before .before .before .before .before .both-fine .result) (c .before .before .before .before .before .before .if1 .left))
+    (sym (c .before .before .before .before .before .stretch-fault .ensures) ∙ c .before .before .before .before .if2 .left)
 
 pub stretch-verdict-spec : {M : Type 1} → statement M
 stretch-verdict-spec =
@@ -50,5 +53,6 @@ stretch-verdict-spec =
     returns-2
     decode-stretch-requires
     fill-cut-requires
+    tell-requires
     stretch-rows-requires
     returns-3)

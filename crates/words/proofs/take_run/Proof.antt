@@ -7,6 +7,7 @@ use mathlib.Core.List.{List}
 use Prim.Native.Nat.{ℕ, _-_, _<_}
 use lib.ListN.{length, drop, getD}
 use Rattle.bank.specs.declared.Bank.{Bank}
+use Rattle.rooms.specs.declared.Rooms.{Rooms}
 use Rattle.acts.specs.declared.Blit.{Blit}
 use Rattle.acts.specs.Fed.{fed, feedingRun}
 use Rattle.words.specs.declared.Sums.{Sums}
@@ -17,22 +18,22 @@ use Rattle.words.proofs.take_run.Statement.{statement}
 use Rattle.words.proofs.take_run.Tie as tie
 
 -- the run between two turns
-abbrev sofar : ℕ → List ℕ → Bank → Blit → Sums → Ran
-sofar opened m b k t = record { engine = record { bank = b; blit = k; opened = opened }; memory = m; number = 0; taken = t .taken; count = t .count; changed = t .changed }
+abbrev sofar : ℕ → Rooms → List ℕ → Bank → Blit → Sums → Ran
+sofar opened rooms m b k t = record { engine = record { bank = b; blit = k; opened = opened; rooms = rooms }; memory = m; number = 0; taken = t .taken; count = t .count; changed = t .changed }
 
 abbrev Inv-loop : tie.InvT-loop
-Inv-loop mem₀ words opened bank₀ blit₀ sums₀ mem bank blit sums =
-    (ranFrom (sofar opened mem bank blit sums) (drop (sums .taken) words) ≡ ranFrom (sofar opened mem₀ bank₀ blit₀ sums₀) (drop (sums₀ .taken) words)) × (length mem ≡ length mem₀)
+Inv-loop mem₀ words opened rooms bank₀ blit₀ sums₀ mem bank blit sums =
+    (ranFrom (sofar opened rooms mem bank blit sums) (drop (sums .taken) words) ≡ ranFrom (sofar opened rooms mem₀ bank₀ blit₀ sums₀) (drop (sums₀ .taken) words)) × (length mem ≡ length mem₀)
 
 abbrev μ-loop : tie.MeasureT-loop
-μ-loop mem₀ words opened bank₀ blit₀ sums₀ mem bank blit sums = length words - sums .taken
+μ-loop mem₀ words opened rooms bank₀ blit₀ sums₀ mem bank blit sums = length words - sums .taken
 
 -- the words of the run, and what was done of it when a turn begins
 abbrev W : tie.At-loop Inv-loop μ-loop → List ℕ
-W c = c .before .before .before .before .before .args .words .now
+W c = c .before .before .before .before .before .before .args .words .now
 
 abbrev S : tie.At-loop Inv-loop μ-loop → Ran
-S c = sofar (c .before .before .before .before .before .args .e .opened) (c .loop .mem) (c .loop .bank) (c .loop .blit) (c .loop .sums)
+S c = sofar (c .before .before .before .before .before .before .args .e .opened) (c .before .before .before .before .before .before .args .e .rooms) (c .loop .mem) (c .loop .bank) (c .loop .blit) (c .loop .sums)
 
 loop-holds : tie.Need-loop-holds Inv-loop μ-loop
 loop-holds c = (refl, refl)
@@ -99,7 +100,7 @@ end-feed-requires : tie.Need-end-feed-requires Inv-loop μ-loop
 end-feed-requires c κs = search needs
 
 add-requires : tie.Need-add-requires Inv-loop μ-loop
-add-requires c κs = omega (arith, was-fed (c .before .before .before .before .before .before) .within, c .before .before .before .before .before .before .before .before .before .before .before .before .before .before .before .before .before .before .before .good .1 .1 .0)
+add-requires c κs = omega (arith, was-fed (c .before .before .before .before .before .before) .within, c .before .before .before .before .before .before .before .before .before .before .before .before .before .before .before .before .before .before .before .before .good .1 .1 .0)
 
 loop-less : tie.Need-loop-less Inv-loop μ-loop
 loop-less c = rw (c .add .ensures) (omega (arith, was-fed (c .before .before .before .before .before .before .before) .goes (c .before .before .before .if5 .left) .more refl, c .before .before .before .before .before .before .before .before .before .before .before .before .before .if1 .taken))
@@ -138,7 +139,7 @@ with-ends-requires : tie.Need-with-ends-requires Inv-loop μ-loop
 with-ends-requires c κs = search needs
 
 add-requires-2 : tie.Need-add-requires-2 Inv-loop μ-loop
-add-requires-2 c κs = omega (arith, some (c .before .before .before .before .before .before .before), c .before .before .before .before .before .before .before .before .before .before .before .before .before .before .before .before .before .before .before .before .before .before .before .good .1 .1 .0)
+add-requires-2 c κs = omega (arith, some (c .before .before .before .before .before .before .before), c .before .before .before .before .before .before .before .before .before .before .before .before .before .before .before .before .before .before .before .before .before .before .before .before .good .1 .1 .0)
 
 loop-less-2 : tie.Need-loop-less-2 Inv-loop μ-loop
 loop-less-2 c = rw (c .add2 .ensures) (omega (arith, some (c .before .before .before .before .before .before .before .before)))

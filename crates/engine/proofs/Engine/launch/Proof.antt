@@ -19,7 +19,7 @@ same-length c = search needs
 returns : tie.Need-returns
 unfolding launched
 returns c =
-    let a = c .before .before .before .before .before .before .before .before .before .args in
+    let a = c .before .before .before .before .before .before .before .before .before .before .args in
     settled-as (a .self) (a .self .bank .regs) (c .before .before .before .launch .result) _ (starting (a .self .bank) (a .self .blit) (a .mem .now) (a .word)) (aimed (a .self .bank) (a .word)) (a .self .blit) (a .mem .now)
     (c .settle .ensures) (c .before .before .before .launch .ensures)
 

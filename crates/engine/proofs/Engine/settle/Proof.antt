@@ -18,7 +18,7 @@ with-ends-requires c κs = search needs
 
 returns-2 : tie.Need-returns-2
 unfolding settled
-returns-2 c = rw (eq-eqb _ _ (c .before .before .before .if1 .left), c .before .before .with-ends .ensures (c .before .before .before .before .before .args .self .bank .pattern))
+returns-2 c = rw (eq-eqb _ _ (c .before .before .before .before .if1 .left), c .before .before .before .with-ends .ensures (c .before .before .before .before .before .before .args .self .bank .pattern))
 
 pub settle-spec : {M : Type 1} → statement M
 settle-spec = tie.close (tie.spec refuse-requires returns with-ends-requires returns-2)

@@ -31,22 +31,22 @@ same-length c = search needs
 returns : tie.Need-returns
 unfolding commanded carried storedIn stored
 returns c =
-    let a = c .before .before .before .before .before .before .before .before .before .before .before .before .before .args in
+    let a = c .before .before .before .before .before .before .before .before .before .before .before .before .before .before .args in
     let e = a .self in
-    let regs = c .before .before .before .before .before .before .before .before .before .before .store .result .regs in
-    let resting = c .before .before .before .before .before .before .before .before .before .no-blit .result in
+    let regs = c .before .before .before .before .before .before .before .before .before .before .before .store .result .regs in
+    let resting = c .before .before .before .before .before .before .before .before .before .before .no-blit .result in
     let next = bankOf regs (e .bank .pattern) in
-    let kept : next ≡ stored (e .bank) 0x70 (a .word) = ap (λ (b : Bank). bankOf (b .regs) (e .bank .pattern)) (c .before .before .before .before .before .before .before .before .before .before .store .ensures) in
+    let kept : next ≡ stored (e .bank) 0x70 (a .word) = ap (λ (b : Bank). bankOf (b .regs) (e .bank .pattern)) (c .before .before .before .before .before .before .before .before .before .before .before .store .ensures) in
     rw (eq-eqb _ _ (c .before .before .before .before .before .before .before .before .if1 .taken))
     (settled-as e regs (c .before .before .before .carry .result) _ (carrying next resting (a .mem .now)) next resting (a .mem .now) (c .settle .ensures) (c .before .before .before .carry .ensures)
-    ∙ ap₂ (λ (b : Bank) (k : Blit). judging e e (a .mem .now) (carrying b k (a .mem .now))) kept (c .before .before .before .before .before .before .before .before .before .no-blit .ensures))
+    ∙ ap₂ (λ (b : Bank) (k : Blit). judging e e (a .mem .now) (carrying b k (a .mem .now))) kept (c .before .before .before .before .before .before .before .before .before .before .no-blit .ensures))
 
 returns-2 : tie.Need-returns-2
 unfolding commanded storedIn
 returns-2 c =
-    let a = c .before .before .before .before .before .args in
+    let a = c .before .before .before .before .before .before .args in
     rw (ne-eqb _ _ (c .if1 .left))
-    (ap₂ (λ (b : Bank) (k : Blit). step (record { bank = b; blit = k; opened = a .self .opened }) (a .mem .now) (Taken 0 0)) (c .before .before .store .ensures) (c .before .no-blit .ensures))
+    (ap₂ (λ (b : Bank) (k : Blit). step (record { bank = b; blit = k; opened = a .self .opened; rooms = a .self .rooms }) (a .mem .now) (Taken 0 0)) (c .before .before .before .store .ensures) (c .before .before .no-blit .ensures))
 
 pub take-command-spec : {M : Type 1} → statement M
 take-command-spec =

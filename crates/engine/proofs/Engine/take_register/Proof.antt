@@ -1,11 +1,8 @@
 -- `engine::Engine::take_register` meets its contract: by the offset, and by what waits.
 -- Assumes nothing.
 use borrow.Author.Needs.{needs}
-use mathlib.Core.Path.{ap, _∙_}
 use borrow.Author.Tests.{eq-eqb, ne-eqb}
-use Rattle.bank.specs.declared.Bank.{Bank}
-use Rattle.engine.specs.declared.Answer.the-variants.{Taken}
-use Rattle.engine.specs.Step.{toRegister, storedIn, step, withBank}
+use Rattle.engine.specs.Step.{toRegister, storedIn}
 use Rattle.engine.proofs.Laws.{waits, rests}
 use Rattle.engine.proofs.Engine.take_register.Statement.{statement}
 use Rattle.engine.proofs.Engine.take_register.Tie as tie
@@ -27,14 +24,21 @@ returns-2 c = rw (ne-eqb _ _ (c .before .if1 .left)) (waits (c .before .before .
 store-requires : tie.Need-store-requires
 store-requires c κs = search needs
 
+cast-follow : tie.Need-cast-follow
+cast-follow c = search needs
+
+follow-requires : tie.Need-follow-requires
+follow-requires c κs = search needs
+
 returns-3 : tie.Need-returns-3
 unfolding toRegister storedIn
 returns-3 c =
-    let a = (c .before .before .before .before .before .args) in
-    rw (ne-eqb _ _ (c .before .before .before .if1 .left))
-    (ap (λ (b : Bank). step (withBank (a .self) b) (a .mem .now) (Taken 0 0)) (c .store .ensures) ∙ rests (a .self .blit .waiting) _ _ (c .before .before .if2 .left))
+    let k = c .before .before .before .before in
+    let a = k .before .before .before .before .before .args in
+    rw (ne-eqb _ _ (k .before .before .before .if1 .left))
+    (rw (c .follow .ensures, k .store .ensures) (rests (a .self .blit .waiting) _ _ (k .before .before .if2 .left)))
 
 pub take-register-spec : {M : Type 1} → statement M
 take-register-spec =
     tie.close
-    (tie.spec take-command-requires same-length returns returns-2 store-requires returns-3)
+    (tie.spec take-command-requires same-length returns returns-2 store-requires cast-follow follow-requires returns-3)
