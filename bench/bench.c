@@ -535,6 +535,18 @@ static void write_plain(void)
         sink += plain_write(&plain_registers, colorFore + k % 2 * 4, k);
 }
 
+/* A register of a surface, of which the engine works out pixels and rows; here in rows of 7 and of 1,021 bytes at 24 bits. */
+static void format_ours(void)
+{
+    for (u32 k = 0; k < 64; k++)
+        out(dstFormat, k % 2 ? 0x403fd : 0x40007);
+}
+static void format_plain(void)
+{
+    for (u32 k = 0; k < 64; k++)
+        sink += plain_write(&plain_registers, dstFormat, k % 2 ? 0x403fd : 0x40007);
+}
+
 struct work {
     const char *name;
     int sizes;     /* bit 0: 64, bit 1: 1024 */
@@ -576,6 +588,7 @@ static const struct work works[] = {
     {"copy rows to tiles", 3, 30, 0, to_tiles_set, launch_at_0, to_tiles_plain, 0, 0},
     {"copy tiles to rows", 3, 30, 0, from_tiles_set, launch_at_0, from_tiles_plain, 0, 0},
     {"register write", 1, 16, 64, fill_set, write_ours, write_plain, 0, 0},
+    {"dstFormat write", 1, 16, 64, fill_set, format_ours, format_plain, 0, 0},
     {"register write by packet", 1, 16, 8 * EIGHTS, along_set, packets_ours, packets_plain, 0, 0},
     {"register by mask packet", 1, 16, 8 * EIGHTS, masked_set, packets_ours, packets_plain, 0, 0},
     {"packets, a megabyte", 1, 30, BLOCKS * BLOCK_WRITES, megabyte_set, megabyte_ours, megabyte_plain, 0, 0},

@@ -42,8 +42,11 @@ extern "C" {
      at 44  the words of data that the waiting blit has had
      at 48  the last of them
      at 74, 78  the length of the memory, its low word first
-   (all hexadecimal). From byte 7C on are the 256 bytes of the colour pattern. */
-#define RIMEBARROW_STATE_SIZE 380
+     at 7C, 80  of the source, the pixels in a row and the whole rows that memory has room for
+     at 84, 88  of the target, the same
+   (all hexadecimal). From byte 8C on are the 256 bytes of the colour pattern. The engine keeps the words from 7C to 88 so that they say what the registers
+   say. They shorten a test and decide nothing: a state with other numbers there is a state all the same, and every call answers and draws as it would. */
+#define RIMEBARROW_STATE_SIZE 396
 
 /* RIMEBARROW_STATE_SIZE, for callers that do not read this file. */
 size_t rimebarrow_state_size(void);
