@@ -23,7 +23,7 @@ same-length : tie.Need-same-length
 same-length c = search needs
 
 returns : tie.Need-returns
-returns c = 
+returns c =
     let f = c .before .before .before in
     let a = f .before .before .before .before .args in
     tested-refused (a .s .now) (a .len) _ (followed (withWord (a .s .now) (a .offset) (kept (a .offset) (a .word))) (a .len) (a .offset))
@@ -47,7 +47,7 @@ same-length-2 : tie.Need-same-length-2
 same-length-2 c = search needs
 
 returns-2 : tie.Need-returns-2
-returns-2 c = 
+returns-2 c =
     let f = c .before .before in
     let t = through (f .before .before) in
     let a = f .before .before .before .before .before .before .before .before .before .args in

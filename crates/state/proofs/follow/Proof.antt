@@ -42,7 +42,7 @@ same-length : tie.Need-same-length
 same-length c = search needs
 
 returns : tie.Need-returns
-returns c = 
+returns c =
     let f = c .before .before .before .before .before .before in
     rw (c .before .before .put-word2 .ensures .0, f .put-word .ensures .0, f .before .before .target-room .ensures, f .before .before .before .word-at2 .ensures, f .before .before .before .before .before .word-at .ensures)
     (sym (followed-target _ _ _ (f .before .before .before .before .before .before .before .match .keys1)))
@@ -51,7 +51,7 @@ same-length-2 : tie.Need-same-length-2
 same-length-2 c = search needs
 
 returns-2 : tie.Need-returns-2
-returns-2 c = 
+returns-2 c =
     let f = c .before .before .before .before .before .before in
     rw (c .before .before .put-word4 .ensures .0, f .put-word3 .ensures .0, f .before .before .source-room .ensures, f .before .before .before .word-at4 .ensures, f .before .before .before .before .before .word-at3 .ensures)
     (sym (followed-source _ _ _ (f .before .before .before .before .before .before .before .match .keys2)))
