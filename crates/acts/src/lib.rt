@@ -318,7 +318,14 @@ fn aim(regs: Regs, word: u32) -> Regs
 }
 
 // The command started with a launch write's word. A host blit takes its words by `feed`.
-pub fn start(regs: Regs, pattern: &[u8; 256], blit: Blit, mem: &mut [u8], word: u32, rooms: Rooms) -> Act
+pub fn start(
+    regs: Regs,
+    pattern: &[u8; 256],
+    blit: Blit,
+    mem: &mut [u8],
+    word: u32,
+    rooms: Rooms,
+) -> Act
     ensures { λ r. ⌜ deed (bankOf regs (now (pattern .entry))) r (now (mem .exit)) ≡ judged (carrying (aimed (bankOf regs (now (pattern .entry))) word) blit (now (mem .entry))) (aimed (bankOf regs (now (pattern .entry))) word) blit (now (mem .entry)) ⌝ }
 {
     let next = aim(regs, word);
@@ -326,7 +333,14 @@ pub fn start(regs: Regs, pattern: &[u8; 256], blit: Blit, mem: &mut [u8], word: 
 }
 
 // A launch write: data for a host blit, or the command started with its word.
-pub fn launch(regs: Regs, pattern: [u8; 256], blit: Blit, mem: &mut [u8], word: u32, rooms: Rooms) -> Act
+pub fn launch(
+    regs: Regs,
+    pattern: [u8; 256],
+    blit: Blit,
+    mem: &mut [u8],
+    word: u32,
+    rooms: Rooms,
+) -> Act
     ensures { λ r. ⌜ deed (bankOf regs pattern) r (now (mem .exit)) ≡ judged (starting (bankOf regs pattern) blit (now (mem .entry)) word) (aimed (bankOf regs pattern) word) blit (now (mem .entry)) ⌝ }
 {
     let number = regs.command % 16;

@@ -27,10 +27,7 @@ pub struct Rooms {
 pub fn no_room() -> Room
     ensures { λ r. ⌜ r ≡ noRoom ⌝ }
 {
-    Room {
-        pixels: 0,
-        rows: 0,
-    }
+    Room { pixels: 0, rows: 0 }
 }
 
 pub fn no_rooms() -> Rooms
