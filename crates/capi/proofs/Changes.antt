@@ -71,10 +71,10 @@ like-stored os e o d t same =
     record { pattern = refl; slots = λ a f. slot-other e o d a (λ q. true≢false (sym t ∙ ap (λ x. oneOf x os) q ∙ f)) same }
 
 -- by a store into a register of a surface: that word, and those of what is kept of the surface
-abbrev pub targetSlots : ℕ → List ℕ
+abbrev targetSlots : ℕ → List ℕ
 targetSlots o = o ∷ 0x84 ∷ 0x88 ∷ []
 
-abbrev pub sourceSlots : ℕ → List ℕ
+abbrev sourceSlots : ℕ → List ℕ
 sourceSlots o = o ∷ 0x7c ∷ 0x80 ∷ []
 
 target-slot : (e : Engine) (o d a : ℕ) → ofTarget o ≡ true → Each (λ b. eqb a b ≡ false) (targetSlots o) → slot e a ≡ slot (storedIn e o d) a

@@ -30,7 +30,7 @@ use Rattle.capi.specs.Asked.{Draws}
 use Rattle.state.proofs.Places.{Word, word-own, word-other, word-length, encoded-length, encoded-byte, same-bytes}
 use Rattle.state.proofs.Follows.{followed-none, read-own, read-other}
 use Rattle.state.proofs.Back.{Opened, opened, bytes-back}
-use Rattle.capi.proofs.Changes.{targetSlots, sourceSlots, like-laid, like-stored, like-target, like-source, written-led}
+use Rattle.capi.proofs.Changes.{Like, like-laid, like-stored, like-target, like-source, written-led}
 
 -- a state is written by the engine that it holds
 pub by-engine : (s m : List ℕ) (o d : ℕ) → isState s ≡ true → writtenTo s m o d ≡ called (written (decoded s) m o d)
@@ -66,9 +66,13 @@ command-written s m o d t b q {e} {after} {left} {a} p w v u k =
 abbrev joined : List ℕ → Opening → Call
 joined m x = call (x .state) m (x .answer) 0
 
+-- by the three tests: the state as it was, or what is to be made of it
+abbrev passed : Bool → Bool → Bool → List ℕ → List ℕ → Opening
+passed big right waits s x = cond big (opening s (packed 1 0)) (cond right (cond waits (opening s (packed 3 0)) (opening x 0)) (opening s (packed 1 0)))
+
 by-tests : (big right waits : Bool) (e after : Engine) {s s′ : List ℕ} (m : List ℕ) → encoded e ≡ s → (right ≡ true → encoded after ≡ s′)
     → called (cond big (step e m Memory) (cond right (cond waits (step e m Waiting) (step after m (Taken 0 0))) (step e m Memory)))
-    ≡ joined m (cond big (opening s (packed 1 0)) (cond right (cond waits (opening s (packed 3 0)) (opening s′ 0)) (opening s (packed 1 0))))
+    ≡ joined m (passed big right waits s s′)
 by-tests true right waits e after m p q = ap (λ x. call x m (packed 1 0) 0) p
 by-tests false true true e after m p q = ap (λ x. call x m (packed 3 0) 0) p
 by-tests false true false e after m p q = ap (λ x. call x m 0 0) (q refl)
@@ -76,8 +80,7 @@ by-tests false false waits e after m p q = ap (λ x. call x m (packed 1 0) 0) p
 
 -- the tests, by the engine that a state holds
 held-tests : (s : List ℕ) (len : ℕ) (x : List ℕ)
-    → tested s len x ≡ cond (ltb (2 ^ 24) len) (opening s (packed 1 0))
-    (cond (eqb len (decoded s .opened)) (cond (decoded s .blit .waiting) (opening s (packed 3 0)) (opening x 0)) (opening s (packed 1 0)))
+    → tested s len x ≡ passed (ltb (2 ^ 24) len) (eqb len (decoded s .opened)) (decoded s .blit .waiting) s x
 unfolding tested decoded
 held-tests s len x = refl
 
@@ -98,8 +101,7 @@ module _ (s : List ℕ) (len : ℕ) {s′ : List ℕ} {r : ℕ} where
   unfolding tested
   tested-refused x y = by (ltb (2 ^ 24) len) (eqb len (openedIn s)) (eqb (wordAt s 0x04) 1)
     where
-      by : (big right waits : Bool) → opening s′ r ≡ cond big (opening s (packed 1 0)) (cond right (cond waits (opening s (packed 3 0)) (opening x 0)) (opening s (packed 1 0)))
-          → (r ≡ 0 → ⊥) → opening s′ r ≡ cond big (opening s (packed 1 0)) (cond right (cond waits (opening s (packed 3 0)) (opening y 0)) (opening s (packed 1 0)))
+      by : (big right waits : Bool) → opening s′ r ≡ passed big right waits s x → (r ≡ 0 → ⊥) → opening s′ r ≡ passed big right waits s y
       by true right waits p n = p
       by false true true p n = p
       by false true false p n = absurd (n (ap (λ (c : Opening). c .answer) p))
@@ -109,9 +111,8 @@ module _ (s : List ℕ) (len : ℕ) {s′ : List ℕ} {r : ℕ} where
   unfolding tested
   tested-taken x = by (ltb (2 ^ 24) len) (eqb len (openedIn s)) (eqb (wordAt s 0x04) 1) refl
     where
-      by : (big right waits : Bool) → ltb (2 ^ 24) len ≡ big
-          → opening s′ r ≡ cond big (opening s (packed 1 0)) (cond right (cond waits (opening s (packed 3 0)) (opening x 0)) (opening s (packed 1 0))) → r ≡ 0
-          → (s′ ≡ x) × (len ≤ 2 ^ 24) × ((y : List ℕ) → opening y 0 ≡ cond big (opening s (packed 1 0)) (cond right (cond waits (opening s (packed 3 0)) (opening y 0)) (opening s (packed 1 0))))
+      by : (big right waits : Bool) → ltb (2 ^ 24) len ≡ big → opening s′ r ≡ passed big right waits s x → r ≡ 0
+          → (s′ ≡ x) × (len ≤ 2 ^ 24) × ((y : List ℕ) → opening y 0 ≡ passed big right waits s y)
       by true right waits e p z = let a : r ≡ packed 1 0 = ap (λ (c : Opening). c .answer) p in absurd (omega arith)
       by false true true e p z = let a : r ≡ packed 3 0 = ap (λ (c : Opening). c .answer) p in absurd (omega arith)
       by false true false e p z = (ap (λ (c : Opening). c .state) p, ltb-false (2 ^ 24) len e, λ y. refl)
@@ -134,33 +135,30 @@ own-slot e d = (refl, (refl, (refl, (refl, (refl, (refl, (refl, (refl, (refl, (r
 only-itself : (o : ℕ) → oneOf o (o ∷ []) ≡ true
 only-itself o = rw (eq-eqb o o refl)
 
--- one that is no surface's: its word
+-- its word, and other words of the state that its store changes
 module _ (s : List ℕ) (h : Opened s) (o d : ℕ) (q : placeOf o ≡ Register) where
   abbrev e : Engine
   e = decoded s
 
-  own-word : slot (storedIn e o d) o ≡ kept o d
-  own-word = of-each (λ a. slot (storedIn e a d) a ≡ kept a d) registers (own-slot e d) o (register-listed o q)
+  laid : (os : List ℕ) → Like (o ∷ os) e (storedIn e o d) → Each Word os → encoded (storedIn e o d) ≡ withSlots (withWord s o (kept o d)) (storedIn e o d) os
+  laid os like words =
+      sym (like-laid (o ∷ os) e (storedIn e o d) like (register-word o q, words))
+      ∙ ap₂ (λ b v. withSlots (withWord b o v) (storedIn e o d) os) (bytes-back s h)
+      (of-each (λ a. slot (storedIn e a d) a ≡ kept a d) registers (own-slot e d) o (register-listed o q))
 
   kept-same : ofTarget o ≡ false → ofSource o ≡ false → storedIn e o d .rooms ≡ e .rooms
   unfolding storedIn
   kept-same t f = rw (t, f)
 
+  -- of a register that is no surface's there are none; of the target's and the source's those of what is kept
   stored-bytes : ofTarget o ≡ false → ofSource o ≡ false → encoded (storedIn e o d) ≡ withWord s o (kept o d)
-  stored-bytes t f =
-      sym (like-laid (o ∷ []) e (storedIn e o d) (like-stored (o ∷ []) e o d (only-itself o) (kept-same t f)) (register-word o q, tt))
-      ∙ ap₂ (λ b v. withWord b o v) (bytes-back s h) own-word
+  stored-bytes t f = laid [] (like-stored (o ∷ []) e o d (only-itself o) (kept-same t f)) tt
 
-  -- and the target's or the source's: with what is kept
   target-laid : ofTarget o ≡ true → encoded (storedIn e o d) ≡ withSlots (withWord s o (kept o d)) (storedIn e o d) (0x84 ∷ 0x88 ∷ [])
-  target-laid t =
-      sym (like-laid (targetSlots o) e (storedIn e o d) (like-target e o d t) (register-word o q, ((refl, omega arith), ((refl, omega arith), tt))))
-      ∙ ap₂ (λ b v. withSlots (withWord b o v) (storedIn e o d) (0x84 ∷ 0x88 ∷ [])) (bytes-back s h) own-word
+  target-laid t = laid (0x84 ∷ 0x88 ∷ []) (like-target e o d t) ((refl, omega arith), ((refl, omega arith), tt))
 
   source-laid : ofTarget o ≡ false → ofSource o ≡ true → encoded (storedIn e o d) ≡ withSlots (withWord s o (kept o d)) (storedIn e o d) (0x7c ∷ 0x80 ∷ [])
-  source-laid t f =
-      sym (like-laid (sourceSlots o) e (storedIn e o d) (like-source e o d t f) (register-word o q, ((refl, omega arith), ((refl, omega arith), tt))))
-      ∙ ap₂ (λ b v. withSlots (withWord b o v) (storedIn e o d) (0x7c ∷ 0x80 ∷ [])) (bytes-back s h) own-word
+  source-laid t f = laid (0x7c ∷ 0x80 ∷ []) (like-source e o d t f) ((refl, omega arith), ((refl, omega arith), tt))
 
 -- what is kept goes by the words that stand there then
 module _ (s : List ℕ) (h : Opened s) (d : ℕ) (f : d < 2 ^ 32) where

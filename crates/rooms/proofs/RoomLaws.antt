@@ -1,4 +1,4 @@
--- A surface's room: pixels below both numbers are on it.
+-- A surface's room: pixels below both numbers are on it. And what is kept: after a store at any offset it is what the registers say.
 -- Assumes nothing.
 use mathlib.Core.Path.{_≡_, refl, subst}
 use mathlib.Core.Logic.{_⊎_, ⊎-elim}

@@ -42,13 +42,14 @@ sourceRoom len base format = cond (sourceNamed base (unpacked format)) (roomOf l
 unfoldable pub worked : ℕ → Regs → Rooms
 worked len r = record { source = sourceRoom len (r .srcBaseAddr) (r .srcFormat); target = targetRoom len (r .dstBaseAddr) (r .dstFormat) }
 
--- what is kept after a store at an offset that left these registers: what goes by that register is worked out anew
+-- an offset is that of a register of the target, or of the source
 abbrev pub ofTarget : ℕ → Bool
 ofTarget o = oneOf o (0x10 ∷ 0x14 ∷ [])
 
 abbrev pub ofSource : ℕ → Bool
 ofSource o = oneOf o (0x34 ∷ 0x54 ∷ [])
 
+-- what is kept after a store at an offset that left these registers: what goes by that register is worked out anew
 abbrev pub after : ℕ → ℕ → Regs → Rooms → Rooms
 after len o r k =
     cond (ofTarget o) (record { source = k .source; target = worked len r .target })

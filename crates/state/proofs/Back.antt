@@ -4,7 +4,7 @@ use mathlib.Core.Path.{_≡_, refl, sym, ap, _∙_}
 use mathlib.Core.Bool.{Bool, true, false, cond, _&&_, and-eq-true-iff}
 use mathlib.Core.List.{List, [], _∷_}
 use Prim.Native.Nat.{ℕ, zero, suc, _+_, _-_, _*_, _/_, _%_, _^_, _<_, _≤_}
-use native.Mathlib.Nat.{not-suc-le-zero, le-of-suc-le-suc, eq-or-lt-of-le, add-zero}
+use native.Mathlib.Nat.{not-suc-le-zero, le-of-suc-le-suc, eq-or-lt-of-le}
 use mathlib.Core.Logic.{⊎-elim}
 use native.Mathlib.Omega.{arith}
 use lib.Dec.{eqb, ltb}
@@ -17,10 +17,9 @@ use Rattle.registers.proofs.Arms.{Each, each-map, of-each}
 use Rattle.engine.specs.declared.Engine.{Engine}
 use Rattle.acts.proofs.Cases.{by-test, picked}
 use Rattle.basics.specs.Word.{wordAt}
-use Rattle.basics.proofs.WordLaws.{four-bytes}
 use Rattle.state.specs.Layout.{stateSize, patternAt, mark, byteOf, slot, byteIn, encoded, regsIn, patternIn, decoded, isState, Bytes}
 use Rattle.state.specs.Promises.{BytesBack, Fits, EngineBack, StaysState}
-use Rattle.state.proofs.Places.{Word, same-bytes, encoded-length, encoded-byte}
+use Rattle.state.proofs.Places.{Word, word-from, same-bytes, encoded-length, encoded-byte}
 
 -- ---- the places of the words
 
@@ -140,13 +139,7 @@ word-byte e o k w h =
     encoded-byte e (o + k) (omega arith) ∙ rw (lt-ltb (o + k) patternAt b, p, q)
 
 word-back : (e : Engine) (o : ℕ) → Word o → slot e o < 2 ^ 32 → wordAt (encoded e) o ≡ slot e o
-unfolding wordAt byteOf
-word-back e o w f =
-    let b0 : getD (encoded e) o 0 ≡ slot e o % 2 ^ 8 = ap (λ n. getD (encoded e) n 0) (sym (add-zero o)) ∙ word-byte e o 0 w (omega arith) in
-    let b1 : getD (encoded e) (o + 1) 0 ≡ slot e o / 2 ^ 8 % 2 ^ 8 = word-byte e o 1 w (omega arith) in
-    let b2 : getD (encoded e) (o + 2) 0 ≡ slot e o / 2 ^ 16 % 2 ^ 8 = word-byte e o 2 w (omega arith) in
-    let b3 : getD (encoded e) (o + 3) 0 ≡ slot e o / 2 ^ 24 % 2 ^ 8 = word-byte e o 3 w (omega arith) in
-    rw (b0, b1, b2, b3) (four-bytes (slot e o) f)
+word-back e o w f = word-from (encoded e) o (slot e o) f (λ k h. word-byte e o k w h)
 
 slot-fits : (e : Engine) → Fits e → (o : ℕ) → slot e o < 2 ^ 32
 unfolding slot

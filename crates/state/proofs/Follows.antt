@@ -1,18 +1,16 @@
 -- What is kept of a surface, in a state: put there after a store into one of its registers.
 -- Assumes nothing.
-use mathlib.Core.Path.{_≡_, sym, ap, _∙_}
+use mathlib.Core.Path.{_≡_, ap, _∙_}
 use mathlib.Core.Logic.{_⊎_, ⊎-elim}
 use mathlib.Core.Bool.{false}
 use mathlib.Core.List.{List}
-use Prim.Native.Nat.{ℕ, _+_, _/_, _%_, _^_, _<_, _≤_}
-use native.Mathlib.Nat.{add-zero}
+use Prim.Native.Nat.{ℕ, _+_, _%_, _^_, _<_, _≤_}
 use native.Mathlib.Omega.{arith}
 use lib.ListN.{length, getD}
 use Rattle.basics.specs.Word.{wordAt, withWord}
-use Rattle.basics.proofs.WordLaws.{four-bytes}
 use Rattle.rooms.specs.Room.{targetRoom, sourceRoom, ofTarget, ofSource}
 use Rattle.state.specs.Layout.{byteOf, withRoom, followed}
-use Rattle.state.proofs.Places.{word-own, word-other}
+use Rattle.state.proofs.Places.{word-own, word-from, word-other}
 
 -- ---- by the offset
 module _ (s : List ℕ) (len o : ℕ) where
@@ -31,16 +29,9 @@ module _ (s : List ℕ) (len o : ℕ) where
 -- ---- a word read back, and one beside it
 module _ (s : List ℕ) (i d : ℕ) (m : i % 4 ≡ 0) where
   pub read-own : i + 4 ≤ length s → d < 2 ^ 32 → wordAt (withWord s i d) i ≡ d
-  unfolding wordAt byteOf
   read-own h f =
-      let b0 : getD (withWord s i d) i 0 ≡ d % 2 ^ 8 = ap (λ n. getD (withWord s i d) n 0) (sym (add-zero i)) ∙ at 0 (omega arith) in
-      let b1 : getD (withWord s i d) (i + 1) 0 ≡ d / 2 ^ 8 % 2 ^ 8 = at 1 (omega arith) in
-      let b2 : getD (withWord s i d) (i + 2) 0 ≡ d / 2 ^ 16 % 2 ^ 8 = at 2 (omega arith) in
-      let b3 : getD (withWord s i d) (i + 3) 0 ≡ d / 2 ^ 24 % 2 ^ 8 = at 3 (omega arith) in
-      rw (b0, b1, b2, b3) (four-bytes d f)
-    where
-      at : (k : ℕ) → k < 4 → getD (withWord s i d) (i + k) 0 ≡ byteOf d k
-      at k l = let q : (i + k) % 4 ≡ k = omega arith in word-own s i d h (i + k) (omega arith) ∙ ap (byteOf d) q
+      word-from (withWord s i d) i d f
+      (λ k l. let q : (i + k) % 4 ≡ k = omega arith in word-own s i d h (i + k) (omega arith) ∙ ap (byteOf d) q)
 
   pub read-other : (j : ℕ) → j % 4 ≡ 0 → (j ≡ i → ⊥) → wordAt (withWord s i d) j ≡ wordAt s j
   unfolding wordAt

@@ -13,7 +13,8 @@ use borrow.Author.Tests.{lt-ltb, eqb-true, eqb-false}
 use Rattle.registers.specs.Kept.{oneOf}
 use Rattle.registers.proofs.Arms.{Each}
 use Rattle.engine.specs.declared.Engine.{Engine}
-use Rattle.basics.specs.Word.{withWord}
+use Rattle.basics.specs.Word.{wordAt, withWord}
+use Rattle.basics.proofs.WordLaws.{four-bytes}
 use Rattle.state.specs.Layout.{stateSize, patternAt, byteOf, slot, byteIn, run, encoded, withSlots}
 
 -- ---- four numbers put at four places in a row
@@ -75,6 +76,16 @@ pub word-own : (s : List ℕ) (i d : ℕ) → i + 4 ≤ length s → (k : ℕ) �
 unfolding withWord byteOf
 word-own s i d h k e =
     own s i (d % 2 ^ 8) (d / 2 ^ 8 % 2 ^ 8) (d / 2 ^ 16 % 2 ^ 8) (d / 2 ^ 24 % 2 ^ 8) h k e (eqb (k % 4) 0) (eqb (k % 4) 1) (eqb (k % 4) 2) refl refl refl
+
+-- four bytes that are a number's make it
+pub word-from : (s : List ℕ) (i d : ℕ) → d < 2 ^ 32 → ((k : ℕ) → k < 4 → getD s (i + k) 0 ≡ byteOf d k) → wordAt s i ≡ d
+unfolding wordAt byteOf
+word-from s i d f h =
+    let b0 : getD s i 0 ≡ d % 2 ^ 8 = ap (λ n. getD s n 0) (sym (add-zero i)) ∙ h 0 (omega arith) in
+    let b1 : getD s (i + 1) 0 ≡ d / 2 ^ 8 % 2 ^ 8 = h 1 (omega arith) in
+    let b2 : getD s (i + 2) 0 ≡ d / 2 ^ 16 % 2 ^ 8 = h 2 (omega arith) in
+    let b3 : getD s (i + 3) 0 ≡ d / 2 ^ 24 % 2 ^ 8 = h 3 (omega arith) in
+    rw (b0, b1, b2, b3) (four-bytes d f)
 
 pub word-other : (s : List ℕ) (i d : ℕ) → i % 4 ≡ 0 → (k : ℕ) → (k / 4 * 4 ≡ i → ⊥) → getD (withWord s i d) k 0 ≡ getD s k 0
 unfolding withWord
