@@ -7,7 +7,7 @@ use native.Mathlib.Omega.{arith}
 use lib.Dec.{eqb, leb, ltb}
 use borrow.Author.Tests.{eqb-true, leb-true, ltb-true, ne_eqb, lt-leb, le-leb, le-ltb}
 use Rattle.surface.proofs.OnLaws.{and_left, and_right}
-use Rattle.acts.specs.Deed.{byNumber}
+use Rattle.acts.specs.Deed.{by_number}
 
 pub by-test : (Q : Bool → Type 0) (t : Bool) → (t ≡ true → Q true) → (t ≡ false → Q false) → Q t
 by-test Q true yes' no' = yes' refl
@@ -61,7 +61,7 @@ by_tests Q n nop copy stretch host fill line other =
     (λ t. line (leb-true 6 n (and_left (leb 6 n) (ltb n 8) t)) (ltb-true n 8 (and_right (leb 6 n) (ltb n 8) t)))
     (λ t6. other (record { not0 = t0; not1 = t1; not2 = t2; not3 = t3; not5 = t5; not6 = t6 })))))))
 
-pub by_number : {A : Type 0} (P : A → Type 0) (n : ℕ) (nop copy stretch host fill line other : A) → (n ≡ 0 → P nop) → (n ≡ 1 → P copy) → (n ≡ 2 → P stretch)
-    → (n ≡ 3 → P host) → (n ≡ 5 → P fill) → (6 ≤ n → n < 8 → P line) → (Unbuilt n → P other) → P (byNumber n nop copy stretch host fill line other)
-by_number P n nop copy stretch host fill line other =
+pub by-number : {A : Type 0} (P : A → Type 0) (n : ℕ) (nop copy stretch host fill line other : A) → (n ≡ 0 → P nop) → (n ≡ 1 → P copy) → (n ≡ 2 → P stretch)
+    → (n ≡ 3 → P host) → (n ≡ 5 → P fill) → (6 ≤ n → n < 8 → P line) → (Unbuilt n → P other) → P (by_number n nop copy stretch host fill line other)
+by-number P n nop copy stretch host fill line other =
     by_tests (λ t0 t1 t2 t3 t5 t6. P (pick t0 t1 t2 t3 t5 t6 nop copy stretch host fill line other)) n

@@ -22,15 +22,15 @@ use Rattle.host.specs.declared.Feed.{Feed}
 use Rattle.bits.specs.declared.Plain.{Plain}
 use Rattle.host.specs.Host.{words_of, Pixel}
 use Rattle.host.specs.Asked.{Sizes, Opened}
-use Rattle.host.specs.Draw.{hostTouches, drawn}
-use Rattle.plain.specs.Plain.{plainInk}
+use Rattle.host.specs.Draw.{host_touches, drawn}
+use Rattle.plain.specs.Plain.{plain_ink}
 use Rattle.plain.proofs.PlainLaws.{plainly-drawn, plainly-opened}
 use Rattle.registers.specs.declared.Regs.{Regs}
 use Rattle.bank.specs.declared.Bank.{Bank}
 use Rattle.cuts.specs.declared.Cut.{Cut}
-use Rattle.command.specs.Decode.{target, inkOf, plainBlit, plain_of, fillTask, copyTask, stretchOf, line_of, feedOf}
-use Rattle.cuts.specs.Cut.{clipOf, fillCut, copyCut, coveredFrom, covered}
-use Rattle.table.specs.Table.{fillVerdict, copyVerdict, stretchVerdict, lineVerdict, hostVerdict}
+use Rattle.command.specs.Decode.{target, ink_of, plain_blit, plain_of, fill_task, copy_task, stretch_of, line_of, feed_of}
+use Rattle.cuts.specs.Cut.{clip_of, fill_cut, copy_cut, covered_from, covered}
+use Rattle.table.specs.Table.{fill_verdict, copy_verdict, stretch_verdict, line_verdict, host_verdict}
 use Rattle.table.proofs.Stretches.{stretch-can}
 use Rattle.table.proofs.Verdicts.{fill-can, copy-can, copy-orderly, line-can, host-can, feed-sizes, plain-ink}
 use Rattle.acts.specs.declared.Blit.{Blit}
@@ -52,7 +52,7 @@ carried-out k p q = ap₂ (λ (b : Bank) (st : State). made b k st) p q
 -- ---- rectangles
 pub painted-as : {t T : Task} {c C : Cut} {l L u U : Bool} (pattern m : List ℕ) {st : State} → t ≡ T → c ≡ C → l ≡ L → u ≡ U → T.x ≡ C.x → T.y ≡ C.y
     → st ≡ paint t.ink.target (in_turn t pattern (rect l u t.x t.y c.w c.h)) (state m 0 0)
-    → st ≡ paint T.ink.target (in_turn T pattern (coveredFrom L U C)) (state m 0 0)
+    → st ≡ paint T.ink.target (in_turn T pattern (covered_from L U C)) (state m 0 0)
 painted-as {t} {T} {c} {C} {l} {L} {u} {U} pattern m e f left top x y p =
     p ∙ ap₂ (λ (t : Task) (c : Cut). paint t.ink.target (in_turn t pattern (rect l u t.x t.y c.w c.h)) (state m 0 0)) e f
     ∙ ap₂ (λ (l u : Bool). paint T.ink.target (in_turn T pattern (rect l u T.x T.y C.w C.h)) (state m 0 0)) left top
@@ -61,18 +61,18 @@ painted-as {t} {T} {c} {C} {l} {L} {u} {U} pattern m e f left top x y p =
 abbrev CanFill : Task → Cut → ℕ → Type 0
 CanFill t c len = CanPaint t c.w c.h len × (t.copies ≡ false)
 
-pub fill-ready : (r : Regs) (len : ℕ) {t : Task} {c : Cut} {v : ℕ} → t ≡ fillTask r → c ≡ fillCut r → v ≡ fillVerdict r len → v ≡ 0 → CanFill t c len
-unfolding fillTask
-fill-ready r len {t} {c} e f g z = subst⁻¹ (λ (t : Task). CanFill t c len) e (subst⁻¹ (λ (c : Cut). CanFill (fillTask r) c len) f (fill-can r len (sym g ∙ z), refl))
+pub fill-ready : (r : Regs) (len : ℕ) {t : Task} {c : Cut} {v : ℕ} → t ≡ fill_task r → c ≡ fill_cut r → v ≡ fill_verdict r len → v ≡ 0 → CanFill t c len
+unfolding fill_task
+fill-ready r len {t} {c} e f g z = subst⁻¹ (λ (t : Task). CanFill t c len) e (subst⁻¹ (λ (c : Cut). CanFill (fill_task r) c len) f (fill-can r len (sym g ∙ z), refl))
 
 abbrev CanCopy : Task → Cut → ℕ → Type 0
 CanCopy t c len = CanPaint t c.w c.h len × ((t.copies ≡ true) × Orderly t c.w c.h)
 
-pub copy-ready : (r : Regs) (len : ℕ) {t : Task} {c : Cut} {v : ℕ} → t ≡ copyTask r → c ≡ copyCut r → v ≡ copyVerdict r len → v ≡ 0 → CanCopy t c len
-unfolding copyTask
+pub copy-ready : (r : Regs) (len : ℕ) {t : Task} {c : Cut} {v : ℕ} → t ≡ copy_task r → c ≡ copy_cut r → v ≡ copy_verdict r len → v ≡ 0 → CanCopy t c len
+unfolding copy_task
 copy-ready r len {t} {c} e f g z =
     subst⁻¹ (λ (t : Task). CanCopy t c len) e
-    (subst⁻¹ (λ (c : Cut). CanCopy (copyTask r) c len) f (copy-can r len (sym g ∙ z), (refl, copy-orderly r len (sym g ∙ z))))
+    (subst⁻¹ (λ (c : Cut). CanCopy (copy_task r) c len) f (copy-can r len (sym g ∙ z), (refl, copy-orderly r len (sym g ∙ z))))
 
 -- ---- stretches
 pub stretched-as : {t T : Stretch} {c C : Cut} (pattern m : List ℕ) {st : State} → t ≡ T → c ≡ C
@@ -80,45 +80,45 @@ pub stretched-as : {t T : Stretch} {c C : Cut} (pattern m : List ℕ) {st : Stat
     → st ≡ paint T.ink.target (stretched T pattern m (covered C)) (state m 0 0)
 stretched-as pattern m e f p = p ∙ ap₂ (λ (t : Stretch) (c : Cut). paint t.ink.target (stretched t pattern m (covered c)) (state m 0 0)) e f
 
-pub stretch-ready : (r : Regs) (len : ℕ) {t : Stretch} {c : Cut} {v : ℕ} → t ≡ stretchOf r → c ≡ fillCut r → v ≡ stretchVerdict r len → v ≡ 0
+pub stretch-ready : (r : Regs) (len : ℕ) {t : Stretch} {c : Cut} {v : ℕ} → t ≡ stretch_of r → c ≡ fill_cut r → v ≡ stretch_verdict r len → v ≡ 0
     → CanStretch t c.x c.y c.w c.h len
 stretch-ready r len {t} {c} e f g z =
     subst⁻¹ (λ (t : Stretch). CanStretch t c.x c.y c.w c.h len) e
-    (subst⁻¹ (λ (c : Cut). CanStretch (stretchOf r) c.x c.y c.w c.h len) f (stretch-can r len (sym g ∙ z)))
+    (subst⁻¹ (λ (c : Cut). CanStretch (stretch_of r) c.x c.y c.w c.h len) f (stretch-can r len (sym g ∙ z)))
 
 -- ---- lines
-pub line-ready : (r : Regs) (len : ℕ) {i : Ink} {c : Clip} {l : Line} {v : ℕ} → i ≡ inkOf r → c ≡ clipOf r → l ≡ line_of r → v ≡ lineVerdict r len → v ≡ 0
+pub line-ready : (r : Regs) (len : ℕ) {i : Ink} {c : Clip} {l : Line} {v : ℕ} → i ≡ ink_of r → c ≡ clip_of r → l ≡ line_of r → v ≡ line_verdict r len → v ≡ 0
     → Drawable i.target len c l
-unfolding inkOf
+unfolding ink_of
 line-ready r len {i} {c} {l} e f g h z =
     subst⁻¹ (λ (i : Ink). Drawable i.target len c l) e
-    (subst⁻¹ (λ (c : Clip). Drawable (target r) len c l) f (subst⁻¹ (λ (l : Line). Drawable (target r) len (clipOf r) l) g (line-can r len (sym h ∙ z))))
+    (subst⁻¹ (λ (c : Clip). Drawable (target r) len c l) f (subst⁻¹ (λ (l : Line). Drawable (target r) len (clip_of r) l) g (line-can r len (sym h ∙ z))))
 
 -- ---- host blits
-pub feed-ready : (r : Regs) {f : Feed} → f ≡ feedOf r → Sizes f
+pub feed-ready : (r : Regs) {f : Feed} → f ≡ feed_of r → Sizes f
 feed-ready r e = subst⁻¹ Sizes e (feed-sizes r)
 
-module _ (r : Regs) (len : ℕ) {c : Clip} {f : Feed} (q : c ≡ clipOf r) (e : f ≡ feedOf r) (fine : hostVerdict r len ≡ 0) (some : 0 < words_of (feedOf r)) where
-  pub ink-opened : {i : Ink} → i ≡ inkOf r → Opened i c f len
+module _ (r : Regs) (len : ℕ) {c : Clip} {f : Feed} (q : c ≡ clip_of r) (e : f ≡ feed_of r) (fine : host_verdict r len ≡ 0) (some : 0 < words_of (feed_of r)) where
+  pub ink-opened : {i : Ink} → i ≡ ink_of r → Opened i c f len
   ink-opened {i} p =
       subst⁻¹ (λ (i : Ink). Opened i c f len) p
-      (subst⁻¹ (λ (c : Clip). Opened (inkOf r) c f len) q (subst⁻¹ (λ (f : Feed). Opened (inkOf r) (clipOf r) f len) e (host-can r len fine some)))
+      (subst⁻¹ (λ (c : Clip). Opened (ink_of r) c f len) q (subst⁻¹ (λ (f : Feed). Opened (ink_of r) (clip_of r) f len) e (host-can r len fine some)))
 
-  pub plain-opened : {b : Bool} {p : Plain} → b ≡ plainBlit r → b ≡ true → p ≡ plain_of r → Opened (plainInk p) c f len
-  plain-opened g t h = subst⁻¹ (λ (p : Plain). Opened (plainInk p) c f len) h (plainly-opened (plain-ink r (sym g ∙ t)) (ink-opened refl))
+  pub plain-opened : {b : Bool} {p : Plain} → b ≡ plain_blit r → b ≡ true → p ≡ plain_of r → Opened (plain_ink p) c f len
+  plain-opened g t h = subst⁻¹ (λ (p : Plain). Opened (plain_ink p) c f len) h (plainly-opened (plain-ink r (sym g ∙ t)) (ink-opened refl))
 
 -- what some data finishes, drawn by what was decoded
-module _ (r : Regs) (pattern m : List ℕ) {c : Clip} {f : Feed} (pixels : Feed → List Pixel) (st : State) (q : c ≡ clipOf r) (e : f ≡ feedOf r) where
-  pub ink-drawn : {i : Ink} → i ≡ inkOf r → st ≡ drawn i pattern c f (pixels f) (state m 0 0)
-      → st ≡ paint (target r) (hostTouches (inkOf r) pattern (clipOf r) (feedOf r) (pixels (feedOf r))) (state m 0 0)
-  unfolding inkOf
+module _ (r : Regs) (pattern m : List ℕ) {c : Clip} {f : Feed} (pixels : Feed → List Pixel) (st : State) (q : c ≡ clip_of r) (e : f ≡ feed_of r) where
+  pub ink-drawn : {i : Ink} → i ≡ ink_of r → st ≡ drawn i pattern c f (pixels f) (state m 0 0)
+      → st ≡ paint (target r) (host_touches (ink_of r) pattern (clip_of r) (feed_of r) (pixels (feed_of r))) (state m 0 0)
+  unfolding ink_of
   ink-drawn p d =
       d ∙ ap₂ (λ (i : Ink) (k : Clip). drawn i pattern k f (pixels f) (state m 0 0)) p q
-      ∙ ap (λ (f : Feed). drawn (inkOf r) pattern (clipOf r) f (pixels f) (state m 0 0)) e
+      ∙ ap (λ (f : Feed). drawn (ink_of r) pattern (clip_of r) f (pixels f) (state m 0 0)) e
 
-  pub plain-drawn : {b : Bool} {p : Plain} → b ≡ plainBlit r → b ≡ true → p ≡ plain_of r → st ≡ drawn (plainInk p) [] c f (pixels f) (state m 0 0)
-      → st ≡ paint (target r) (hostTouches (inkOf r) pattern (clipOf r) (feedOf r) (pixels (feedOf r))) (state m 0 0)
+  pub plain-drawn : {b : Bool} {p : Plain} → b ≡ plain_blit r → b ≡ true → p ≡ plain_of r → st ≡ drawn (plain_ink p) [] c f (pixels f) (state m 0 0)
+      → st ≡ paint (target r) (host_touches (ink_of r) pattern (clip_of r) (feed_of r) (pixels (feed_of r))) (state m 0 0)
   plain-drawn g t h d =
       ink-drawn refl
-      (d ∙ ap (λ (p : Plain). drawn (plainInk p) [] c f (pixels f) (state m 0 0)) h
-      ∙ plainly-drawn (inkOf r) (plain_of r) (plain-ink r (sym g ∙ t)) pattern c f (pixels f) (state m 0 0))
+      (d ∙ ap (λ (p : Plain). drawn (plain_ink p) [] c f (pixels f) (state m 0 0)) h
+      ∙ plainly-drawn (ink_of r) (plain_of r) (plain-ink r (sym g ∙ t)) pattern c f (pixels f) (state m 0 0))

@@ -3,8 +3,8 @@ ghost use Rattle.std.specs.Prelude.{◌≡◌, List, ℕ, ◌+◌, ◌^◌, ◌�
 ghost use Rattle.paint.specs.Tally.{tally};
 ghost use Rattle.paint.specs.Paint.{tallied};
 ghost use Rattle.host.specs.Host.{last_of};
-ghost use Rattle.acts.specs.Deed.{noBlit, rectEnded, lineEnded, touchedByWord, paintedBy, bankOf, withEnds, deed, judged, filling, copying, stretching, lining, opening, feeding, carrying, aimed, starting};
-ghost use Rattle.acts.specs.Fed.{touchedByWords, blitAfter, feedEnded, fed, feedingRun};
+ghost use Rattle.acts.specs.Deed.{no_blit, rect_ended, line_ended, touched_by_word, painted_by, bank_of, with_ends, deed, judged, filling, copying, stretching, lining, opening, feeding, carrying, aimed, starting};
+ghost use Rattle.acts.specs.Fed.{touched_by_words, blit_after, feed_ended, fed, feeding_run};
 ghost use Rattle.acts.specs.Asked.{Feeds};
 
 use bank::Bank;
@@ -23,9 +23,9 @@ pub struct Blit {
 // The registers that a command can change.
 #[derive(Drop)]
 pub struct Ends {
-    pub lineStyle: u32,
-    pub srcXY: u32,
-    pub dstXY: u32,
+    pub line_style: u32,
+    pub src_xy: u32,
+    pub dst_xy: u32,
 }
 
 // What became of a command: the row that refuses it, or 0; those registers and the host blit after it; the tally of the pixels written.
@@ -38,7 +38,7 @@ pub struct Act {
 }
 
 pub fn no_blit() -> Blit
-    ensures { result ≡ noBlit }
+    ensures { result ≡ no_blit }
 {
     Blit {
         waiting: false,
@@ -49,50 +49,50 @@ pub fn no_blit() -> Blit
 
 // The registers that a command can change, as they are.
 fn ends_of(regs: Regs) -> Ends
-    ensures { (p : List ℕ) → withEnds (bankOf regs p) result ≡ bankOf regs p }
+    ensures { (p : List ℕ) → with_ends (bank_of regs p) result ≡ bank_of regs p }
 {
     Ends {
-        lineStyle: regs.lineStyle,
-        srcXY: regs.srcXY,
-        dstXY: regs.dstXY,
+        line_style: regs.line_style,
+        src_xy: regs.src_xy,
+        dst_xy: regs.dst_xy,
     }
 }
 
 // The registers with those that a command left.
 pub fn with_ends(regs: Regs, e: Ends) -> Regs
-    ensures { (p : List ℕ) → bankOf result p ≡ withEnds (bankOf regs p) e }
+    ensures { (p : List ℕ) → bank_of result p ≡ with_ends (bank_of regs p) e }
 {
     let mut r = regs;
-    r.lineStyle = e.lineStyle;
-    r.srcXY = e.srcXY;
-    r.dstXY = e.dstXY;
+    r.line_style = e.line_style;
+    r.src_xy = e.src_xy;
+    r.dst_xy = e.dst_xy;
     r
 }
 
 fn end_rect(regs: Regs) -> Ends
-    ensures { (p : List ℕ) → withEnds (bankOf regs p) result ≡ rectEnded (bankOf regs p) }
+    ensures { (p : List ℕ) → with_ends (bank_of regs p) result ≡ rect_ended (bank_of regs p) }
 {
     let c = regs.command;
     let xy = positions::step_xy(
-        regs.dstXY,
-        regs.dstSize,
+        regs.dst_xy,
+        regs.dst_size,
         c / 0x400 % 2 == 1,
         c / 0x800 % 2 == 1,
     );
     Ends {
-        lineStyle: regs.lineStyle,
-        srcXY: regs.srcXY,
-        dstXY: registers::kept_bits(0x6c, xy),
+        line_style: regs.line_style,
+        src_xy: regs.src_xy,
+        dst_xy: registers::kept_bits(0x6c, xy),
     }
 }
 
 fn end_line(regs: Regs, style: u32) -> Ends
-    ensures { (p : List ℕ) → withEnds (bankOf regs p) result ≡ lineEnded (bankOf regs p) style }
+    ensures { (p : List ℕ) → with_ends (bank_of regs p) result ≡ line_ended (bank_of regs p) style }
 {
     Ends {
-        lineStyle: registers::kept_bits(0x40, style),
-        srcXY: registers::kept_bits(0x5c, regs.dstXY),
-        dstXY: regs.dstXY,
+        line_style: registers::kept_bits(0x40, style),
+        src_xy: registers::kept_bits(0x5c, regs.dst_xy),
+        dst_xy: regs.dst_xy,
     }
 }
 
@@ -112,7 +112,7 @@ fn unpainted(number: u32, ends: Ends, blit: Blit) -> Act
 }
 
 fn fill(regs: Regs, pattern: &[u8; 256], blit: Blit, mem: &mut [u8], rooms: Rooms) -> Act
-    ensures { deed (bankOf regs pattern.now) result mem.new ≡ judged (filling (bankOf regs pattern.now) blit mem.old) (bankOf regs pattern.now) blit mem.old }
+    ensures { deed (bank_of regs pattern.now) result mem.new ≡ judged (filling (bank_of regs pattern.now) blit mem.old) (bank_of regs pattern.now) blit mem.old }
 {
     let verdict = table::fill_verdict(mem.len(), regs, rooms);
     if verdict != 0 {
@@ -131,7 +131,7 @@ fn fill(regs: Regs, pattern: &[u8; 256], blit: Blit, mem: &mut [u8], rooms: Room
 }
 
 fn copy(regs: Regs, pattern: &[u8; 256], blit: Blit, mem: &mut [u8], rooms: Rooms) -> Act
-    ensures { deed (bankOf regs pattern.now) result mem.new ≡ judged (copying (bankOf regs pattern.now) blit mem.old) (bankOf regs pattern.now) blit mem.old }
+    ensures { deed (bank_of regs pattern.now) result mem.new ≡ judged (copying (bank_of regs pattern.now) blit mem.old) (bank_of regs pattern.now) blit mem.old }
 {
     let verdict = table::copy_verdict(mem.len(), regs, rooms);
     if verdict != 0 {
@@ -140,9 +140,9 @@ fn copy(regs: Regs, pattern: &[u8; 256], blit: Blit, mem: &mut [u8], rooms: Room
     let c = cuts::copy_cut(regs);
     let task = command::copy_task(regs);
     let cells = *pattern;
-    let toLeft = cuts::from_right(regs);
-    let toTop = cuts::from_bottom(regs);
-    let tally = rect::copy_rect(mem, task, cells, c.w, c.h, toLeft, toTop);
+    let to_left = cuts::from_right(regs);
+    let to_top = cuts::from_bottom(regs);
+    let tally = rect::copy_rect(mem, task, cells, c.w, c.h, to_left, to_top);
     Act {
         number: 0,
         ends: end_rect(regs),
@@ -152,7 +152,7 @@ fn copy(regs: Regs, pattern: &[u8; 256], blit: Blit, mem: &mut [u8], rooms: Room
 }
 
 fn stretch(regs: Regs, pattern: &[u8; 256], blit: Blit, mem: &mut [u8], rooms: Rooms) -> Act
-    ensures { deed (bankOf regs pattern.now) result mem.new ≡ judged (stretching (bankOf regs pattern.now) blit mem.old) (bankOf regs pattern.now) blit mem.old }
+    ensures { deed (bank_of regs pattern.now) result mem.new ≡ judged (stretching (bank_of regs pattern.now) blit mem.old) (bank_of regs pattern.now) blit mem.old }
 {
     let verdict = table::stretch_verdict(mem.len(), regs, rooms);
     if verdict != 0 {
@@ -172,7 +172,7 @@ fn stretch(regs: Regs, pattern: &[u8; 256], blit: Blit, mem: &mut [u8], rooms: R
 }
 
 fn draw(regs: Regs, pattern: &[u8; 256], blit: Blit, mem: &mut [u8]) -> Act
-    ensures { deed (bankOf regs pattern.now) result mem.new ≡ judged (lining (bankOf regs pattern.now) blit mem.old) (bankOf regs pattern.now) blit mem.old }
+    ensures { deed (bank_of regs pattern.now) result mem.new ≡ judged (lining (bank_of regs pattern.now) blit mem.old) (bank_of regs pattern.now) blit mem.old }
 {
     let verdict = table::line_verdict(mem.len(), regs);
     if verdict != 0 {
@@ -182,7 +182,7 @@ fn draw(regs: Regs, pattern: &[u8; 256], blit: Blit, mem: &mut [u8]) -> Act
     let clip = cuts::decode_clip(regs);
     let l = command::decode_line(regs);
     let pen = command::decode_pen(regs);
-    let drawn = strokes::paint_line(mem, ink, pattern, clip, l, pen, regs.lineStyle);
+    let drawn = strokes::paint_line(mem, ink, pattern, clip, l, pen, regs.line_style);
     let tally = drawn.tally;
     Act {
         number: 0,
@@ -194,7 +194,7 @@ fn draw(regs: Regs, pattern: &[u8; 256], blit: Blit, mem: &mut [u8]) -> Act
 
 // Opens the host blit that the registers hold.
 fn begin(regs: Regs, blit: Blit, mem: &[u8], rooms: Rooms) -> Act
-    ensures { (p : List ℕ) → deed (bankOf regs p) result mem.now ≡ judged (opening (bankOf regs p) mem.now) (bankOf regs p) blit mem.now }
+    ensures { (p : List ℕ) → deed (bank_of regs p) result mem.now ≡ judged (opening (bank_of regs p) mem.now) (bank_of regs p) blit mem.now }
 {
     let verdict = table::host_verdict(mem.len(), regs, rooms);
     if verdict != 0 {
@@ -214,8 +214,8 @@ fn begin(regs: Regs, blit: Blit, mem: &[u8], rooms: Rooms) -> Act
 
 // The pixels that a word of data finishes; the tally of those written.
 fn paint_word(regs: Regs, pattern: [u8; 256], blit: Blit, mem: &mut [u8], word: u32) -> Tally
-    requires { Feeds (bankOf regs pattern) blit (length mem.old) 1 }
-    ensures { tallied mem.new result ≡ paintedBy (bankOf regs pattern) (touchedByWord (bankOf regs pattern) blit word) mem.old }
+    requires { Feeds (bank_of regs pattern) blit (length mem.old) 1 }
+    ensures { tallied mem.new result ≡ painted_by (bank_of regs pattern) (touched_by_word (bank_of regs pattern) blit word) mem.old }
 {
     let feed = command::decode_feed(regs);
     let clip = cuts::decode_clip(regs);
@@ -236,8 +236,8 @@ fn paint_word(regs: Regs, pattern: [u8; 256], blit: Blit, mem: &mut [u8], word: 
 
 // The pixels that some words of data finish.
 fn paint_words(regs: Regs, pattern: &[u8; 256], blit: Blit, mem: &mut [u8], words: &[u32]) -> Tally
-    requires { Feeds (bankOf regs pattern.now) blit (length mem.old) (length words.now) }
-    ensures { tallied mem.new result ≡ paintedBy (bankOf regs pattern.now) (touchedByWords (bankOf regs pattern.now) blit words.now) mem.old }
+    requires { Feeds (bank_of regs pattern.now) blit (length mem.old) (length words.now) }
+    ensures { tallied mem.new result ≡ painted_by (bank_of regs pattern.now) (touched_by_words (bank_of regs pattern.now) blit words.now) mem.old }
 {
     let feed = command::decode_feed(regs);
     let clip = cuts::decode_clip(regs);
@@ -254,7 +254,7 @@ fn paint_words(regs: Regs, pattern: &[u8; 256], blit: Blit, mem: &mut [u8], word
 
 // A word of data for the host blit that the registers hold, opened or not yet.
 fn feed(regs: Regs, pattern: [u8; 256], blit: Blit, mem: &mut [u8], word: u32, rooms: Rooms) -> Act
-    ensures { deed (bankOf regs pattern) result mem.new ≡ judged (feeding (bankOf regs pattern) blit mem.old word) (bankOf regs pattern) blit mem.old }
+    ensures { deed (bank_of regs pattern) result mem.new ≡ judged (feeding (bank_of regs pattern) blit mem.old word) (bank_of regs pattern) blit mem.old }
 {
     let verdict = table::host_verdict(mem.len(), regs, rooms);
     if verdict != 0 {
@@ -289,7 +289,7 @@ fn feed(regs: Regs, pattern: [u8; 256], blit: Blit, mem: &mut [u8], word: u32, r
 
 // The command that the registers hold.
 pub fn carry(regs: Regs, pattern: &[u8; 256], blit: Blit, mem: &mut [u8], rooms: Rooms) -> Act
-    ensures { deed (bankOf regs pattern.now) result mem.new ≡ judged (carrying (bankOf regs pattern.now) blit mem.old) (bankOf regs pattern.now) blit mem.old }
+    ensures { deed (bank_of regs pattern.now) result mem.new ≡ judged (carrying (bank_of regs pattern.now) blit mem.old) (bank_of regs pattern.now) blit mem.old }
 {
     let number = regs.command % 16;
     match number {
@@ -305,15 +305,15 @@ pub fn carry(regs: Regs, pattern: &[u8; 256], blit: Blit, mem: &mut [u8], rooms:
 
 // A launch write's word in the register that the command takes it from.
 fn aim(regs: Regs, word: u32) -> Regs
-    ensures { (p : List ℕ) → bankOf result p ≡ aimed (bankOf regs p) word }
+    ensures { (p : List ℕ) → bank_of result p ≡ aimed (bank_of regs p) word }
 {
     let number = regs.command % 16;
     let mut next = regs;
     if (number == 1) | (number == 2) {
-        next.srcXY = registers::kept_bits(0x5c, word);
+        next.src_xy = registers::kept_bits(0x5c, word);
     }
     if (5 <= number) & (number < 8) {
-        next.dstXY = registers::kept_bits(0x6c, word);
+        next.dst_xy = registers::kept_bits(0x6c, word);
     }
     next
 }
@@ -327,7 +327,7 @@ pub fn start(
     word: u32,
     rooms: Rooms,
 ) -> Act
-    ensures { deed (bankOf regs pattern.now) result mem.new ≡ judged (carrying (aimed (bankOf regs pattern.now) word) blit mem.old) (aimed (bankOf regs pattern.now) word) blit mem.old }
+    ensures { deed (bank_of regs pattern.now) result mem.new ≡ judged (carrying (aimed (bank_of regs pattern.now) word) blit mem.old) (aimed (bank_of regs pattern.now) word) blit mem.old }
 {
     let next = aim(regs, word);
     carry(next, pattern, blit, mem, rooms)
@@ -342,7 +342,7 @@ pub fn launch(
     word: u32,
     rooms: Rooms,
 ) -> Act
-    ensures { deed (bankOf regs pattern) result mem.new ≡ judged (starting (bankOf regs pattern) blit mem.old word) (aimed (bankOf regs pattern) word) blit mem.old }
+    ensures { deed (bank_of regs pattern) result mem.new ≡ judged (starting (bank_of regs pattern) blit mem.old word) (aimed (bank_of regs pattern) word) blit mem.old }
 {
     let number = regs.command % 16;
     if number == 3 {
@@ -382,7 +382,7 @@ fn last_of(last: u32, words: &[u32]) -> u32
 // The host blit after some of its words: it waits for more, or it has ended.
 fn blit_after(blit: Blit, words: &[u32], needed: u32) -> Blit
     requires { blit.taken + length words.now ≤ needed }
-    ensures { result ≡ blitAfter blit words.now needed }
+    ensures { result ≡ blit_after blit words.now needed }
 {
     let taken = blit.taken + words.len() as u32;
     if taken < needed {
@@ -413,7 +413,7 @@ fn undrawn(number: u32, blit: Blit, used: usize) -> Fed
 // Words of data for the host blit that the registers hold, opened or not yet: those up to its end, with one verdict for all of them. A blit that needs no
 // words uses up one.
 pub fn feed_run(bank: Bank, blit: Blit, mem: &mut [u8], words: &[u32], rooms: Rooms) -> Fed
-    ensures { fed result mem.new ≡ feedingRun bank blit mem.old words.now }
+    ensures { fed result mem.new ≡ feeding_run bank blit mem.old words.now }
 {
     let regs = bank.regs;
     let verdict = table::host_verdict(mem.len(), regs, rooms);
@@ -439,7 +439,7 @@ pub fn feed_run(bank: Bank, blit: Blit, mem: &mut [u8], words: &[u32], rooms: Ro
 
 // The registers once a host blit has had its words: stepped where it waits for no more.
 pub fn end_feed(bank: Bank, blit: Blit) -> Bank
-    ensures { result ≡ feedEnded bank blit }
+    ensures { result ≡ feed_ended bank blit }
 {
     if blit.waiting {
         return bank;

@@ -11,36 +11,36 @@ use Rattle.bank.specs.declared.Bank.{Bank}
 use Rattle.registers.specs.declared.Place.{Place}
 use Rattle.registers.specs.declared.Place.TheVariants.{Register, Pattern, Launch, Nowhere}
 use Rattle.bank.specs.declared.Reading.TheVariants.{Value}
-use Rattle.registers.specs.Regs.{getReg}
+use Rattle.registers.specs.Regs.{get_reg}
 use Rattle.registers.specs.Kept.{kept}
 use Rattle.registers.specs.Offsets.{place_of}
-use Rattle.bank.specs.Bank.{freshBank, stored, patterned, read_place, readAt, readNumber}
+use Rattle.bank.specs.Bank.{fresh_bank, stored, patterned, read_place, read_at, read_number}
 use Rattle.registers.proofs.OffsetLaws.{register-listed, pattern-word, no_register}
 use Rattle.registers.proofs.RegsLaws.{put-nowhere, get-put, get-zero}
 use Rattle.bank.proofs.Words.{word_back, word-past, word-elsewhere, word-length, word-zero}
 
-pub read_of : {p : Place} (b : Bank) (o : ℕ) → place_of o ≡ p → readAt b o ≡ read_place p b o
+pub read_of : {p : Place} (b : Bank) (o : ℕ) → place_of o ≡ p → read_at b o ≡ read_place p b o
 read_of b o e = ap (λ (q : Place). read_place q b o) e
 
 -- ---- a store into a register
 
-pub register-after : (b : Bank) (o d a : ℕ) → place_of a ≡ Register → getReg a (stored b o d).regs ≡ cond (eqb o a) (kept o d) (getReg a b.regs)
+pub register-after : (b : Bank) (o d a : ℕ) → place_of a ≡ Register → get_reg a (stored b o d).regs ≡ cond (eqb o a) (kept o d) (get_reg a b.regs)
 unfolding stored
 register-after b o d a e = get-put o (kept o d) b.regs a (register-listed a e)
 
-pub stored-reads-back : (b : Bank) (o d : ℕ) → place_of o ≡ Register → readAt (stored b o d) o ≡ Value (kept o d)
+pub stored-reads-back : (b : Bank) (o d : ℕ) → place_of o ≡ Register → read_at (stored b o d) o ≡ Value (kept o d)
 stored-reads-back b o d e =
     read_of (stored b o d) o e
-    ∙ ap Value (register-after b o d o e ∙ ap (λ t. cond t (kept o d) (getReg o b.regs)) (eq-eqb o o refl))
+    ∙ ap Value (register-after b o d o e ∙ ap (λ t. cond t (kept o d) (get_reg o b.regs)) (eq-eqb o o refl))
 
 stored-leaves-at : (b : Bank) (o d a : ℕ) → (o ≡ a → ⊥) → (p : Place) → place_of a ≡ p → read_place p (stored b o d) a ≡ read_place p b a
 unfolding stored
-stored-leaves-at b o d a n Register e = ap Value (register-after b o d a e ∙ ap (λ t. cond t (kept o d) (getReg a b.regs)) (ne_eqb o a n))
+stored-leaves-at b o d a n Register e = ap Value (register-after b o d a e ∙ ap (λ t. cond t (kept o d) (get_reg a b.regs)) (ne_eqb o a n))
 stored-leaves-at b o d a n (Pattern i) e = refl
 stored-leaves-at b o d a n Launch e = refl
 stored-leaves-at b o d a n Nowhere e = refl
 
-pub stored-leaves : (b : Bank) (o d a : ℕ) → (o ≡ a → ⊥) → readAt (stored b o d) a ≡ readAt b a
+pub stored-leaves : (b : Bank) (o d a : ℕ) → (o ≡ a → ⊥) → read_at (stored b o d) a ≡ read_at b a
 stored-leaves b o d a n = stored-leaves-at b o d a n (place_of a) refl
 
 pub stored-nowhere : (b : Bank) (o d : ℕ) → (place_of o ≡ Register → ⊥) → stored b o d ≡ b
@@ -53,7 +53,7 @@ stored-length b o d l = l
 
 -- ---- a word into the pattern
 
-pub patterned-reads-back : {i : ℕ} (b : Bank) (o d : ℕ) → place_of o ≡ Pattern i → length b.pattern ≡ 256 → d < 2 ^ 32 → readAt (patterned b i d) o ≡ Value d
+pub patterned-reads-back : {i : ℕ} (b : Bank) (o d : ℕ) → place_of o ≡ Pattern i → length b.pattern ≡ 256 → d < 2 ^ 32 → read_at (patterned b i d) o ≡ Value d
 unfolding patterned
 patterned-reads-back {i} b o d e l f = read_of (patterned b i d) o e ∙ ap Value (word_back b.pattern i d (pattern-word o e).1 l f)
 
@@ -66,7 +66,7 @@ patterned-leaves-at b i d m o n Launch e = refl
 patterned-leaves-at b i d m o n Nowhere e = refl
 
 -- every register and every other word of the pattern stay
-pub patterned-leaves : (b : Bank) (i d : ℕ) → i % 4 ≡ 0 → (o : ℕ) → (place_of o ≡ Pattern i → ⊥) → readAt (patterned b i d) o ≡ readAt b o
+pub patterned-leaves : (b : Bank) (i d : ℕ) → i % 4 ≡ 0 → (o : ℕ) → (place_of o ≡ Pattern i → ⊥) → read_at (patterned b i d) o ≡ read_at b o
 patterned-leaves b i d m o n = patterned-leaves-at b i d m o n (place_of o) refl
 
 pub patterned-past-end : (b : Bank) (i d : ℕ) → 252 < i → patterned b i d ≡ b
@@ -78,22 +78,22 @@ unfolding patterned
 patterned-length b i d l = word-length b.pattern i d ∙ l
 
 -- 44 and 48 (hexadecimal) read as 100 and 104
-pub aliases : (b : Bank) → (readAt b 0x44 ≡ readAt b 0x100) × (readAt b 0x48 ≡ readAt b 0x104)
+pub aliases : (b : Bank) → (read_at b 0x44 ≡ read_at b 0x100) × (read_at b 0x48 ≡ read_at b 0x104)
 unfolding place_of
 aliases b = (refl, refl)
 
 -- ---- a fresh bank
 
-zero-at : (o : ℕ) (p : Place) → place_of o ≡ p → readNumber (read_place p freshBank o) ≡ 0 → read_place p freshBank o ≡ Value 0
-unfolding freshBank
+zero-at : (o : ℕ) (p : Place) → place_of o ≡ p → read_number (read_place p fresh_bank o) ≡ 0 → read_place p fresh_bank o ≡ Value 0
+unfolding fresh_bank
 zero-at o Register e t = ap Value (get-zero o)
 zero-at o (Pattern i) e t = ap Value (word-zero i)
 zero-at o Launch e t = let z : ◌≡◌ {A = ℕ} 2 0 = t in absurd (omega arith)
 zero-at o Nowhere e t = let z : ◌≡◌ {A = ℕ} 2 0 = t in absurd (omega arith)
 
-pub fresh-reads-zero : (o : ℕ) → readNumber (readAt freshBank o) ≡ 0 → readAt freshBank o ≡ Value 0
+pub fresh-reads-zero : (o : ℕ) → read_number (read_at fresh_bank o) ≡ 0 → read_at fresh_bank o ≡ Value 0
 fresh-reads-zero o = zero-at o (place_of o) refl
 
-pub fresh-length : length freshBank.pattern ≡ 256
-unfolding freshBank
+pub fresh-length : length fresh_bank.pattern ≡ 256
+unfolding fresh_bank
 fresh-length = length-replicate {A = ℕ} 256 0

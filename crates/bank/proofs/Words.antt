@@ -10,7 +10,7 @@ use borrow.Author.Tests.{le-leb, lt-leb}
 use lib.Dec.{leb}
 use lib.ListN.{length, get_or, set, replicate, length-set}
 use lib.Seq.{get_or-set_same, get_or-set_other}
-use Rattle.bank.specs.Bank.{putWord, getWord}
+use Rattle.bank.specs.Bank.{put_word, get_word}
 use Rattle.registers.proofs.Arms.{either_same}
 
 -- ---- four numbers put at four places in a row
@@ -64,8 +64,8 @@ four_bytes d f =
     let t : d / 2 ^ 24 * 2 ^ 8 + d / 2 ^ 16 % 2 ^ 8 ≡ d / 2 ^ 16 = rw (div-div-eq-div-mul d (2 ^ 16) (2 ^ 8)) at (div-add-mod' (d / 2 ^ 16) (2 ^ 8)) in
     omega arith
 
-pub word_back : (p : List ℕ) (i d : ℕ) → i ≤ 252 → length p ≡ 256 → d < 2 ^ 32 → getWord (putWord p i d) i ≡ d
-unfolding putWord getWord
+pub word_back : (p : List ℕ) (i d : ℕ) → i ≤ 252 → length p ≡ 256 → d < 2 ^ 32 → get_word (put_word p i d) i ≡ d
+unfolding put_word get_word
 word_back p i d h l f =
     let k : i + 3 < length p = omega arith in
     rw (le-leb i 252 h) (
@@ -76,8 +76,8 @@ word_back p i d h l f =
       at-3 p i (d % 2 ^ 8) (d / 2 ^ 8 % 2 ^ 8) (d / 2 ^ 16 % 2 ^ 8) (d / 2 ^ 24 % 2 ^ 8) k,
     ) (four_bytes d f))
 
-pub word-past : (p : List ℕ) (i d : ℕ) → 252 < i → putWord p i d ≡ p
-unfolding putWord
+pub word-past : (p : List ℕ) (i d : ℕ) → 252 < i → put_word p i d ≡ p
+unfolding put_word
 word-past p i d h = rw (lt-leb i 252 h)
 
 -- whether the word was put or not
@@ -85,17 +85,17 @@ either_way : {A : Type 0} (f : List ℕ → A) (t : Bool) {q p : List ℕ} → f
 either_way f true e = e
 either_way f false e = refl
 
-pub word-length : (p : List ℕ) (i d : ℕ) → length (putWord p i d) ≡ length p
-unfolding putWord
+pub word-length : (p : List ℕ) (i d : ℕ) → length (put_word p i d) ≡ length p
+unfolding put_word
 word-length p i d = either_way length (leb i 252) (simp length-set)
 
-byte-elsewhere : (p : List ℕ) (i d : ℕ) → i % 4 ≡ 0 → (k : ℕ) → (k / 4 ≡ i / 4 → ⊥) → get_or (putWord p i d) k 0 ≡ get_or p k 0
-unfolding putWord
+byte-elsewhere : (p : List ℕ) (i d : ℕ) → i % 4 ≡ 0 → (k : ℕ) → (k / 4 ≡ i / 4 → ⊥) → get_or (put_word p i d) k 0 ≡ get_or p k 0
+unfolding put_word
 byte-elsewhere p i d m k h =
     either_way (λ q. get_or q k 0) (leb i 252) (elsewhere p i (d % 2 ^ 8) (d / 2 ^ 8 % 2 ^ 8) (d / 2 ^ 16 % 2 ^ 8) (d / 2 ^ 24 % 2 ^ 8) m k h)
 
-pub word-elsewhere : (p : List ℕ) (i k d : ℕ) → i % 4 ≡ 0 → k % 4 ≡ 0 → (k ≡ i → ⊥) → getWord (putWord p i d) k ≡ getWord p k
-unfolding getWord
+pub word-elsewhere : (p : List ℕ) (i k d : ℕ) → i % 4 ≡ 0 → k % 4 ≡ 0 → (k ≡ i → ⊥) → get_word (put_word p i d) k ≡ get_word p k
+unfolding get_word
 word-elsewhere p i k d m n h =
     rw (
       byte-elsewhere p i d m k (λ e. h (omega arith)),
@@ -109,9 +109,9 @@ zero-bytes zero k = refl
 zero-bytes (suc n) zero = refl
 zero-bytes (suc n) (suc k) = zero-bytes n k
 
-word-of-zeros : (p : List ℕ) → ((k : ℕ) → get_or p k 0 ≡ 0) → (i : ℕ) → getWord p i ≡ 0
-unfolding getWord
+word-of-zeros : (p : List ℕ) → ((k : ℕ) → get_or p k 0 ≡ 0) → (i : ℕ) → get_word p i ≡ 0
+unfolding get_word
 word-of-zeros p z i = rw (z i, z (i + 1), z (i + 2), z (i + 3)) (either_same (leb i 252) 0)
 
-pub word-zero : (i : ℕ) → getWord (replicate 256 0) i ≡ 0
+pub word-zero : (i : ℕ) → get_word (replicate 256 0) i ≡ 0
 word-zero = word-of-zeros (replicate 256 0) (zero-bytes 256)

@@ -1,7 +1,7 @@
 -- The whole register state: fresh, after a store into a register or into the pattern, and what a read of an offset gives.
 -- Assumes nothing.
 use Rattle.std.specs.Prelude.{ℕ, ◌+◌, ◌*◌, ◌/◌, ◌%◌, ◌^◌, cond, List, leb, get_or, set, replicate}
-use Rattle.registers.specs.Regs.{noRegs, putReg, getReg}
+use Rattle.registers.specs.Regs.{no_regs, put_reg, get_reg}
 use Rattle.registers.specs.Kept.{kept}
 use Rattle.registers.specs.Offsets.{place_of}
 use Rattle.bank.specs.declared.Bank.{Bank}
@@ -11,46 +11,46 @@ use Rattle.registers.specs.declared.Place.{Place}
 use Rattle.registers.specs.declared.Place.TheVariants.{Register, Pattern, Launch, Nowhere}
 
 -- a word put at byte i of the pattern, low byte first; nothing where four bytes do not fit
-unfoldable pub putWord : List ℕ → ℕ → ℕ → List ℕ
-putWord p i d =
+unfoldable pub put_word : List ℕ → ℕ → ℕ → List ℕ
+put_word p i d =
     cond (leb i 252)
     (set (set (set (set p i (d % 2 ^ 8)) (i + 1) (d / 2 ^ 8 % 2 ^ 8)) (i + 2) (d / 2 ^ 16 % 2 ^ 8)) (i + 3) (d / 2 ^ 24 % 2 ^ 8))
     p
 
 -- the four bytes from byte i of the pattern as a word, low byte first; 0 where there are no four
-unfoldable pub getWord : List ℕ → ℕ → ℕ
-getWord p i =
+unfoldable pub get_word : List ℕ → ℕ → ℕ
+get_word p i =
     cond (leb i 252)
     (get_or p i 0 + get_or p (i + 1) 0 * 2 ^ 8 + get_or p (i + 2) 0 * 2 ^ 16 + get_or p (i + 3) 0 * 2 ^ 24)
     0
 
 -- all registers and all bytes of the pattern 0
-unfoldable pub freshBank : Bank
-freshBank = record { regs = noRegs; pattern = replicate 256 0 }
+unfoldable pub fresh_bank : Bank
+fresh_bank = record { regs = no_regs; pattern = replicate 256 0 }
 
 -- the kept bits of a word, in the register at an offset
 unfoldable pub stored : Bank → ℕ → ℕ → Bank
-stored b o d = record { regs = putReg o (kept o d) b.regs; pattern = b.pattern }
+stored b o d = record { regs = put_reg o (kept o d) b.regs; pattern = b.pattern }
 
 -- a word at byte i of the pattern
 unfoldable pub patterned : Bank → ℕ → ℕ → Bank
-patterned b i d = record { regs = b.regs; pattern = putWord b.pattern i d }
+patterned b i d = record { regs = b.regs; pattern = put_word b.pattern i d }
 
 abbrev pub read_place : Place → Bank → ℕ → Reading
-read_place Register b o = Value (getReg o b.regs)
-read_place (Pattern i) b o = Value (getWord b.pattern i)
+read_place Register b o = Value (get_reg o b.regs)
+read_place (Pattern i) b o = Value (get_word b.pattern i)
 read_place Launch b o = Refused
 read_place Nowhere b o = Refused
 
-abbrev pub readAt : Bank → ℕ → Reading
-readAt b o = read_place (place_of o) b o
+abbrev pub read_at : Bank → ℕ → Reading
+read_at b o = read_place (place_of o) b o
 
 -- document 01's number for an answer to a read: 2, the offset is none that can be read
-abbrev pub readNumber : Reading → ℕ
-readNumber (Value v) = 0
-readNumber Refused = 2
+abbrev pub read_number : Reading → ℕ
+read_number (Value v) = 0
+read_number Refused = 2
 
 -- a refused read gives 0
-abbrev pub readValue : Reading → ℕ
-readValue (Value v) = v
-readValue Refused = 0
+abbrev pub read_value : Reading → ℕ
+read_value (Value v) = v
+read_value Refused = 0

@@ -1,6 +1,6 @@
 // The whole register state: the registers and the pattern, stored into and read.
 ghost use Rattle.std.specs.Prelude.{◌≡◌, ◌<◌};
-ghost use Rattle.bank.specs.Bank.{putWord, getWord, freshBank, stored, patterned, readAt};
+ghost use Rattle.bank.specs.Bank.{put_word, get_word, fresh_bank, stored, patterned, read_at};
 
 use registers::{Place, Regs};
 
@@ -20,7 +20,7 @@ pub enum Reading {
 
 // A word into four bytes of the pattern, low byte first.
 fn put_word(mut p: [u8; 256], at: usize, word: u32) -> [u8; 256]
-    ensures { result ≡ putWord p at word }
+    ensures { result ≡ put_word p at word }
 {
     if at <= 252 {
         p[at] = (word % 0x100) as u8;
@@ -38,7 +38,7 @@ fn wide(x: u8) -> u32
 }
 
 fn get_word(p: [u8; 256], at: usize) -> u32
-    ensures { result ≡ getWord p at }
+    ensures { result ≡ get_word p at }
 {
     if at <= 252 {
         wide(p[at])
@@ -52,7 +52,7 @@ fn get_word(p: [u8; 256], at: usize) -> u32
 
 impl Bank {
     pub fn fresh() -> Bank
-        ensures { result ≡ freshBank }
+        ensures { result ≡ fresh_bank }
     {
         Bank {
             regs: Regs::zero(),
@@ -79,7 +79,7 @@ impl Bank {
     }
 
     pub fn read(self, offset: u32) -> Reading
-        ensures { result ≡ readAt self offset }
+        ensures { result ≡ read_at self offset }
     {
         let p = registers::find_place(offset);
         match p {

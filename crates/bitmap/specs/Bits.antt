@@ -11,13 +11,13 @@ unfoldable pub bit_at : List ℕ → ℕ → ℕ → Bool
 bit_at s at k = bit_of (get_or s (at + k / 8) 0) (k % 8)
 
 -- n of them from number k on
-unfoldable pub bitsFrom : List ℕ → ℕ → ℕ → ℕ → List Bool
-bitsFrom s at k zero = []
-bitsFrom s at k (suc n) = bit_at s at k ∷ bitsFrom s at (k + 1) n
+unfoldable pub bits_from : List ℕ → ℕ → ℕ → ℕ → List Bool
+bits_from s at k zero = []
+bits_from s at k (suc n) = bit_at s at k ∷ bits_from s at (k + 1) n
 
 -- one for each page of memory
-unfoldable pub bitsIn : List ℕ → ℕ → List Bool
-bitsIn s at = bitsFrom s at 0 4096
+unfoldable pub bits_in : List ℕ → ℕ → List Bool
+bits_in s at = bits_from s at 0 4096
 
 -- the byte of marks 8 j to 8 j + 7: each that is set adds its bit's power of two
 abbrev pub part_of : List Bool → ℕ → ℕ → ℕ
@@ -35,18 +35,18 @@ byte_of marks j =
     + part_of marks j 7
 
 -- the bytes with bit k set
-unfoldable pub withBit : List ℕ → ℕ → ℕ → List ℕ
-withBit s at k = cond (bit_at s at k) s (set s (at + k / 8) (get_or s (at + k / 8) 0 + 2 ^ (k % 8)))
+unfoldable pub with_bit : List ℕ → ℕ → ℕ → List ℕ
+with_bit s at k = cond (bit_at s at k) s (set s (at + k / 8) (get_or s (at + k / 8) 0 + 2 ^ (k % 8)))
 
 -- with n bits from number k on set, one after the other
 unfoldable pub with_bits : List ℕ → ℕ → ℕ → ℕ → List ℕ
 with_bits s at k zero = s
-with_bits s at k (suc n) = with_bits (withBit s at k) at (k + 1) n
+with_bits s at k (suc n) = with_bits (with_bit s at k) at (k + 1) n
 
 -- with those of them set whose mark is set; no bit is cleared
-unfoldable pub withMarks : List ℕ → ℕ → List Bool → ℕ → ℕ → List ℕ
-withMarks s at marks k zero = s
-withMarks s at marks k (suc n) = withMarks (cond (get_or marks k false) (withBit s at k) s) at marks (k + 1) n
+unfoldable pub with_marks : List ℕ → ℕ → List Bool → ℕ → ℕ → List ℕ
+with_marks s at marks k zero = s
+with_marks s at marks k (suc n) = with_marks (cond (get_or marks k false) (with_bit s at k) s) at marks (k + 1) n
 
 -- with n bytes from `at` on 0
 unfoldable pub cleared : List ℕ → ℕ → ℕ → List ℕ

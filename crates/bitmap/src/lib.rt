@@ -1,7 +1,7 @@
 // The marks of the 4,096 pages of memory as bits in lent bytes: 512 bytes from `at` on, low bit first (specs/Bits.antt).
 ghost use Rattle.std.specs.Prelude.{◌≡◌, ◌+◌, ◌-◌, ◌/◌, ◌%◌, ◌^◌, ◌<◌, ◌≤◌, length, get_or};
-ghost use Rattle.pages.specs.Pages.{firstMarked, countMarked};
-ghost use Rattle.bitmap.specs.Bits.{bitsIn, withBit, with_bits, withMarks, cleared};
+ghost use Rattle.pages.specs.Pages.{first_marked, count_marked};
+ghost use Rattle.bitmap.specs.Bits.{bits_in, with_bit, with_bits, with_marks, cleared};
 
 use pages::Marked;
 
@@ -21,7 +21,7 @@ fn rest_of(s: &[u8], at: usize, k: usize) -> u32
 
 fn set_bit(s: &mut [u8], at: usize, k: usize)
     requires { (at + 512 ≤ length s.old) × (k < 4096) }
-    ensures { s.new ≡ withBit s.old at k }
+    ensures { s.new ≡ with_bit s.old at k }
 {
     let i = at + k / 8;
     let j = (k % 8) as u32;
@@ -46,7 +46,7 @@ pub fn set_bits(s: &mut [u8], at: usize, first: usize, past: usize)
 // Of these pages, the bits of those that are marked are set.
 pub fn add_marks(s: &mut [u8], at: usize, marks: &[bool; 4096], first: usize, past: usize)
     requires { (at + 512 ≤ length s.old) × (past ≤ 4096) }
-    ensures { s.new ≡ withMarks s.old at marks.now first (past - first) }
+    ensures { s.new ≡ with_marks s.old at marks.now first (past - first) }
 {
     let mut k = first;
     while k < past {
@@ -72,7 +72,7 @@ pub fn clear_bits(s: &mut [u8], at: usize)
 // The first page at or after a number whose bit is set. Where no more bits of a byte are, the search goes on at the next byte.
 pub fn first_bit(s: &[u8], at: usize, page: u32) -> Marked
     requires { at + 512 ≤ length s.now }
-    ensures { result ≡ firstMarked (bitsIn s.now at) page }
+    ensures { result ≡ first_marked (bits_in s.now at) page }
 {
     let mut k = page as usize;
     while k < 4096 {
@@ -92,7 +92,7 @@ pub fn first_bit(s: &[u8], at: usize, page: u32) -> Marked
 // How many bits are set.
 pub fn count_bits(s: &[u8], at: usize) -> u32
     requires { at + 512 ≤ length s.now }
-    ensures { result ≡ countMarked (bitsIn s.now at) }
+    ensures { result ≡ count_marked (bits_in s.now at) }
 {
     let mut n: u32 = 0;
     let mut k: usize = 0;

@@ -10,21 +10,21 @@ use native.Mathlib.Omega.{arith}
 use lib.Dec.{eqb}
 use lib.ListN.{get_or}
 use Rattle.surface.specs.declared.Surface.{Surface}
-use Rattle.surface.specs.Place.{byte_at, byte_of, monoBit}
+use Rattle.surface.specs.Place.{byte_at, byte_of, mono_bit}
 use Rattle.surface.specs.Asked.{Held}
 use Rattle.surface.specs.Pixels.{Px, px, across}
-use Rattle.surface.proofs.Run.{in_rows, pixel-held, run-pixel}
+use Rattle.surface.proofs.Run.{in-rows, pixel-held, run-pixel}
 use Rattle.surface.proofs.Rects.{same-px, in-across}
 use Rattle.surface.proofs.Lists.{In, by_cases}
 use Rattle.spans.proofs.Spans.{IsByte}
 use Rattle.paint.specs.declared.Tally.{Tally}
-use Rattle.paint.specs.Paint.{State, dab, dabAt, paint}
+use Rattle.paint.specs.Paint.{State, dab, dab_at, paint}
 use Rattle.paint.specs.Asked.{Room}
 use Rattle.paint.proofs.Owners.{of-byte, dab-leaves}
 use Rattle.paint.proofs.Turns.{paint-while, dab-at}
 use Rattle.runs.specs.Asked.{RowOn}
 use Rattle.bits.specs.declared.Mono.{Mono}
-use Rattle.bits.specs.Bits.{coloured, bit_of, byteTouches, monoGiving, monoly}
+use Rattle.bits.specs.Bits.{coloured, bit_of, byte_touches, mono_giving, monoly}
 use Rattle.bits.specs.Asked.{RowMono, CanMono}
 
 -- the two colours as a source has them
@@ -43,10 +43,10 @@ bit-given bit fore back clear h = by_cases (ℕ_discrete bit 1) (λ e. rw e (one
 -- ---- a pixel of the row, by where it begins
 module _ (s : Surface) (flat : s.tiled ≡ false) (x y i n at : ℕ) (bytes : n ≡ s.bytes) (first : at ≡ byte_of s x y 0) where
   pub run-held : {len m : ℕ} → RowOn s len x m y → i < m → Held (at + i * n) n len
-  run-held row h = rw bytes (pixel-held (in_rows flat) (row.on (x + i) (omega arith) (omega arith)) (at + i * s.bytes) (run-pixel s flat x y at first i))
+  run-held row h = rw bytes (pixel-held (in-rows flat) (row.on (x + i) (omega arith) (omega arith)) (at + i * s.bytes) (run-pixel s flat x y at first i))
 
-  pub run-dab : (o : Option ℕ) (st : State) → dabAt (at + i * n) n o st ≡ dab s (px (x + i) y) o st
-  run-dab o st = rw bytes (dab-at s (in_rows flat) (px (x + i) y) (at + i * s.bytes) o st (run-pixel s flat x y at first i))
+  pub run-dab : (o : Option ℕ) (st : State) → dab_at (at + i * n) n o st ≡ dab s (px (x + i) y) o st
+  run-dab o st = rw bytes (dab-at s (in-rows flat) (px (x + i) y) (at + i * s.bytes) o st (run-pixel s flat x y at first i))
 
 -- ---- a byte read once
 module _ {t : Mono} {w j len : ℕ} {n : Tally} (row : RowMono t w j len n) where
@@ -57,8 +57,8 @@ module _ {t : Mono} {w j len : ℕ} {n : Tally} (row : RowMono t w j len n) wher
   place i = byte_at t.from ((t.sx + i) / 8) (t.sy + j)
 
   same_bit : (i l byte : ℕ) (now : List ℕ) → i ≤ l → (t.sx + i) % 8 + (l - i) < 8 → get_or now (place i) 0 ≡ byte
-      → coloured t.plain (bit_of byte ((t.sx + i) % 8 + (l - i))) ≡ monoGiving t now (px (t.x + l) (t.y + j))
-  unfolding monoGiving monoBit
+      → coloured t.plain (bit_of byte ((t.sx + i) % 8 + (l - i))) ≡ mono_giving t now (px (t.x + l) (t.y + j))
+  unfolding mono_giving mono_bit
   same_bit i l byte now h small e =
       let c : t.sx + (t.x + l - t.x) ≡ t.sx + l = omega arith in
       let r : t.sy + (t.y + j - t.y) ≡ t.sy + j = omega arith in
@@ -80,23 +80,23 @@ module _ {t : Mono} {w j len : ℕ} {n : Tally} (row : RowMono t w j len n) wher
       row.apart i l b.k li (omega arith) f.0 (f.1 ∙ ap (λ (p : Px). byte_of target p.x p.y b.k) (sym c.2))
 
   pub byte-once : (i m byte : ℕ) (st : State) → i < w → i + m ≤ w → (t.sx + i) % 8 + m ≤ 8 → get_or st.mem (place i) 0 ≡ byte
-      → paint target (byteTouches t.plain byte ((t.sx + i) % 8) (t.x + i) (across false (t.x + i) m (t.y + j))) st
+      → paint target (byte_touches t.plain byte ((t.sx + i) % 8) (t.x + i) (across false (t.x + i) m (t.y + j))) st
       ≡ paint target (monoly t (across false (t.x + i) m (t.y + j))) st
   byte-once i m byte st li lm small e =
-      paint-while target (λ q now. coloured t.plain (bit_of byte ((t.sx + i) % 8 + (q.x - (t.x + i))))) (λ q now. monoGiving t now q)
+      paint-while target (λ q now. coloured t.plain (bit_of byte ((t.sx + i) % 8 + (q.x - (t.x + i))))) (λ q now. mono_giving t now q)
       (λ now. get_or now (place i) 0 ≡ byte) (across false (t.x + i) m (t.y + j))
       (λ q k now g.
       let c = at-number i m q k in
       let d : q.x - (t.x + i) ≡ q.x - t.x - i = omega arith in
       ap (λ (d : ℕ). coloured t.plain (bit_of byte ((t.sx + i) % 8 + d))) d
-      ∙ same_bit i (q.x - t.x) byte now c.0 (omega (arith, c.1)) g ∙ ap (monoGiving t now) c.2)
+      ∙ same_bit i (q.x - t.x) byte now c.0 (omega (arith, c.1)) g ∙ ap (mono_giving t now) c.2)
       (λ q k o s g. dab-leaves target row.colour.some q o s (place i) (away i m q li lm k) ∙ g) st e
 
 -- ---- a rectangle that can be copied has its rows ready
 pub mono-line : {t : Mono} {w h len : ℕ} → CanMono t w h len → (j : ℕ) {n : Tally} → j < h → Room n w → RowMono t w j len n
 mono-line {t} {w} {h} {len} can j l room = record {
   flat = can.flat;
-  fromFlat = can.fromFlat;
+  from_flat = can.from_flat;
   colour = can.colour;
   target = record {
     wide = can.wide;
@@ -105,8 +105,8 @@ mono-line {t} {w} {h} {len} can j l room = record {
   room = room;
   small = can.small;
   mono = can.mono;
-  wide = can.sourceWide;
-  high = omega (arith, can.sourceHigh);
+  wide = can.source_wide;
+  high = omega (arith, can.source_high);
   down = omega (arith, can.high);
   source = λ i a. can.source i j a l;
   apart = λ i m k a b. can.apart i m j k a b l;

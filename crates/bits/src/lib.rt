@@ -2,10 +2,10 @@
 ghost use Rattle.std.specs.Prelude.{◌≡◌, false, ◌+◌, ◌-◌, ◌<◌, ◌≤◌, length};
 ghost use Rattle.surface.specs.Asked.{Colour, Held};
 ghost use Rattle.surface.specs.Pixels.{across, rect};
-ghost use Rattle.paint.specs.Paint.{state, tallied, dabAt, paint};
+ghost use Rattle.paint.specs.Paint.{state, tallied, dab_at, paint};
 ghost use Rattle.paint.specs.Asked.{Room};
 ghost use Rattle.runs.specs.Asked.{RowOn};
-ghost use Rattle.bits.specs.Bits.{coloured, byteTouches, monoly};
+ghost use Rattle.bits.specs.Bits.{coloured, byte_touches, monoly};
 ghost use Rattle.bits.specs.Asked.{RowMono, CanMono};
 
 use paint::Tally;
@@ -34,7 +34,7 @@ pub struct Mono {
 // A pixel of n bytes from an address on is given the colour of its bit, or it is left.
 fn put_bit(mem: &mut [u8], at: usize, n: u32, p: Plain, bit: u32, tally: Tally) -> Tally
     requires { Held at n (length mem.old) × Room tally 1 }
-    ensures { tallied mem.new result ≡ dabAt at n (coloured p bit) (tallied mem.old tally) }
+    ensures { tallied mem.new result ≡ dab_at at n (coloured p bit) (tallied mem.old tally) }
 {
     let set = bit == 1;
     let v = if set { p.fore } else { p.back };
@@ -54,7 +54,7 @@ pub fn put_run(
     tally: Tally,
 ) -> Tally
     requires { ((Colour p.target × (p.target.tiled ≡ false)) × (RowOn p.target (length mem.old) x m y × Room tally m)) × ((k + m ≤ 8) × (n ≡ p.target.bytes)) }
-    ensures { tallied mem.new result ≡ paint p.target (byteTouches p byte k x (across false x m y)) (tallied mem.old tally) }
+    ensures { tallied mem.new result ≡ paint p.target (byte_touches p byte k x (across false x m y)) (tallied mem.old tally) }
 {
     let at = surface::place_in_rows(p.target, x, y);
     let mut r = tally;
@@ -79,7 +79,7 @@ pub fn put_bits(
     tally: Tally,
 ) -> Tally
     requires { ((Colour p.target × (p.target.tiled ≡ false)) × (RowOn p.target (length mem.old) x m y × Room tally m)) × (k + m ≤ 8) }
-    ensures { tallied mem.new result ≡ paint p.target (byteTouches p byte k x (across false x m y)) (tallied mem.old tally) }
+    ensures { tallied mem.new result ≡ paint p.target (byte_touches p byte k x (across false x m y)) (tallied mem.old tally) }
 {
     let n = p.target.bytes;
     if n == 1 {

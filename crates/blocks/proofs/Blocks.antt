@@ -9,14 +9,14 @@ use native.Mathlib.Omega.{arith}
 use native.Mathlib.Decide.{dec_lt}
 use lib.ListN.{get_or}
 use Rattle.surface.specs.declared.Surface.{Surface}
-use Rattle.surface.specs.Place.{rowBytes, byte_at}
+use Rattle.surface.specs.Place.{row_bytes, byte_at}
 use Rattle.surface.specs.Asked.{Small, Near}
 use Rattle.surface.specs.Pixels.{Px, px, Inside}
 use Rattle.surface.proofs.Lists.{by_cases}
-use Rattle.surface.proofs.Rows.{by_layout, rowBytes-flat, rowBytes-tiled, byteAt-inj, byteAt-small, byteAt-rows, byteAt-tile}
+use Rattle.surface.proofs.Rows.{by_layout, row_bytes-flat, row_bytes-tiled, byte_at-inj, byte_at-small, byte_at-rows, byte_at-tile}
 use Rattle.runs.proofs.Runs.{same_memory}
 use Rattle.blocks.specs.declared.Way.{Way}
-use Rattle.blocks.specs.Blocks.{Put, origin, originByte, Laid, pitch}
+use Rattle.blocks.specs.Blocks.{Put, origin, origin_byte, Laid, pitch}
 use Rattle.blocks.specs.Asked.{Lines, Goes, Columns, Rows}
 
 -- ---- where the bytes of a block are
@@ -28,21 +28,21 @@ tiled-pitch s e = rw e
 
 pub block_at : (s : Surface) (x y i q n h : ℕ) → Columns s x n → Rows s y h → i < n → q < h → byte_at s (x + i) (y + q) ≡ byte_at s x y + (q * pitch s + i)
 block_at s x y i q n h columns rows li lq =
-    by_layout s (λ e. rw (flat-pitch s e) (byteAt-rows s e x y i q))
+    by_layout s (λ e. rw (flat-pitch s e) (byte_at-rows s e x y i q))
     (λ e. let c = columns.one e in
     let r = rows.one e in
-    rw (tiled-pitch s e) (byteAt-tile s e x y i q (omega arith) (omega arith)))
+    rw (tiled-pitch s e) (byte_at-tile s e x y i q (omega arith) (omega arith)))
 
 pitch-small : (s : Surface) → Small s → pitch s < 2 ^ 17
 pitch-small s small = by_layout s (λ e. rw (flat-pitch s e) small.stride) (λ e. rw (tiled-pitch s e) (omega arith))
 
-pub row_small : (s : Surface) → Small s → rowBytes s < 2 ^ 24
-row_small s small = by_layout s (λ e. omega (arith, rowBytes-flat s e, small.stride)) (λ e. omega (arith, rowBytes-tiled s e, small.stride))
+pub row_small : (s : Surface) → Small s → row_bytes s < 2 ^ 24
+row_small s small = by_layout s (λ e. omega (arith, row_bytes-flat s e, small.stride)) (λ e. omega (arith, row_bytes-tiled s e, small.stride))
 
-slim-block : (s : Surface) (x n : ℕ) → Columns s x n → x + n ≤ rowBytes s → n ≤ pitch s
-slim-block s x n columns wide = by_layout s (λ e. omega (arith, flat-pitch s e, rowBytes-flat s e)) (λ e. let c = columns.one e in omega (arith, tiled-pitch s e))
+slim-block : (s : Surface) (x n : ℕ) → Columns s x n → x + n ≤ row_bytes s → n ≤ pitch s
+slim-block s x n columns wide = by_layout s (λ e. omega (arith, flat-pitch s e, row_bytes-flat s e)) (λ e. let c = columns.one e in omega (arith, tiled-pitch s e))
 
-low_byte : (s : Surface) (x y n h : ℕ) → Small s → x + n ≤ rowBytes s → y + h < 2 ^ 32 → Near s x y
+low_byte : (s : Surface) (x y n h : ℕ) → Small s → x + n ≤ row_bytes s → y + h < 2 ^ 32 → Near s x y
 low_byte s x y n h small wide high = record { small = small; across = omega (arith, row_small s small); down = omega arith }
 
 module _ (b : Way) {n h len : ℕ} (goes : Goes b n h len) where
@@ -64,8 +64,8 @@ module _ (b : Way) {n h len : ℕ} (goes : Goes b n h len) where
     pub block-lines : Lines (byte_at b.to b.x b.y) (pitch b.to) (byte_at b.from b.sx b.sy) (pitch b.from) n h len
     block-lines = record {
       slim = slim-block b.to b.x n columns goes.wide;
-      low = byteAt-small near-to;
-      low' = byteAt-small near-from;
+      low = byte_at-small near-to;
+      low' = byte_at-small near-from;
       short = pitch-small b.to goes.small;
       short' = pitch-small b.from goes.small';
       few = omega (arith, goes.high);
@@ -76,7 +76,7 @@ module _ (b : Way) {n h len : ℕ} (goes : Goes b n h len) where
     }
 
     pub block-put : {m m' : List ℕ} → Laid (byte_at b.to b.x b.y) (pitch b.to) (byte_at b.from b.sx b.sy) (pitch b.from) n h m m'
-        → Put b.to (originByte b m) b.x b.y n h m m'
+        → Put b.to (origin_byte b m) b.x b.y n h m m'
     block-put {m} {m'} laid = record {
       inside = λ p i.
           let c = p.x - b.x in
@@ -101,7 +101,7 @@ put-once {s} {value} {x} {y} {n} {h} {m} {a} {b} f g =
     (λ p q e. differ (ap (λ (j : ℕ). get_or a j 0) e ∙ f.inside p q ∙ sym (g.inside p q) ∙ ap (λ (j : ℕ). get_or b j 0) (sym e))) in
     f.others i none ∙ sym (g.others i none))
 
-module _ (s : Surface) (value : Px → ℕ) {m m₁ m₂ : List ℕ} (x y n h : ℕ) (wide : x + n ≤ rowBytes s) where
+module _ (s : Surface) (value : Px → ℕ) {m m₁ m₂ : List ℕ} (x y n h : ℕ) (wide : x + n ≤ row_bytes s) where
   both : (x₁ y₁ n₁ h₁ x₂ y₂ n₂ h₂ : ℕ) → ((p : Px) → Inside x y n h p → Inside x₁ y₁ n₁ h₁ p ⊎ Inside x₂ y₂ n₂ h₂ p)
       → ((p : Px) → Inside x₁ y₁ n₁ h₁ p → Inside x y n h p) → ((p : Px) → Inside x₂ y₂ n₂ h₂ p → Inside x y n h p)
       → ((p q : Px) → Inside x₁ y₁ n₁ h₁ p → Inside x₂ y₂ n₂ h₂ q → p.x ≡ q.x → p.y ≡ q.y → ⊥)
@@ -111,7 +111,7 @@ module _ (s : Surface) (value : Px → ℕ) {m m₁ m₂ : List ℕ} (x y n h : 
         ⊎_elim
         (λ j. second.others (byte_at s p.x p.y)
         (λ q k e. let l = in₂ q k in
-        let same = byteAt-inj s p.x p.y q.x q.y (omega arith) (omega arith) e in apart p q j k same.1 same.0)
+        let same = byte_at-inj s p.x p.y q.x q.y (omega arith) (omega arith) e in apart p q j k same.1 same.0)
         ∙ first.inside p j)
         (λ j. second.inside p j) (which p i);
     others = λ a out. second.others a (λ q k. out q (in₂ q k)) ∙ first.others a (λ q k. out q (in₁ q k));
@@ -166,7 +166,7 @@ module _ (b : Way) {n h len : ℕ} (goes : Goes b n h len) {x y sx sy i j k l : 
 
   -- what comes after other bytes have come comes from the memory as it was
   pub part-put : (x' y' n' h' : ℕ) {value : Px → ℕ} {m₀ m m₁ : List ℕ} → ((p : Px) → Inside x' y' n' h' p → Inside b.x b.y n h p) → Put b.to value x' y' n' h' m₀ m
-      → Put b.to (originByte of m) x y k l m m₁ → Put b.to (originByte b m₀) x y k l m m₁
+      → Put b.to (origin_byte of m) x y k l m m₁ → Put b.to (origin_byte b m₀) x y k l m m₁
   part-put x' y' n' h' {value} {m₀} {m} {m₁} ins done put = record {
     inside = λ p q. put.inside p q ∙ ap (λ (a : ℕ). get_or m a 0) (part-origin p q)
         ∙ done.others (origin b p) (λ u v e. goes.apart u p (ins u v) (within p q) (sym e));

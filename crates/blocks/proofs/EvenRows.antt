@@ -10,7 +10,7 @@ use native.Mathlib.Omega.{arith}
 use lib.Dec.{eqb}
 use lib.ListN.{length, get_or}
 use Rattle.surface.specs.declared.Surface.{Surface}
-use Rattle.surface.specs.Place.{byte_of, readPx, writePx, one, differs, rowPixels}
+use Rattle.surface.specs.Place.{byte_of, read_px, write_px, one, differs, row_pixels}
 use Rattle.surface.specs.Pixels.{Px, px, across, rect, Inside}
 use Rattle.surface.proofs.Bytes.{read_as}
 use Rattle.surface.proofs.Lists.{In}
@@ -26,7 +26,7 @@ use Rattle.paint.proofs.Loops.{RowLeft, row-begins, row-goes-on, row-full}
 use Rattle.paint.proofs.Changes.{summed_same, summed-append, summed-then}
 use Rattle.runs.specs.Runs.{Given, evenly}
 use Rattle.runs.specs.Asked.{RectOn}
-use Rattle.runs.proofs.Even.{byteNumber, even-given, even-counts, even-changes}
+use Rattle.runs.proofs.Even.{byte_number, even-given, even-counts, even-changes}
 use Rattle.runs.proofs.Runs.{given-once}
 use Rattle.blocks.specs.Blocks.{others}
 use Rattle.blocks.specs.Asked.{PartOn}
@@ -41,7 +41,7 @@ module _ {s : Surface} {v x0 w y : ℕ} {m₀ : List ℕ} where
   line-start = let z : x0 - x0 ≡ 0 = omega arith in (omega arith, rw z row-begins)
 
   module _ {x r : ℕ} {m : List ℕ} (to : LineTo s v x0 w y m₀ x m r) where
-    pub line-again : {m' : List ℕ} {d : Bool} {c : ℕ} → x < x0 + w → (m' ≡ writePx m s x y v) × (d ≡ differs s x y m m') → c ≡ one d → LineTo s v x0 w y m₀ (x + 1) m' (r + c)
+    pub line-again : {m' : List ℕ} {d : Bool} {c : ℕ} → x < x0 + w → (m' ≡ write_px m s x y v) × (d ≡ differs s x y m m') → c ≡ one d → LineTo s v x0 w y m₀ (x + 1) m' (r + c)
     line-again more stored e =
         let next : x + 1 - x0 ≡ x - x0 + 1 = omega arith in
         (omega arith, rw next (row-goes-on to.1 x (omega arith) (omega arith) (dab-stored m (tally (x - x0) r) s (px x y) v stored e refl) refl))
@@ -51,7 +51,7 @@ module _ {s : Surface} {v x0 w y : ℕ} {m₀ : List ℕ} where
 
 -- ---- the later rows, each counted against the first: those up to number j
 abbrev against : Surface → List ℕ → ℕ → Px → ℕ
-against s m y p = one (not (eqb (readPx m s p.x p.y) (readPx m s p.x y)))
+against s m y p = one (not (eqb (read_px m s p.x p.y) (read_px m s p.x y)))
 
 pub record Below (s : Surface) (m : List ℕ) (x y w h c j r : ℕ) : Type 0 where
   pub sum : r + summed (against s m y) (rows_left false false x y w h j) ≡ c + summed (against s m y) (rows_left false false x y w h 1)
@@ -66,7 +66,7 @@ module _ {s : Surface} {m : List ℕ} {x y w h c : ℕ} where
   module _ {j r : ℕ} (now : Below s m x y w h c j r) where
     pub below_next : {d : ℕ} → j < h → d ≡ others s s m x (y + j) x y w → Below s m x y w h c (j + 1) (r + d)
     below_next {d} more e =
-        let row : d ≡ summed (against s m y) (across false x w (y + j)) = e ∙ others-sum s s m (y + j) y (λ p. readPx m s p.x y) x x w (λ n l. refl) in
+        let row : d ≡ summed (against s m y) (across false x w (y + j)) = e ∙ others-sum s s m (y + j) y (λ p. read_px m s p.x y) x x w (λ n l. refl) in
         let turn = ap (summed (against s m y)) (rows-turn false false x y w h j more) ∙ summed-append (against s m y) (across false x w (y + j)) (rows_left false false x y w h (j + 1)) in
         record {
           sum = omega (arith, row, turn, now.sum);
@@ -93,13 +93,13 @@ module _ (s : Surface) (v x y w h : ℕ) (m : List ℕ) (on : RectOn s (length m
     format = refl;
     wide = omega (arith, on.wide);
     right = on.wide;
-    sourceRight = omega (arith, on.wide);
+    source_right = omega (arith, on.wide);
     down = omega (arith, on.high);
-    sourceDown = omega (arith, on.high);
+    source_down = omega (arith, on.high);
     target = on.colour;
     source = on.colour;
     on = λ i u. (on.on (x + i) (y + j) (omega arith) (omega arith) (omega arith) (omega arith)).on;
-    sourceOn = λ i u. (on.on (x + i) y (omega arith) (omega arith) (omega arith) (omega arith)).on;
+    source_on = λ i u. (on.on (x + i) y (omega arith) (omega arith) (omega arith) (omega arith)).on;
   }
 
   one-row : RectOn s (length m) x y w 1
@@ -118,15 +118,15 @@ module _ (s : Surface) (v x y w h : ℕ) (m : List ℕ) (on : RectOn s (length m
   unfolding rows_left
   later p i = let k = in-rect false false x (y + 1) w (h - 1) p i in (omega arith, omega arith)
 
-  column : (p : Px) → Inside x y w h p → p.x < rowPixels s
+  column : (p : Px) → Inside x y w h p → p.x < row_pixels s
   column p i = on-column s (length m) p.x p.y (on.on p.x p.y i.left i.right i.top i.bottom).on
 
   module _ (m₁ : List ℕ) {c : ℕ} (painted : state m₁ w c ≡ paint s (evenly v (across false x w y)) (state m 0 0)) where
     as-painted : state m₁ w c ≡ paint s (evenly v (rect false false x y w 1)) (state m 0 0)
     as-painted = painted ∙ ap (λ (ps : List Px). paint s (evenly v ps) (state m 0 0)) as-rect
 
-    row-given : Given s (byteNumber v) x y w 1 m m₁
-    row-given = subst (Given s (byteNumber v) x y w 1 m) (sym (ap (λ (st : State). st.mem) as-painted)) (even-given s v x y w 1 m one-row)
+    row-given : Given s (byte_number v) x y w 1 m m₁
+    row-given = subst (Given s (byte_number v) x y w 1 m) (sym (ap (λ (st : State). st.mem) as-painted)) (even-given s v x y w 1 m one-row)
 
     row-changes : c ≡ summed (changing s m m₁) (across false x w y)
     row-changes =
@@ -137,11 +137,11 @@ module _ (s : Surface) (v x y w h : ℕ) (m : List ℕ) (on : RectOn s (length m
     row-few = subst (λ (st : State). st.tally.changed ≤ st.tally.count) (sym painted) (changed-most s (evenly v (across false x w y)) (state m 0 0) (omega arith))
 
     -- on its own, as the loop begins
-    pub row-itself : Given s (byteNumber v) x y w 1 m₁ m₁
+    pub row-itself : Given s (byte_number v) x y w 1 m₁ m₁
     row-itself = record { inside = row-given.inside; others = λ a f. refl; long = refl }
 
-    module _ (m₂ : List ℕ) (given : Given s (byteNumber v) x y w h m₁ m₂) where
-      all : Given s (byteNumber v) x y w h m m₂
+    module _ (m₂ : List ℕ) (given : Given s (byte_number v) x y w h m₁ m₂) where
+      all : Given s (byte_number v) x y w h m m₂
       all = record {
         inside = given.inside;
         others = λ a f. given.others a f ∙ row-given.others a (λ p i. f p (omega arith));
@@ -150,12 +150,12 @@ module _ (s : Surface) (v x y w h : ℕ) (m : List ℕ) (on : RectOn s (length m
 
       -- what was counted is what changed
       rows-changes : c + summed (against s m₁ y) (rows_left false false x y w h 1) ≡ summed (changing s m m₂) (rect false false x y w h)
-      unfolding readPx
+      unfolding read_px
       rows-changes =
           ap₂ (λ (a b : ℕ). a + b) row-changes
           (summed_same (against s m₁ y) (changing s m₁ m₂) (rows_left false false x y w h 1) (λ p i.
           let k = later p i in
-          ap (λ (n : ℕ). one (not (eqb (readPx m₁ s p.x p.y) n)))
+          ap (λ (n : ℕ). one (not (eqb (read_px m₁ s p.x p.y) n)))
           (read_as (byte_of s p.x y) (byte_of s p.x p.y) 0 s.bytes m₁ m₂
           (λ n l u. row-given.inside (px p.x y) (omega (arith, k.0.left, k.0.right)) n (omega arith) ∙ sym (given.inside p k.0 n (omega arith))))))
           ∙ sym (summed-then s colour m m₁ m₂ (across false x w y) (rows_left false false x y w h 1)

@@ -9,7 +9,7 @@ use native.Mathlib.Omega.{arith}
 use lib.Dec.{eqb}
 use lib.ListN.{get_or}
 use Rattle.surface.specs.declared.Surface.{Surface}
-use Rattle.surface.specs.Place.{byte_at, byte_of, readBytes, readPx, one}
+use Rattle.surface.specs.Place.{byte_at, byte_of, read_bytes, read_px, one}
 use Rattle.surface.specs.Pixels.{Px, px, across}
 use Rattle.surface.proofs.Bytes.{read_as}
 use Rattle.surface.proofs.OnLaws.{one-most}
@@ -18,7 +18,7 @@ use Rattle.runs.specs.Runs.{unlikes, RowKept}
 use Rattle.runs.specs.Asked.{PixelsOn, RowHeld}
 use Rattle.runs.proofs.Runs.{run_inside}
 use Rattle.runs.proofs.Keeping.{row-held, buffer-on}
-use Rattle.blocks.specs.Blocks.{others, othersDown}
+use Rattle.blocks.specs.Blocks.{others, others_down}
 use Rattle.blocks.specs.Asked.{PartOn}
 
 -- ---- rows that can be kept
@@ -29,7 +29,7 @@ module _ {to from : Surface} {x y sx sy w len : ℕ} (on : PartOn to from x y sx
   pub source-held : RowHeld from (sx * to.bytes) sy (w * to.bytes) len
   source-held =
       subst (λ (b : ℕ). RowHeld from (sx * b) sy (w * b) len) on.format
-      (row-held on.source.some sx sy w on.source.small on.sourceRight (omega (arith, on.sourceDown)) (λ i l. record { colour = on.source; on = on.sourceOn i l }))
+      (row-held on.source.some sx sy w on.source.small on.source_right (omega (arith, on.source_down)) (λ i l. record { colour = on.source; on = on.source_on i l }))
 
   -- as buffers hold them
   pub part-fits : w ≤ 256 → w * to.bytes ≤ 1024
@@ -44,13 +44,13 @@ module _ {to from : Surface} {x y sx sy w len : ℕ} (on : PartOn to from x y sx
     format = on.format;
     wide = omega (arith, on.wide);
     right = omega (arith, on.right);
-    sourceRight = omega (arith, on.sourceRight);
+    source_right = omega (arith, on.source_right);
     down = on.down;
-    sourceDown = on.sourceDown;
+    source_down = on.source_down;
     target = on.target;
     source = on.source;
     on = λ j l. let p : x + i + j ≡ x + (i + j) = omega arith in rw p (on.on (i + j) (omega arith));
-    sourceOn = λ j l. let p : sx + i + j ≡ sx + (i + j) = omega arith in rw p (on.sourceOn (i + j) (omega arith));
+    source_on = λ j l. let p : sx + i + j ≡ sx + (i + j) = omega arith in rw p (on.source_on (i + j) (omega arith));
   }
 
 -- ---- bytes kept
@@ -58,16 +58,16 @@ module _ (to from : Surface) (format : from.bytes ≡ to.bytes) (y sy : ℕ) (m 
   unlike-bytes : (x sx d e w : ℕ) → ((c k : ℕ) → c < w → k < to.bytes → get_or a (d + (c * to.bytes + k)) 0 ≡ get_or m (byte_of to (x + c) y k) 0)
       → ((c k : ℕ) → c < w → k < to.bytes → get_or a' (e + (c * to.bytes + k)) 0 ≡ get_or m (byte_of from (sx + c) sy k) 0)
       → unlikes a a' to.bytes d e w ≡ others to from m x y sx sy w
-  unfolding unlikes others readPx
+  unfolding unlikes others read_px
   unlike-bytes x sx d e zero f g = refl
   unlike-bytes x sx d e (suc w) f g =
       let b = to.bytes in
       let first : (n : ℕ) → n + 0 ≡ n = (λ n. omega arith) in
-      let old : readBytes a (λ k. d + k) 0 b ≡ readPx m to x y =
+      let old : read_bytes a (λ k. d + k) 0 b ≡ read_px m to x y =
       read_as (λ k. d + k) (byte_of to x y) 0 b a m (λ k l u. let h = f 0 k (omega arith) (omega arith) in let p : d + (0 * b + k) ≡ d + k = omega arith in rw (p, first x) at h) in
-      let new : readBytes a' (λ k. e + k) 0 b ≡ readPx m from sx sy =
+      let new : read_bytes a' (λ k. e + k) 0 b ≡ read_px m from sx sy =
       read_as (λ k. e + k) (byte_of from sx sy) 0 b a' m (λ k l u. let h = g 0 k (omega arith) (omega arith) in let p : e + (0 * b + k) ≡ e + k = omega arith in rw (p, first sx) at h)
-      ∙ ap (readBytes m (byte_of from sx sy) 0) (sym format) in
+      ∙ ap (read_bytes m (byte_of from sx sy) 0) (sym format) in
       let next : (n c k : ℕ) → n + b + (c * b + k) ≡ n + ((c + 1) * b + k) = (λ n c k. omega (arith, add-mul c 1 b)) in
       let column : (n c : ℕ) → n + 1 + c ≡ n + (c + 1) = (λ n c. omega arith) in
       ap₂ (λ (p q : ℕ). p + q) (ap₂ (λ (p q : ℕ). one (not (eqb p q))) old new)
@@ -100,18 +100,18 @@ module _ (to from : Surface) (m : List ℕ) (y sy : ℕ) where
   pub others-most : (x sx w : ℕ) → others to from m x y sx sy w ≤ w
   unfolding others
   others-most x sx zero = omega arith
-  others-most x sx (suc w) = omega (arith, one-most (not (eqb (readPx m to x y) (readPx m from sx sy))), others-most (x + 1) (sx + 1) w)
+  others-most x sx (suc w) = omega (arith, one-most (not (eqb (read_px m to x y) (read_px m from sx sy))), others-most (x + 1) (sx + 1) w)
 
   -- pixels that would get others: a sum over the row
-  pub others-sum : (get : Px → ℕ) (x sx w : ℕ) → ((c : ℕ) → c < w → get (px (x + c) y) ≡ readPx m from (sx + c) sy)
-      → others to from m x y sx sy w ≡ summed (λ p. one (not (eqb (readPx m to p.x p.y) (get p)))) (across false x w y)
+  pub others-sum : (get : Px → ℕ) (x sx w : ℕ) → ((c : ℕ) → c < w → get (px (x + c) y) ≡ read_px m from (sx + c) sy)
+      → others to from m x y sx sy w ≡ summed (λ p. one (not (eqb (read_px m to p.x p.y) (get p)))) (across false x w y)
   unfolding others summed across
   others-sum get x sx zero h = refl
   others-sum get x sx (suc w) h =
       let first : (n : ℕ) → n + 0 ≡ n = (λ n. omega arith) in
       let column : (n c : ℕ) → n + 1 + c ≡ n + (c + 1) = (λ n c. omega arith) in
       let here = rw (first x, first sx) at (h 0 (omega arith)) in
-      ap₂ (λ (p q : ℕ). p + q) (ap (λ (v : ℕ). one (not (eqb (readPx m to x y) v))) (sym here))
+      ap₂ (λ (p q : ℕ). p + q) (ap (λ (v : ℕ). one (not (eqb (read_px m to x y) v))) (sym here))
       (others-sum get (x + 1) (sx + 1) w (λ c l. rw (column x c, column sx c) (h (c + 1) (omega arith))))
 
 -- a loop that counts: r of the first i pixels are not alike
@@ -144,7 +144,7 @@ module _ {to from : Surface} {m : List ℕ} {x y sx sy w : ℕ} where
 
 -- ---- a loop over rows that counts: r of the pixels of the first j rows are others
 pub record ToldDown (to from : Surface) (m : List ℕ) (x y sx sy w h j r : ℕ) : Type 0 where
-  pub sum : r + othersDown to from m x y sx sy w j (h - j) ≡ othersDown to from m x y sx sy w 0 h
+  pub sum : r + others_down to from m x y sx sy w j (h - j) ≡ others_down to from m x y sx sy w 0 h
   pub few : r ≤ j * w
   pub within : j ≤ h
 
@@ -154,7 +154,7 @@ module _ {to from : Surface} {m : List ℕ} {x y sx sy w h : ℕ} where
 
   module _ {j r : ℕ} (now : ToldDown to from m x y sx sy w h j r) where
     pub down-row : {c : ℕ} → j < h → c ≡ others to from m x (y + j) sx (sy + j) w → ToldDown to from m x y sx sy w h (j + 1) (r + c)
-    unfolding othersDown
+    unfolding others_down
     down-row {c} more e =
         let z : h - j ≡ suc (h - (j + 1)) = omega arith in
         let before = rw z at now.sum in
@@ -168,6 +168,6 @@ module _ {to from : Surface} {m : List ℕ} {x y sx sy w h : ℕ} where
     pub down-few : w ≤ 2 ^ 13 → h ≤ 2 ^ 13 → r < 2 ^ 32
     down-few wide high = omega (arith, now.few, mul-le-mul {n₁ = j} {m₁ = w} {n₂ = 2 ^ 13} {m₂ = 2 ^ 13} (omega (arith, now.within)) wide)
 
-    pub down-all : h ≤ j → r ≡ othersDown to from m x y sx sy w 0 h
-    unfolding othersDown
+    pub down-all : h ≤ j → r ≡ others_down to from m x y sx sy w 0 h
+    unfolding others_down
     down-all all = let z : h - j ≡ 0 = omega arith in let done = rw z at now.sum in omega (arith, done)

@@ -8,7 +8,7 @@ use native.Mathlib.Omega.{arith}
 use lib.Arith.{digits_lt}
 use lib.ListN.{get_or}
 use Rattle.surface.specs.declared.Surface.{Surface}
-use Rattle.surface.specs.Place.{rowBytes, byte_at, byte_of}
+use Rattle.surface.specs.Place.{row_bytes, byte_at, byte_of}
 use Rattle.surface.specs.Asked.{OnColour}
 use Rattle.surface.specs.Pixels.{Px, px, Inside}
 use Rattle.surface.proofs.OnLaws.{colour-byte, on-column}
@@ -70,12 +70,12 @@ module _ (s : Surface) (some : 0 < s.bytes) where
     pub byte-held : (q : Px) → Inside (x * s.bytes) y (w * s.bytes) h q → byte_at s q.x q.y < len
     byte-held q i = subst (λ (a : ℕ). a < len) (sym (byte-at q)) (colour-byte (there q i) (q.x % s.bytes) (mod-lt q.x some)).inside
 
-    pub byte-column : (q : Px) → Inside (x * s.bytes) y (w * s.bytes) h q → q.x < rowBytes s
+    pub byte-column : (q : Px) → Inside (x * s.bytes) y (w * s.bytes) h q → q.x < row_bytes s
     byte-column q i =
-        subst (λ (c : ℕ). c < rowBytes s) (div-add-mod' q.x s.bytes)
+        subst (λ (c : ℕ). c < row_bytes s) (div-add-mod' q.x s.bytes)
         (in-row-byte s (q.x / s.bytes) (q.x % s.bytes) some (on-column s len (q.x / s.bytes) q.y (there q i).on) (mod-lt q.x some))
 
-    pub bytes-wide : 0 < w → 0 < h → x * s.bytes + w * s.bytes ≤ rowBytes s
+    pub bytes-wide : 0 < w → 0 < h → x * s.bytes + w * s.bytes ≤ row_bytes s
     bytes-wide pw ph =
         let n = w * s.bytes in
         let wide : 0 < n = omega (arith, mul-le-mul_right {m = 1} {n = w} s.bytes pw) in

@@ -2,7 +2,7 @@
 -- Assumes nothing.
 use Rattle.std.specs.Prelude.{◌≡◌, true, ℕ, ◌+◌, ◌*◌, ◌%◌, ◌^◌, ◌<◌, ◌≤◌}
 use Rattle.surface.specs.declared.Surface.{Surface}
-use Rattle.surface.specs.Place.{rowBytes, byte_at, onSurface}
+use Rattle.surface.specs.Place.{row_bytes, byte_at, on_surface}
 use Rattle.surface.specs.Asked.{Small, Colour}
 use Rattle.surface.specs.Pixels.{Px, Inside}
 use Rattle.blocks.specs.declared.Way.{Way}
@@ -24,8 +24,8 @@ pub record Lines (d p s r n h len : ℕ) : Type 0 where
 pub record Goes (b : Way) (n h len : ℕ) : Type 0 where
   pub small : Small b.to
   pub small' : Small b.from
-  pub wide : b.x + n ≤ rowBytes b.to
-  pub wide' : b.sx + n ≤ rowBytes b.from
+  pub wide : b.x + n ≤ row_bytes b.to
+  pub wide' : b.sx + n ≤ row_bytes b.from
   pub high : b.y + h < 2 ^ 32
   pub high' : b.sy + h < 2 ^ 32
   pub to : (p : Px) → Inside b.x b.y n h p → byte_at b.to p.x p.y < len
@@ -44,13 +44,13 @@ pub record PartOn (to from : Surface) (x y sx sy w len : ℕ) : Type 0 where
   pub format : from.bytes ≡ to.bytes
   pub wide : w ≤ 2 ^ 13
   pub right : x + w ≤ 2 ^ 13
-  pub sourceRight : sx + w ≤ 2 ^ 15
+  pub source_right : sx + w ≤ 2 ^ 15
   pub down : y < 2 ^ 13
-  pub sourceDown : sy < 2 ^ 15
+  pub source_down : sy < 2 ^ 15
   pub target : Colour to
   pub source : Colour from
-  pub on : (i : ℕ) → i < w → onSurface to len (x + i) y ≡ true
-  pub sourceOn : (i : ℕ) → i < w → onSurface from len (sx + i) sy ≡ true
+  pub on : (i : ℕ) → i < w → on_surface to len (x + i) y ≡ true
+  pub source_on : (i : ℕ) → i < w → on_surface from len (sx + i) sy ≡ true
 
 -- h rows of them, each with its own
 pub record RowsOn (to from : Surface) (x y sx sy w h len : ℕ) : Type 0 where

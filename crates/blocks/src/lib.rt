@@ -4,7 +4,7 @@ ghost use Rattle.surface.specs.Pixels.{across, rect};
 ghost use Rattle.paint.specs.Paint.{state, tallied, paint};
 ghost use Rattle.runs.specs.Runs.{evenly};
 ghost use Rattle.runs.specs.Asked.{RowOn, RectOn};
-ghost use Rattle.blocks.specs.Blocks.{Put, originByte, Laid, pitch, others, othersDown};
+ghost use Rattle.blocks.specs.Blocks.{Put, origin_byte, Laid, pitch, others, others_down};
 ghost use Rattle.blocks.specs.Asked.{Lines, Goes, Columns, Rows, PartOn, RowsOn};
 
 use paint::Tally;
@@ -59,7 +59,7 @@ fn move_lines(mem: &mut [u8], d: usize, p: usize, s: usize, r: usize, n: usize, 
 // A block: n bytes of each of h rows, which reach over no edge of either surface.
 fn move_block(mem: &mut [u8], b: Way, n: usize, h: usize)
     requires { Goes b n h (length mem.old) × ((Columns b.to b.x n × Columns b.from b.sx n) × (Rows b.to b.y h × Rows b.from b.sy h)) }
-    ensures { Put b.to (originByte b mem.old) b.x b.y n h mem.old mem.new }
+    ensures { Put b.to (origin_byte b mem.old) b.x b.y n h mem.old mem.new }
 {
     let d = surface::byte_at(b.to, b.x, b.y);
     let s = surface::byte_at(b.from, b.sx, b.sy);
@@ -69,7 +69,7 @@ fn move_block(mem: &mut [u8], b: Way, n: usize, h: usize)
 // Rows that reach over no edge, block by block.
 fn move_band(mem: &mut [u8], b: Way, n: usize, h: usize)
     requires { Goes b n h (length mem.old) × (Rows b.to b.y h × Rows b.from b.sy h) }
-    ensures { Put b.to (originByte b mem.old) b.x b.y n h mem.old mem.new }
+    ensures { Put b.to (origin_byte b mem.old) b.x b.y n h mem.old mem.new }
 {
     let to = b.to;
     let from = b.from;
@@ -94,7 +94,7 @@ fn move_band(mem: &mut [u8], b: Way, n: usize, h: usize)
 // A rectangle of n by h bytes, none of which is both come from and gone to.
 pub fn move_blocks(mem: &mut [u8], b: Way, n: usize, h: usize)
     requires { Goes b n h (length mem.old) }
-    ensures { Put b.to (originByte b mem.old) b.x b.y n h mem.old mem.new }
+    ensures { Put b.to (origin_byte b mem.old) b.x b.y n h mem.old mem.new }
 {
     let to = b.to;
     let from = b.from;
@@ -185,7 +185,7 @@ pub fn unlike_rows(
     h: u32,
 ) -> u32
     requires { RowsOn to from x y sx sy w h (length mem.now) }
-    ensures { result ≡ othersDown to from mem.now x y sx sy w 0 h }
+    ensures { result ≡ others_down to from mem.now x y sx sy w 0 h }
 {
     let mut old = [0u8; 1024];
     let mut new = [0u8; 1024];

@@ -8,14 +8,14 @@ use Rattle.surface.specs.declared.Surface.{Surface}
 use Rattle.surface.specs.Place.{byte_of}
 use Rattle.surface.specs.Asked.{Colour}
 use Rattle.formats.specs.Format.{target_of}
-use Rattle.views.specs.View.{viewAnswer}
+use Rattle.views.specs.View.{view_answer}
 use Rattle.views.proofs.ViewLaws.{given-zero, start-given, count-given, start-refused, count-refused}
 use Rattle.capi.specs.Calls.{part, part_of}
 use Rattle.capi.specs.Promises.{PartViewed}
 
 module _ (m : List ℕ) (base format x y width : ℕ) where
   abbrev answer : ℕ
-  answer = viewAnswer (length m) base format x y width
+  answer = view_answer (length m) base format x y width
 
   pub part-refused : {a : ℕ} → a ≡ answer → (a ≡ 0 → ⊥) → part a 0 0 ≡ part_of m base format x y width
   unfolding part_of

@@ -1,9 +1,9 @@
 // The engine for callers in C, C++ and Rust. Its state lies in bytes that the caller lends: crate state.
 ghost use Rattle.std.specs.Prelude.{◌≡◌, true, ◌+◌, ◌<◌, ◌≤◌, length};
-ghost use Rattle.state.specs.Layout.{stateSize, isState, Bytes};
-ghost use Rattle.capi.specs.Calls.{packedAnswer, call, opening, writtenTo, runCall, ranTo, openedTo, read_of, part, part_of, plainly, registered};
+ghost use Rattle.state.specs.Layout.{state_size, is_state, Bytes};
+ghost use Rattle.capi.specs.Calls.{packed_answer, call, opening, written_to, run_call, ran_to, opened_to, read_of, part, part_of, plainly, registered};
 ghost use Rattle.capi.specs.Asked.{Draws};
-ghost use Rattle.capi.specs.Packets.{kept, byCall, pieceCall, openedReader, packetCall, packetsTo};
+ghost use Rattle.capi.specs.Packets.{kept, by_call, piece_call, opened_reader, packet_call, packets_to};
 ghost use Rattle.packets.specs.Answers.{lent, Done, called};
 
 use engine::Answer;
@@ -12,14 +12,14 @@ use registers::Place;
 
 // An answer's number in the high 32 bits, its count in the low 32.
 fn pack(a: Answer) -> u64
-    ensures { result ≡ packedAnswer a }
+    ensures { result ≡ packed_answer a }
 {
     (a.number() as u64) * 0x1_0000_0000 + (a.count() as u64)
 }
 
 // A word that draws nothing, stored at its place in the state where the tests let it.
 fn put_plain(s: &mut [u8], len: usize, at: usize, word: u32) -> u64
-    requires { (length s.old ≡ stateSize) × (at + 4 ≤ stateSize) }
+    requires { (length s.old ≡ state_size) × (at + 4 ≤ state_size) }
     ensures { opening s.new result ≡ plainly s.old len at word }
 {
     if 0x100_0000 < len {
@@ -37,7 +37,7 @@ fn put_plain(s: &mut [u8], len: usize, at: usize, word: u32) -> u64
 
 // A word for a register that starts nothing: its kept bits are stored, and of a surface's register what is kept of that surface.
 fn put_register(s: &mut [u8], len: usize, offset: u32, word: u32) -> u64
-    requires { (length s.old ≡ stateSize) × (offset + 4 ≤ stateSize) }
+    requires { (length s.old ≡ state_size) × (offset + 4 ≤ state_size) }
     ensures { opening s.new result ≡ registered s.old len offset word }
 {
     let kept = registers::kept_bits(offset, word);
@@ -51,8 +51,8 @@ fn put_register(s: &mut [u8], len: usize, offset: u32, word: u32) -> u64
 
 // A write to command, a launch write, or one to no register.
 fn run(s: &mut [u8], mem: &mut [u8], offset: u32, word: u32, changed: &mut u32) -> u64
-    requires { (isState s.old ≡ true) × (Bytes s.old × Draws offset) }
-    ensures { call s.new mem.new result changed.new ≡ writtenTo s.old mem.old offset word }
+    requires { (is_state s.old ≡ true) × (Bytes s.old × Draws offset) }
+    ensures { call s.new mem.new result changed.new ≡ written_to s.old mem.old offset word }
 {
     let e = state::decode(s);
     let out = e.write(mem, offset, word);
@@ -66,7 +66,7 @@ fn run(s: &mut [u8], mem: &mut [u8], offset: u32, word: u32, changed: &mut u32) 
 // The bytes of a state.
 #[unsafe(no_mangle)]
 pub extern "C" fn rimebarrow_state_size() -> usize
-    ensures { result ≡ stateSize }
+    ensures { result ≡ state_size }
 {
     396
 }
@@ -74,7 +74,7 @@ pub extern "C" fn rimebarrow_state_size() -> usize
 // A fresh engine for a memory of size bytes: 0, or 255 where the state has another length.
 #[unsafe(no_mangle)]
 pub extern "C" fn rimebarrow_open(state: &mut [u8], size: usize) -> u32
-    ensures { opening state.new result ≡ openedTo state.old size }
+    ensures { opening state.new result ≡ opened_to state.old size }
 {
     if state.len() != 396 {
         return 255;
@@ -96,7 +96,7 @@ pub extern "C" fn rimebarrow_write(
     word: u32,
     changed: &mut u32,
 ) -> u64
-    ensures { call state.new memory.new result changed.new ≡ writtenTo state.old memory.old offset word }
+    ensures { call state.new memory.new result changed.new ≡ written_to state.old memory.old offset word }
 {
     *changed = 0;
     if !state::is_state(state) {
@@ -127,7 +127,7 @@ pub extern "C" fn rimebarrow_run(
     count: &mut u64,
     changes: &mut u64,
 ) -> u32
-    ensures { runCall state.new memory.new result taken.new count.new changes.new ≡ ranTo state.old memory.old run.now }
+    ensures { run_call state.new memory.new result taken.new count.new changes.new ≡ ran_to state.old memory.old run.now }
 {
     *taken = 0;
     *count = 0;
@@ -161,7 +161,7 @@ fn tell(
     answered: usize,
     event: Event,
 ) -> usize
-    ensures { Done byCall event (kept state.old memory.old) (lent answers.old answered) (kept state.new memory.new) (lent answers.new result) }
+    ensures { Done by_call event (kept state.old memory.old) (lent answers.old answered) (kept state.new memory.new) (lent answers.new result) }
 {
     match event {
         Event::Nothing => answered,
@@ -188,7 +188,7 @@ fn feed(
     piece: &[u8],
     answers: &mut [u32],
 ) -> Fed
-    ensures { pieceCall result.reader state.new memory.new answers.new result.used result.answered ≡ called byCall reader (kept state.old memory.old) piece.now answers.old }
+    ensures { piece_call result.reader state.new memory.new answers.new result.used result.answered ≡ called by_call reader (kept state.old memory.old) piece.now answers.old }
 {
     let mut r = reader;
     let mut used = 0;
@@ -219,7 +219,7 @@ fn feed(
 // An empty reader: 0, or 255 where its bytes have another number.
 #[unsafe(no_mangle)]
 pub extern "C" fn rimebarrow_reader(reader: &mut [u8]) -> u32
-    ensures { opening reader.new result ≡ openedReader reader.old }
+    ensures { opening reader.new result ≡ opened_reader reader.old }
 {
     if reader.len() != 32 {
         return 255;
@@ -240,7 +240,7 @@ pub extern "C" fn rimebarrow_packets(
     used: &mut usize,
     answered: &mut usize,
 ) -> u32
-    ensures { packetCall reader.new state.new memory.new answers.new result used.new answered.new ≡ packetsTo reader.old state.old memory.old piece.now answers.old }
+    ensures { packet_call reader.new state.new memory.new answers.new result used.new answered.new ≡ packets_to reader.old state.old memory.old piece.now answers.old }
 {
     *used = 0;
     *answered = 0;

@@ -1,6 +1,6 @@
 // What the registers say of a command's surfaces, its ink and its work.
 ghost use Rattle.std.specs.Prelude.{◌≡◌, ◌-◌, ◌<◌};
-ghost use Rattle.command.specs.Decode.{target, origins, stretchOrigins, inkOf, plainBlit, plain_of, fillTask, copyTask, stretchOf, line_of, penOf, feedOf};
+ghost use Rattle.command.specs.Decode.{target, origins, stretch_origins, ink_of, plain_blit, plain_of, fill_task, copy_task, stretch_of, line_of, pen_of, feed_of};
 
 use bits::Plain;
 use host::Feed;
@@ -14,54 +14,54 @@ use sweep::Task;
 pub fn target_surface(r: Regs) -> Surface
     ensures { result ≡ target r }
 {
-    formats::target_of(r.dstBaseAddr, r.dstFormat)
+    formats::target_of(r.dst_base_addr, r.dst_format)
 }
 
 pub fn source_surface(r: Regs) -> Surface
     ensures { result ≡ origins r }
 {
-    formats::source_of(r.srcBaseAddr, r.srcFormat, r.dstSize % 0x2000)
+    formats::source_of(r.src_base_addr, r.src_format, r.dst_size % 0x2000)
 }
 
 fn stretch_surface(r: Regs) -> Surface
-    ensures { result ≡ stretchOrigins r }
+    ensures { result ≡ stretch_origins r }
 {
-    formats::source_of(r.srcBaseAddr, r.srcFormat, r.srcSize % 0x2000)
+    formats::source_of(r.src_base_addr, r.src_format, r.src_size % 0x2000)
 }
 
 pub fn decode_ink(r: Regs) -> Ink
-    ensures { result ≡ inkOf r }
+    ensures { result ≡ ink_of r }
 {
     let target = target_surface(r);
     let c = r.command;
-    let e = r.commandExtra;
+    let e = r.command_extra;
     Ink {
         target: target,
-        fore: r.colorFore,
-        back: r.colorBack,
+        fore: r.color_fore,
+        back: r.color_back,
         rop0: c / 0x100_0000 % 0x100,
         rop1: r.rop % 0x100,
         rop2: r.rop / 0x100 % 0x100,
         rop3: r.rop / 0x1_0000 % 0x100,
-        srcKey: e / 1 % 2 == 1,
-        srcMin: r.srcColorkeyMin,
-        srcMax: r.srcColorkeyMax,
-        dstKey: e / 2 % 2 == 1,
-        dstMin: r.dstColorkeyMin,
-        dstMax: r.dstColorkeyMax,
+        src_key: e / 1 % 2 == 1,
+        src_min: r.src_colorkey_min,
+        src_max: r.src_colorkey_max,
+        dst_key: e / 2 % 2 == 1,
+        dst_min: r.dst_colorkey_min,
+        dst_max: r.dst_colorkey_max,
         mono: c / 0x2000 % 2 == 1,
         forced: e / 8 % 2 == 1,
-        patX: c / 0x2_0000 % 8,
-        patY: c / 0x10_0000 % 8,
+        pat_x: c / 0x2_0000 % 8,
+        pat_y: c / 0x10_0000 % 8,
         clear: c / 0x1_0000 % 2 == 1,
     }
 }
 
 // Whether a host blit is plain: its pixels get their sources, by raster operation CC and no keys.
 pub fn is_plain(r: Regs) -> bool
-    ensures { result ≡ plainBlit r }
+    ensures { result ≡ plain_blit r }
 {
-    let e = r.commandExtra;
+    let e = r.command_extra;
     (r.command / 0x100_0000 % 0x100 == 0xcc) & (!(e / 1 % 2 == 1) & !(e / 2 % 2 == 1))
 }
 
@@ -71,14 +71,14 @@ pub fn decode_plain(r: Regs) -> Plain
     let target = target_surface(r);
     Plain {
         target: target,
-        fore: r.colorFore,
-        back: r.colorBack,
+        fore: r.color_fore,
+        back: r.color_back,
         clear: r.command / 0x1_0000 % 2 == 1,
     }
 }
 
 pub fn fill_task(r: Regs) -> Task
-    ensures { result ≡ fillTask r }
+    ensures { result ≡ fill_task r }
 {
     let ink = decode_ink(r);
     let c = cuts::fill_cut(r);
@@ -107,7 +107,7 @@ fn from_origin(at: u32) -> u32
 }
 
 pub fn copy_task(r: Regs) -> Task
-    ensures { result ≡ copyTask r }
+    ensures { result ≡ copy_task r }
 {
     let ink = decode_ink(r);
     let c = cuts::copy_cut(r);
@@ -124,21 +124,21 @@ pub fn copy_task(r: Regs) -> Task
 }
 
 pub fn decode_stretch(r: Regs) -> Stretch
-    ensures { result ≡ stretchOf r }
+    ensures { result ≡ stretch_of r }
 {
     let ink = decode_ink(r);
     let from = stretch_surface(r);
     let columns = Scale {
-        to: positions::place13(r.dstXY),
-        size: r.dstSize % 0x2000,
-        from: positions::place13(r.srcXY),
-        sourceSize: r.srcSize % 0x2000,
+        to: positions::place13(r.dst_xy),
+        size: r.dst_size % 0x2000,
+        from: positions::place13(r.src_xy),
+        source_size: r.src_size % 0x2000,
     };
     let rows = Scale {
-        to: positions::place13(r.dstXY / 0x1_0000),
-        size: r.dstSize / 0x1_0000 % 0x2000,
-        from: positions::place13(r.srcXY / 0x1_0000),
-        sourceSize: r.srcSize / 0x1_0000 % 0x2000,
+        to: positions::place13(r.dst_xy / 0x1_0000),
+        size: r.dst_size / 0x1_0000 % 0x2000,
+        from: positions::place13(r.src_xy / 0x1_0000),
+        source_size: r.src_size / 0x1_0000 % 0x2000,
     };
     Stretch {
         ink: ink,
@@ -152,33 +152,33 @@ pub fn decode_line(r: Regs) -> Line
     ensures { result ≡ line_of r }
 {
     Line {
-        x0: positions::place13(r.srcXY),
-        y0: positions::place13(r.srcXY / 0x1_0000),
-        x1: positions::place13(r.dstXY),
-        y1: positions::place13(r.dstXY / 0x1_0000),
+        x0: positions::place13(r.src_xy),
+        y0: positions::place13(r.src_xy / 0x1_0000),
+        x1: positions::place13(r.dst_xy),
+        y1: positions::place13(r.dst_xy / 0x1_0000),
         poly: r.command % 16 == 7,
     }
 }
 
 pub fn decode_pen(r: Regs) -> Pen
-    ensures { result ≡ penOf r }
+    ensures { result ≡ pen_of r }
 {
     Pen {
-        stipple: r.lineStipple,
+        stipple: r.line_stipple,
         stippled: r.command / 0x1000 % 2 == 1,
     }
 }
 
 pub fn decode_feed(r: Regs) -> Feed
-    ensures { result ≡ feedOf r }
+    ensures { result ≡ feed_of r }
 {
     let s = source_surface(r);
     Feed {
         step: s.stride,
-        width: r.dstSize % 0x2000,
-        height: r.dstSize / 0x1_0000 % 0x2000,
+        width: r.dst_size % 0x2000,
+        height: r.dst_size / 0x1_0000 % 0x2000,
         bytes: s.bytes,
-        x: positions::place13(r.dstXY),
-        y: positions::place13(r.dstXY / 0x1_0000),
+        x: positions::place13(r.dst_xy),
+        y: positions::place13(r.dst_xy / 0x1_0000),
     }
 }

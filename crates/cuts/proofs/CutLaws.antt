@@ -14,15 +14,15 @@ use Rattle.paint.specs.Asked.{Bits12}
 use Rattle.registers.specs.declared.Regs.{Regs}
 use Rattle.cuts.specs.declared.Cut.{Cut}
 use Rattle.positions.specs.Position.{placed}
-use Rattle.cuts.specs.Cut.{bit, width, height, clipBy, clipOf, first_of, cutLow, cut_at, copyCut, needed}
+use Rattle.cuts.specs.Cut.{bit, width, height, clip_by, clip_of, first_of, cut_low, cut_at, copy_cut, needed}
 use Rattle.cuts.specs.Asked.{CutRange}
 
 -- ---- the clip
-pub clip-bits : (r : Regs) → Bits12 (clipOf r)
-unfolding clipOf
+pub clip-bits : (r : Regs) → Bits12 (clip_of r)
+unfolding clip_of
 clip-bits r = by-test (bit r.command 23)
   where
-    by-test : (t : Bool) → Bits12 (cond t (clipBy r.clip1Min r.clip1Max) (clipBy r.clip0Min r.clip0Max))
+    by-test : (t : Bool) → Bits12 (cond t (clip_by r.clip1_min r.clip1_max) (clip_by r.clip0_min r.clip0_max))
     by-test true = omega arith
     by-test false = omega arith
 
@@ -30,34 +30,34 @@ clip-bits r = by-test (bit r.command 23)
 pub record Bounded (c : Cut) : Type 0 where
   pub wide : c.x + c.w ≤ 2 ^ 13
   pub high : c.y + c.h ≤ 2 ^ 13
-  pub sourceWide : c.sx - origin + c.w ≤ 2 ^ 15
-  pub sourceHigh : c.sy - origin + c.h ≤ 2 ^ 15
+  pub source_wide : c.sx - origin + c.w ≤ 2 ^ 15
+  pub source_high : c.sy - origin + c.h ≤ 2 ^ 15
 
 pub cut-bounded : {c : Clip} {x y w h sx sy : ℕ} → CutRange c x y w h sx sy → Bounded (cut_at c x y w h sx sy)
 unfolding cut_at
 cut-bounded {c} {x} {y} {w} {h} {sx} {sy} range = record {
   wide = omega (arith, range, range.clip);
   high = omega (arith, range, range.clip);
-  sourceWide = omega (arith, range, range.clip);
-  sourceHigh = omega (arith, range, range.clip);
+  source_wide = omega (arith, range, range.clip);
+  source_high = omega (arith, range, range.clip);
 }
 
 -- ---- a copy's source is as far from what the clip leaves as srcXY is from dstXY
 
 -- on one axis: n places that begin or end at `at`, and their source
 axis-shift : (last : Bool) (least at from n : ℕ) → n ≤ at → n ≤ from
-    → first_of last from n + (cutLow least (first_of last at n) - first_of last at n) + at ≡ origin + (cutLow least (first_of last at n) - origin) + from
+    → first_of last from n + (cut_low least (first_of last at n) - first_of last at n) + at ≡ origin + (cut_low least (first_of last at n) - origin) + from
 axis-shift false least at from n h l = omega arith
 axis-shift true least at from n h l = omega arith
 
 module _ (r : Regs) where
-  pub copy-columns : (copyCut r).sx + placed r.dstXY ≡ origin + (copyCut r).x + placed r.srcXY
-  unfolding copyCut cut_at
-  copy-columns = axis-shift (bit r.command 14) (clipOf r).left (placed r.dstXY) (placed r.srcXY) (width r) (omega arith) (omega arith)
+  pub copy-columns : (copy_cut r).sx + placed r.dst_xy ≡ origin + (copy_cut r).x + placed r.src_xy
+  unfolding copy_cut cut_at
+  copy-columns = axis-shift (bit r.command 14) (clip_of r).left (placed r.dst_xy) (placed r.src_xy) (width r) (omega arith) (omega arith)
 
-  pub copy-rows : (copyCut r).sy + placed (r.dstXY / 2 ^ 16) ≡ origin + (copyCut r).y + placed (r.srcXY / 2 ^ 16)
-  unfolding copyCut cut_at
-  copy-rows = axis-shift (bit r.command 15) (clipOf r).top (placed (r.dstXY / 2 ^ 16)) (placed (r.srcXY / 2 ^ 16)) (height r) (omega arith) (omega arith)
+  pub copy-rows : (copy_cut r).sy + placed (r.dst_xy / 2 ^ 16) ≡ origin + (copy_cut r).y + placed (r.src_xy / 2 ^ 16)
+  unfolding copy_cut cut_at
+  copy-rows = axis-shift (bit r.command 15) (clip_of r).top (placed (r.dst_xy / 2 ^ 16)) (placed (r.src_xy / 2 ^ 16)) (height r) (omega arith) (omega arith)
 
 -- ---- the source pixels are a rectangle too
 module _ (f : Px → Px) (a b x y : ℕ) where

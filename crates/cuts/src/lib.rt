@@ -1,6 +1,6 @@
 // The clip, and what it leaves of a rectangle.
 ghost use Rattle.std.specs.Prelude.{◌≡◌, ◌-◌, ◌^◌, ◌<◌, ◌≤◌};
-ghost use Rattle.cuts.specs.Cut.{bit, clipBy, clipOf, first_of, cutLow, cutSize, cut_at, fillCut, copyCut};
+ghost use Rattle.cuts.specs.Cut.{bit, clip_by, clip_of, first_of, cut_low, cut_size, cut_at, fill_cut, copy_cut};
 ghost use Rattle.cuts.specs.Asked.{Axis, CutRange};
 
 use paint::Clip;
@@ -18,7 +18,7 @@ pub struct Cut {
 }
 
 fn clip_by(least: u32, most: u32) -> Clip
-    ensures { result ≡ clipBy least most }
+    ensures { result ≡ clip_by least most }
 {
     Clip {
         left: least % 0x1000,
@@ -29,12 +29,12 @@ fn clip_by(least: u32, most: u32) -> Clip
 }
 
 pub fn decode_clip(r: Regs) -> Clip
-    ensures { result ≡ clipOf r }
+    ensures { result ≡ clip_of r }
 {
     if r.command / 0x80_0000 % 2 == 1 {
-        return clip_by(r.clip1Min, r.clip1Max);
+        return clip_by(r.clip1_min, r.clip1_max);
     }
-    clip_by(r.clip0Min, r.clip0Max)
+    clip_by(r.clip0_min, r.clip0_max)
 }
 
 // The first of n places that end at `at`, or begin there.
@@ -53,7 +53,7 @@ fn first_of(last: bool, at: u32, n: u32) -> u32
 
 fn cut_low(least: u32, at: u32) -> u32
     requires { Axis least at }
-    ensures { result ≡ cutLow least at }
+    ensures { result ≡ cut_low least at }
 {
     if at < 16384 + least {
         16384 + least
@@ -64,7 +64,7 @@ fn cut_low(least: u32, at: u32) -> u32
 
 fn cut_size(least: u32, most: u32, at: u32, n: u32) -> u32
     requires { Axis least at × ((most < 2 ^ 12) × (n < 2 ^ 13)) }
-    ensures { result ≡ cutSize least most at n }
+    ensures { result ≡ cut_size least most at n }
 {
     let low = cut_low(least, at);
     let mut high = at + n;
@@ -92,17 +92,17 @@ fn cut_at(c: Clip, x: u32, y: u32, w: u32, h: u32, sx: u32, sy: u32) -> Cut
 }
 
 pub fn fill_cut(r: Regs) -> Cut
-    ensures { result ≡ fillCut r }
+    ensures { result ≡ fill_cut r }
 {
     let clip = decode_clip(r);
-    let x = positions::place13(r.dstXY);
-    let y = positions::place13(r.dstXY / 0x1_0000);
+    let x = positions::place13(r.dst_xy);
+    let y = positions::place13(r.dst_xy / 0x1_0000);
     cut_at(
         clip,
         x,
         y,
-        r.dstSize % 0x2000,
-        r.dstSize / 0x1_0000 % 0x2000,
+        r.dst_size % 0x2000,
+        r.dst_size / 0x1_0000 % 0x2000,
         16384,
         16384,
     )
@@ -123,16 +123,16 @@ pub fn from_bottom(r: Regs) -> bool
 }
 
 pub fn copy_cut(r: Regs) -> Cut
-    ensures { result ≡ copyCut r }
+    ensures { result ≡ copy_cut r }
 {
     let clip = decode_clip(r);
-    let w = r.dstSize % 0x2000;
-    let h = r.dstSize / 0x1_0000 % 0x2000;
+    let w = r.dst_size % 0x2000;
+    let h = r.dst_size / 0x1_0000 % 0x2000;
     let right = from_right(r);
     let bottom = from_bottom(r);
-    let x = first_of(right, positions::place13(r.dstXY), w);
-    let y = first_of(bottom, positions::place13(r.dstXY / 0x1_0000), h);
-    let sx = first_of(right, positions::place13(r.srcXY), w);
-    let sy = first_of(bottom, positions::place13(r.srcXY / 0x1_0000), h);
+    let x = first_of(right, positions::place13(r.dst_xy), w);
+    let y = first_of(bottom, positions::place13(r.dst_xy / 0x1_0000), h);
+    let sx = first_of(right, positions::place13(r.src_xy), w);
+    let sy = first_of(bottom, positions::place13(r.src_xy / 0x1_0000), h);
     cut_at(clip, x, y, w, h, sx, sy)
 }

@@ -2,13 +2,13 @@
 -- Assumes nothing.
 use Rattle.std.specs.Prelude.{◌≡◌, true, [], ◌∷◌, ℕ, ◌^◌, ◌<◌, ◌≤◌}
 use Rattle.surface.specs.Asked.{Colour}
-use Rattle.spans.specs.Span.{allOn}
+use Rattle.spans.specs.Span.{all_on}
 use Rattle.ink.specs.declared.Ink.{Ink}
 use Rattle.paint.specs.declared.Clip.{Clip}
 use Rattle.paint.specs.Asked.{Bits12}
 use Rattle.line.specs.declared.Point.{Point}
 use Rattle.line.specs.declared.Line.{Line}
-use Rattle.line.specs.Draw.{coveredPoints}
+use Rattle.line.specs.Draw.{covered_points}
 use Rattle.line.specs.Asked.{Within, Drawable}
 
 -- a line that can be drawn, in a memory of which every page has a mark
@@ -23,7 +23,7 @@ pub record DottablePoint (ink : Ink) (c : Clip) (p : Point) : Type 0 where
   pub limit : len ≤ 2 ^ 24
   pub surface : Colour ink.target
   pub clip : Bits12 c
-  pub on : allOn ink.target len (coveredPoints c (p ∷ [])) ≡ true
+  pub on : all_on ink.target len (covered_points c (p ∷ [])) ≡ true
 
 -- on one axis: a clip's first place, and the ends of a line
 pub record Ends (least a b : ℕ) : Type 0 where

@@ -5,7 +5,7 @@ ghost use Rattle.paint.specs.Asked.{Bits12};
 ghost use Rattle.line.specs.Line.{points};
 ghost use Rattle.line.specs.Stipple.{after};
 ghost use Rattle.line.specs.Asked.{Placed};
-ghost use Rattle.dots.specs.Dots.{dotted, boxLow, boxSize, lineBox};
+ghost use Rattle.dots.specs.Dots.{dotted, box_low, box_size, line_box};
 ghost use Rattle.dots.specs.Asked.{Dottable, DottablePoint, Ends};
 
 use cuts::Cut;
@@ -58,7 +58,7 @@ fn most(a: u32, b: u32) -> u32
 // The first column of a line from a to b inside a clip from `least` on; or the first row.
 fn box_low(least: u32, a: u32, b: u32) -> u32
     requires { Ends least a b }
-    ensures { result ≡ boxLow least a b }
+    ensures { result ≡ box_low least a b }
 {
     most(surface::least(a, b), 16384 + least)
 }
@@ -66,7 +66,7 @@ fn box_low(least: u32, a: u32, b: u32) -> u32
 // How many columns there are, where the clip ends at `end`; or rows.
 fn box_size(least: u32, end: u32, a: u32, b: u32) -> u32
     requires { Ends least a b × (end < 2 ^ 12) }
-    ensures { result ≡ boxSize least end a b }
+    ensures { result ≡ box_size least end a b }
 {
     let low = box_low(least, a, b);
     let high = surface::least(most(a, b) + 1, 16384 + end);
@@ -76,7 +76,7 @@ fn box_size(least: u32, end: u32, a: u32, b: u32) -> u32
 // A rectangle that holds the line's points inside the clip.
 pub fn line_box(l: Line, c: Clip) -> Cut
     requires { Placed l × Bits12 c }
-    ensures { result ≡ lineBox l c }
+    ensures { result ≡ line_box l c }
 {
     Cut {
         x: box_low(c.left, l.x0, l.x1) - 16384,

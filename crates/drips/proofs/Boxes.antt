@@ -11,12 +11,12 @@ use Rattle.ink.specs.declared.Ink.{Ink}
 use Rattle.paint.specs.declared.Clip.{Clip}
 use Rattle.paint.proofs.ClipLaws.{in-clip}
 use Rattle.host.specs.declared.Feed.{Feed}
-use Rattle.host.specs.Host.{byRun}
+use Rattle.host.specs.Host.{by_run}
 use Rattle.host.specs.Asked.{Rows}
 use Rattle.host.proofs.Touched.{Touched}
 use Rattle.cuts.specs.declared.Cut.{Cut}
 use Rattle.cuts.specs.Cut.{cut_at}
-use Rattle.drips.specs.Drips.{dripped, firstRow, pastRow, dataBox}
+use Rattle.drips.specs.Drips.{dripped, first_row, past_row, data_box}
 use Rattle.drips.proofs.Drops.{in-dripped}
 use Rattle.drips.proofs.Reach.{run-reached, row_first, row-past}
 use Rattle.drips.proofs.Falls.{dripped-touched}
@@ -46,12 +46,12 @@ pub record RowsOf (cut box : Cut) : Type 0 where
   pub top : cut.y ≤ box.y
   pub bottom : box.y + box.h ≤ cut.y + cut.h
 
-pub box-rows : (feed : Feed) (cut : Cut) (taken n : ℕ) → RowsOf cut (dataBox feed cut taken n)
-unfolding dataBox
+pub box-rows : (feed : Feed) (cut : Cut) (taken n : ℕ) → RowsOf cut (data_box feed cut taken n)
+unfolding data_box
 box-rows feed cut taken n = record { x = refl; w = refl; top = omega arith; bottom = omega arith }
 
-pub box-inside : (feed : Feed) (cut : Cut) (taken n : ℕ) (p : Px) → InCut (dataBox feed cut taken n) p → InCut cut p
-unfolding dataBox
+pub box-inside : (feed : Feed) (cut : Cut) (taken n : ℕ) (p : Px) → InCut (data_box feed cut taken n) p → InCut cut p
+unfolding data_box
 box-inside feed cut taken n p i = record {
   left = i.left;
   right = i.right;
@@ -68,15 +68,15 @@ row-in-box top h first past y a b l u =
     (under, omega arith)
 
 pub box-holds : (ink : Ink) (c : Clip) (feed : Feed) → Rows feed → (cut : Cut) → ((p : Px) → Touched c feed p → InCut cut p) → (ws : List ℕ) (last taken : ℕ) (p : Px)
-    → In p (dripped ink c feed (byRun feed last ws taken)) → InCut (dataBox feed cut taken (length ws)) p
-unfolding dataBox
+    → In p (dripped ink c feed (by_run feed last ws taken)) → InCut (data_box feed cut taken (length ws)) p
+unfolding data_box
 box-holds ink c feed ok cut held ws last taken p m =
-    let r = in-dripped ink c feed (byRun feed last ws taken) p m in
+    let r = in-dripped ink c feed (by_run feed last ws taken) p m in
     let s = run-reached feed ok ws last taken r.of r.one in
     let i = held p (dripped-touched ink c feed ok ws last taken p m) in
     let v = in-clip c (feed.x + r.of.i) (feed.y + r.of.j) r.inside in
     let y : p.y ≡ feed.y + r.of.j - origin = ap (λ (q : Px). q.y) r.place in
     let a = row_first feed ok taken (length ws) r.of.i r.of.j s in
     let b = row-past feed ok taken (length ws) r.of.i r.of.j s in
-    let row = row-in-box cut.y cut.h (feed.y + firstRow feed taken - origin) (feed.y + pastRow feed taken (length ws) - origin) p.y i.top i.bottom (omega arith) (omega (arith, v.top)) in
+    let row = row-in-box cut.y cut.h (feed.y + first_row feed taken - origin) (feed.y + past_row feed taken (length ws) - origin) p.y i.top i.bottom (omega arith) (omega (arith, v.top)) in
     record { left = i.left; right = i.right; top = row.0; bottom = row.1 }

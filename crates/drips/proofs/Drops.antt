@@ -14,10 +14,10 @@ use Rattle.ink.specs.declared.Ink.{Ink}
 use Rattle.paint.specs.declared.Clip.{Clip}
 use Rattle.paint.specs.Paint.{dab, wrote}
 use Rattle.paint.specs.Mix.{placed, mixed}
-use Rattle.paint.specs.Clip.{inClip, pixelAt}
+use Rattle.paint.specs.Clip.{in_clip, pixel_at}
 use Rattle.host.specs.declared.Feed.{Feed}
 use Rattle.host.specs.Host.{Pixel}
-use Rattle.host.specs.Draw.{hostSource, hostTouches}
+use Rattle.host.specs.Draw.{host_source, host_touches}
 use Rattle.host.proofs.Finished.{Has}
 use Rattle.drips.specs.Drips.{falls, dripped}
 
@@ -25,9 +25,9 @@ use Rattle.drips.specs.Drips.{falls, dripped}
 pub record From (ink : Ink) (c : Clip) (feed : Feed) (ps : List Pixel) (p : Px) : Type 0 where
   pub of : Pixel
   pub one : Has of ps
-  pub inside : inClip c (feed.x + of.i) (feed.y + of.j) ≡ true
-  pub kept : (hostSource ink feed of.value).left ≡ false
-  pub place : p ≡ pixelAt (feed.x + of.i) (feed.y + of.j)
+  pub inside : in_clip c (feed.x + of.i) (feed.y + of.j) ≡ true
+  pub kept : (host_source ink feed of.value).left ≡ false
+  pub place : p ≡ pixel_at (feed.x + of.i) (feed.y + of.j)
 
 kept_of : (b : Bool) → not b ≡ true → b ≡ false
 kept_of true e = sym e
@@ -35,7 +35,7 @@ kept_of false e = refl
 
 module _ (ink : Ink) (c : Clip) (feed : Feed) where
   abbrev at : Pixel → Px
-  at p = pixelAt (feed.x + p.i) (feed.y + p.j)
+  at p = pixel_at (feed.x + p.i) (feed.y + p.j)
 
   -- ---- one list after the other
   in-front : (b : Bool) (p : Px) (ps qs rs : List Px) → rs ≡ ps ++ qs → cond b (p ∷ rs) rs ≡ cond b (p ∷ ps) ps ++ qs
@@ -63,8 +63,8 @@ module _ (ink : Ink) (c : Clip) (feed : Feed) where
           (λ place. record {
             of = q;
             one = Memᴰ.head refl;
-            inside = and_left (inClip c (feed.x + q.i) (feed.y + q.j)) (not (hostSource ink feed q.value).left) e;
-            kept = kept_of _ (and_right (inClip c (feed.x + q.i) (feed.y + q.j)) (not (hostSource ink feed q.value).left) e);
+            inside = and_left (in_clip c (feed.x + q.i) (feed.y + q.j)) (not (host_source ink feed q.value).left) e;
+            kept = kept_of _ (and_right (in_clip c (feed.x + q.i) (feed.y + q.j)) (not (host_source ink feed q.value).left) e);
             place = place;
           })
           later (Memᴰ.cases_cons n)
@@ -89,15 +89,15 @@ module _ (ink : Ink) (c : Clip) (feed : Feed) where
 
 -- ---- the painters write exactly these
 pub dripped-wrote : (s : Surface) (ink : Ink) (pattern : List ℕ) (c : Clip) (feed : Feed) (ps : List Pixel) (m : List ℕ)
-    → wrote s (hostTouches ink pattern c feed ps) m ≡ dripped ink c feed ps
-unfolding dripped wrote hostTouches mixed dab
+    → wrote s (host_touches ink pattern c feed ps) m ≡ dripped ink c feed ps
+unfolding dripped wrote host_touches mixed dab
 dripped-wrote s ink pattern c feed [] m = refl
 dripped-wrote s ink pattern c feed (p ∷ ps) m =
-    by-test (inClip c (feed.x + p.i) (feed.y + p.j)) (hostSource ink feed p.value).left refl refl (dripped-wrote s ink pattern c feed ps)
+    by-test (in_clip c (feed.x + p.i) (feed.y + p.j)) (host_source ink feed p.value).left refl refl (dripped-wrote s ink pattern c feed ps)
   where
-    by-test : (b l : Bool) → inClip c (feed.x + p.i) (feed.y + p.j) ≡ b → (hostSource ink feed p.value).left ≡ l
-        → ((m' : List ℕ) → wrote s (hostTouches ink pattern c feed ps) m' ≡ dripped ink c feed ps)
-        → wrote s (cond (inClip c (feed.x + p.i) (feed.y + p.j)) (placed ink pattern (at ink c feed p) (hostSource ink feed p.value) ∷ hostTouches ink pattern c feed ps) (hostTouches ink pattern c feed ps)) m
+    by-test : (b l : Bool) → in_clip c (feed.x + p.i) (feed.y + p.j) ≡ b → (host_source ink feed p.value).left ≡ l
+        → ((m' : List ℕ) → wrote s (host_touches ink pattern c feed ps) m' ≡ dripped ink c feed ps)
+        → wrote s (cond (in_clip c (feed.x + p.i) (feed.y + p.j)) (placed ink pattern (at ink c feed p) (host_source ink feed p.value) ∷ host_touches ink pattern c feed ps) (host_touches ink pattern c feed ps)) m
         ≡ cond (falls ink c feed p) (at ink c feed p ∷ dripped ink c feed ps) (dripped ink c feed ps)
     by-test true true e f rest = rw (e, f) (rest m)
     by-test true false e f rest = rw (e, f) (ap (λ (l : List Px). at ink c feed p ∷ l) (rest _))

@@ -1,11 +1,11 @@
 // Which pages of memory the written pixels of a host blit's words lie in, and which rows the words can reach.
 ghost use Rattle.std.specs.Prelude.{◌≡◌, [], ◌∷◌, ◌+◌, ◌-◌, ◌*◌, ◌^◌, ◌<◌, ◌≤◌, min, max, length};
-ghost use Rattle.host.specs.Host.{pixel, by_byte, by_word, byRun};
-ghost use Rattle.host.specs.Draw.{hostSource};
+ghost use Rattle.host.specs.Host.{pixel, by_byte, by_word, by_run};
+ghost use Rattle.host.specs.Draw.{host_source};
 ghost use Rattle.host.specs.Asked.{Sizes};
 ghost use Rattle.pages.specs.Pages.{marking};
-ghost use Rattle.drips.specs.Drips.{dripped, firstRow, pastRow, dataBox};
-ghost use Rattle.drips.specs.Rows.{wholeBy, left_of, rightOf, rowDrips, rowsDrips};
+ghost use Rattle.drips.specs.Drips.{dripped, first_row, past_row, data_box};
+ghost use Rattle.drips.specs.Rows.{whole_by, left_of, right_of, row_drips, rows_drips};
 ghost use Rattle.drips.specs.Asked.{Dripping, RowOf, Drippable, Boxable};
 
 use cuts::Cut;
@@ -15,7 +15,7 @@ use paint::Clip;
 
 // Whether a pixel of value v is left unwritten: a mono bit of 0 where the command is transparent.
 fn is_left(ink: Ink, feed: Feed, v: u32) -> bool
-    ensures { result ≡ (hostSource ink feed v).left }
+    ensures { result ≡ (host_source ink feed v).left }
 {
     if feed.bytes == 0 {
         return ink.clear & (v == 0);
@@ -90,7 +90,7 @@ fn mark_each(
     words: &[u32],
 )
     requires { Drippable ink c feed taken (length words.now) }
-    ensures { marks.new ≡ marking ink.target (dripped ink c feed (byRun feed last words.now taken)) marks.old }
+    ensures { marks.new ≡ marking ink.target (dripped ink c feed (by_run feed last words.now taken)) marks.old }
 {
     let mut before = last;
     let mut i = 0;
@@ -105,7 +105,7 @@ fn mark_each(
 // The rows of the data that n words from number `taken` on can reach: the first.
 fn first_row(feed: Feed, taken: u32) -> u32
     requires { (0 < feed.step) × (taken < 2 ^ 29) }
-    ensures { result ≡ firstRow feed taken }
+    ensures { result ≡ first_row feed taken }
 {
     let step = feed.step;
     4 * taken / step
@@ -114,7 +114,7 @@ fn first_row(feed: Feed, taken: u32) -> u32
 // And the one after the last.
 fn past_row(feed: Feed, taken: u32, n: u32) -> u32
     requires { (0 < feed.step) × ((feed.step < 2 ^ 17) × (taken + n < 2 ^ 29)) }
-    ensures { result ≡ pastRow feed taken n }
+    ensures { result ≡ past_row feed taken n }
 {
     let step = feed.step;
     (4 * (taken + n) + (step - 1)) / step
@@ -137,7 +137,7 @@ fn less(a: u32, b: u32) -> u32
 // How many pixels of row j are whole with the data's first n bytes.
 fn whole_by(feed: Feed, j: u32, n: u32) -> u32
     requires { Sizes feed × (j < feed.height) }
-    ensures { (result ≡ wholeBy feed j n) × (result ≤ feed.width) }
+    ensures { (result ≡ whole_by feed j n) × (result ≤ feed.width) }
 {
     let step = feed.step;
     host::whole_pixels(feed, surface::least(less(n, j * step), step))
@@ -154,7 +154,7 @@ fn left_of(c: Clip, feed: Feed, from: u32, j: u32) -> u32
 // And where those end that the first `past` bytes finish.
 fn right_of(c: Clip, feed: Feed, past: u32, j: u32) -> u32
     requires { RowOf c feed j }
-    ensures { result ≡ rightOf c feed past j }
+    ensures { result ≡ right_of c feed past j }
 {
     surface::least(feed.x + whole_by(feed, j, past), 16384 + c.right)
 }
@@ -162,7 +162,7 @@ fn right_of(c: Clip, feed: Feed, past: u32, j: u32) -> u32
 // The pages of the pixels of row j that the bytes from number `from` up to, and without, `past` finish.
 fn mark_row(marks: &mut [bool; 4096], ink: Ink, c: Clip, feed: Feed, from: u32, past: u32, j: u32)
     requires { Dripping ink c feed × (j < feed.height) }
-    ensures { marks.new ≡ marking ink.target (rowDrips c feed from past j) marks.old }
+    ensures { marks.new ≡ marking ink.target (row_drips c feed from past j) marks.old }
 {
     let y = feed.y + j;
     if y < 16384 + c.top {
@@ -181,7 +181,7 @@ fn mark_row(marks: &mut [bool; 4096], ink: Ink, c: Clip, feed: Feed, from: u32, 
 // Those that n words finish, row by row.
 fn mark_rows(marks: &mut [bool; 4096], ink: Ink, c: Clip, feed: Feed, taken: u32, n: u32)
     requires { Drippable ink c feed taken n }
-    ensures { marks.new ≡ marking ink.target (rowsDrips c feed (4 * taken) (4 * (taken + n)) (firstRow feed taken) (min feed.height (pastRow feed taken n) - firstRow feed taken)) marks.old }
+    ensures { marks.new ≡ marking ink.target (rows_drips c feed (4 * taken) (4 * (taken + n)) (first_row feed taken) (min feed.height (past_row feed taken n) - first_row feed taken)) marks.old }
 {
     let from = 4 * taken;
     let past = 4 * (taken + n);
@@ -205,7 +205,7 @@ pub fn mark_data(
     words: &[u32],
 )
     requires { Drippable ink c feed taken (length words.now) }
-    ensures { marks.new ≡ marking ink.target (dripped ink c feed (byRun feed last words.now taken)) marks.old }
+    ensures { marks.new ≡ marking ink.target (dripped ink c feed (by_run feed last words.now taken)) marks.old }
 {
     if feed.bytes == 0 {
         if ink.clear {
@@ -219,7 +219,7 @@ pub fn mark_data(
 // Of a cut, the rows that n words from number `taken` on can reach.
 pub fn data_box(feed: Feed, cut: Cut, taken: u32, n: u32) -> Cut
     requires { Boxable feed cut taken n }
-    ensures { result ≡ dataBox feed cut taken n }
+    ensures { result ≡ data_box feed cut taken n }
 {
     let bottom = cut.y + cut.h;
     let first = less(feed.y + first_row(feed, taken), 16384);

@@ -6,9 +6,9 @@ use Prim.Native.Nat.{ℕ}
 use Rattle.registers.specs.declared.Place.{Place}
 use Rattle.registers.specs.declared.Place.TheVariants.{Register, Pattern, Launch, Nowhere}
 use Rattle.registers.specs.Offsets.{place_of}
-use Rattle.bank.specs.Bank.{read_place, readNumber, readValue}
+use Rattle.bank.specs.Bank.{read_place, read_number, read_value}
 use Rattle.engine.specs.declared.Engine.{Engine}
-use Rattle.engine.specs.Step.{number_of, count_of, changedOf}
+use Rattle.engine.specs.Step.{number_of, count_of, changed_of}
 use Rattle.engine.specs.Promises.{OneNumber, OneCount, OneChanged, unread, ReadAnswered}
 use Rattle.basics.proofs.One.{settled}
 
@@ -19,10 +19,10 @@ pub one-count : OneCount
 one-count a x y = settled (count_of a) x y
 
 pub one-changed : OneChanged
-one-changed a x y = settled (changedOf a) x y
+one-changed a x y = settled (changed_of a) x y
 
 place-answered : (p : Place) (e : Engine) (o : ℕ)
-    → (readNumber (read_place p e.bank o) ≡ cond (unread p) 2 0) × (unread p ≡ true → readValue (read_place p e.bank o) ≡ 0)
+    → (read_number (read_place p e.bank o) ≡ cond (unread p) 2 0) × (unread p ≡ true → read_value (read_place p e.bank o) ≡ 0)
 place-answered Register e o = (refl, λ t. absurd (false≢true t))
 place-answered (Pattern i) e o = (refl, λ t. absurd (false≢true t))
 place-answered Launch e o = (refl, λ _. refl)

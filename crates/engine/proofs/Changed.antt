@@ -19,8 +19,8 @@ use Rattle.paint.proofs.Again.{same-unchanged, unchanged-same}
 use Rattle.registers.specs.declared.Regs.{Regs}
 use Rattle.command.specs.Decode.{target}
 use Rattle.engine.specs.declared.Engine.{Engine}
-use Rattle.engine.specs.Step.{number_of, changedOf, written}
-use Rattle.engine.specs.Orders.{order, touchesOf}
+use Rattle.engine.specs.Step.{number_of, changed_of, written}
+use Rattle.engine.specs.Orders.{order, touches_of}
 use Rattle.engine.specs.Promises.{ChangedSeen, SecondPass}
 use Rattle.engine.proofs.Commands.{PaintingOf, write-written}
 use Rattle.engine.proofs.Once.{touches-once, write-columns, write-colour}
@@ -44,17 +44,17 @@ module _ (s : Surface) (m : List ℕ) where
 -- ---- the promises
 pub changed-seen : ChangedSeen
 changed-seen e m o d r h z =
-    let ts = touchesOf e m o d in
+    let ts = touches_of e m o d in
     let painting = subst (λ (k : Option Regs). PaintingOf k ts m (written e m o d)) h ((write-written e m o d).paints z) in
     painting.changed ∙ between (target r) m ts (touches-once e m o d) (write-columns e m o d r h z) (write-colour e m o d r h z)
     ∙ ap (λ (left : List ℕ). summed (changing (target r) m left) (pixels ts)) (sym painting.memory)
 
 module _ (e : Engine) (m : List ℕ) (o d : ℕ) (bytes : Bytes m) (z : number_of (written e m o d).answer ≡ 0) where
-  by_order : (k : Option Regs) → order e o d ≡ k → PaintingOf k (touchesOf e m o d) m (written e m o d)
-      → (changedOf (written e m o d).answer ≡ 0 → (written e m o d).memory ≡ m) × ((written e m o d).memory ≡ m → changedOf (written e m o d).answer ≡ 0)
+  by_order : (k : Option Regs) → order e o d ≡ k → PaintingOf k (touches_of e m o d) m (written e m o d)
+      → (changed_of (written e m o d).answer ≡ 0 → (written e m o d).memory ≡ m) × ((written e m o d).memory ≡ m → changed_of (written e m o d).answer ≡ 0)
   by_order none h p = (λ _. p.0, λ _. p.2)
   by_order (some r) h p =
-      let both = again (target r) m (touchesOf e m o d) (touches-once e m o d) (write-columns e m o d r h z) (write-colour e m o d r h z) bytes in
+      let both = again (target r) m (touches_of e m o d) (touches-once e m o d) (write-columns e m o d r h z) (write-colour e m o d r h z) bytes in
       (λ c. p.memory ∙ both.0 (sym p.changed ∙ c), λ same. p.changed ∙ both.1 (sym p.memory ∙ same))
 
 pub second-pass : SecondPass

@@ -15,7 +15,7 @@ use Rattle.surface.proofs.Lists.{In, by_cases}
 use Rattle.surface.proofs.Rects.{in-rect}
 use Rattle.spans.proofs.Spans.{IsByte, addresses-in}
 use Rattle.paint.specs.declared.Clip.{Clip}
-use Rattle.paint.specs.Clip.{inClip}
+use Rattle.paint.specs.Clip.{in_clip}
 use Rattle.paint.specs.Paint.{state, Touch, paint}
 use Rattle.paint.proofs.ClipLaws.{clip-in}
 use Rattle.paint.proofs.Frame.{Bytes, frame, paint-length, paint_bytes}
@@ -23,41 +23,41 @@ use Rattle.line.specs.Line.{points}
 use Rattle.line.proofs.DrawLaws.{covered-in-clip}
 use Rattle.registers.specs.declared.Regs.{Regs}
 use Rattle.command.specs.Decode.{target, line_of}
-use Rattle.cuts.specs.Cut.{number, clipOf, cut_at, fillCut, copyCut, coveredFrom, covered}
+use Rattle.cuts.specs.Cut.{number, clip_of, cut_at, fill_cut, copy_cut, covered_from, covered}
 use Rattle.engine.specs.declared.Engine.{Engine}
 use Rattle.engine.specs.Step.{Step, number_of, written}
-use Rattle.engine.specs.Orders.{order, coveredBy, touchesOf}
+use Rattle.engine.specs.Orders.{order, covered_by, touches_of}
 use Rattle.engine.specs.Promises.{OnlyCovered}
-use Rattle.acts.proofs.Cases.{by_number}
+use Rattle.acts.proofs.Cases.{by-number}
 use Rattle.engine.proofs.Commands.{PaintingOf, write-written}
 use Rattle.engine.proofs.Undone.{refused-undone}
 
 -- ---- pixels touched are inside the clip
 cut-in-clip : (c : Clip) (x y w h sx sy : ℕ) (p : Px)
     → Inside (cut_at c x y w h sx sy).x (cut_at c x y w h sx sy).y (cut_at c x y w h sx sy).w (cut_at c x y w h sx sy).h p
-    → inClip c (origin + p.x) (origin + p.y) ≡ true
+    → in_clip c (origin + p.x) (origin + p.y) ≡ true
 unfolding cut_at
 cut-in-clip c x y w h sx sy p i = clip-in c (origin + p.x) (origin + p.y) (omega arith)
 
-pub fill-in-clip : (r : Regs) (p : Px) → In p (covered (fillCut r)) → inClip (clipOf r) (origin + p.x) (origin + p.y) ≡ true
-unfolding fillCut
-fill-in-clip r p i = cut-in-clip (clipOf r) _ _ _ _ _ _ p (in-rect false false _ _ _ _ p i)
+pub fill-in-clip : (r : Regs) (p : Px) → In p (covered (fill_cut r)) → in_clip (clip_of r) (origin + p.x) (origin + p.y) ≡ true
+unfolding fill_cut
+fill-in-clip r p i = cut-in-clip (clip_of r) _ _ _ _ _ _ p (in-rect false false _ _ _ _ p i)
 
-pub copy-in-clip : (l u : Bool) (r : Regs) (p : Px) → In p (coveredFrom l u (copyCut r)) → inClip (clipOf r) (origin + p.x) (origin + p.y) ≡ true
-unfolding copyCut
-copy-in-clip l u r p i = cut-in-clip (clipOf r) _ _ _ _ _ _ p (in-rect l u _ _ _ _ p i)
+pub copy-in-clip : (l u : Bool) (r : Regs) (p : Px) → In p (covered_from l u (copy_cut r)) → in_clip (clip_of r) (origin + p.x) (origin + p.y) ≡ true
+unfolding copy_cut
+copy-in-clip l u r p i = cut-in-clip (clip_of r) _ _ _ _ _ _ p (in-rect l u _ _ _ _ p i)
 
-pub covered-inside : (r : Regs) (p : Px) → In p (coveredBy r) → inClip (clipOf r) (origin + p.x) (origin + p.y) ≡ true
-unfolding coveredBy
+pub covered-inside : (r : Regs) (p : Px) → In p (covered_by r) → in_clip (clip_of r) (origin + p.x) (origin + p.y) ≡ true
+unfolding covered_by
 covered-inside r p =
-    by_number (λ (ps : List Px). In p ps → inClip (clipOf r) (origin + p.x) (origin + p.y) ≡ true) (number r) _ _ _ _ _ _ _
+    by-number (λ (ps : List Px). In p ps → in_clip (clip_of r) (origin + p.x) (origin + p.y) ≡ true) (number r) _ _ _ _ _ _ _
     (λ _ i. absurd (Memᴰ.not-nil i)) (λ _. copy-in-clip _ _ r p) (λ _. fill-in-clip r p) (λ _. fill-in-clip r p) (λ _. fill-in-clip r p)
-    (λ _ _. covered-in-clip (clipOf r) (points (line_of r)) p) (λ _ i. absurd (Memᴰ.not-nil i))
+    (λ _ _. covered-in-clip (clip_of r) (points (line_of r)) p) (λ _ i. absurd (Memᴰ.not-nil i))
 
 -- ---- one write: what is left
 pub record Left (m : List ℕ) (k : Option Regs) (now : List ℕ) : Type 0 where
   pub long : length now ≡ length m
-  pub same : (a : ℕ) → ((r : Regs) (p : Px) → k ≡ some r → In p (coveredBy r) → IsByte (target r) p a → ⊥) → get_or now a 0 ≡ get_or m a 0
+  pub same : (a : ℕ) → ((r : Regs) (p : Px) → k ≡ some r → In p (covered_by r) → IsByte (target r) p a → ⊥) → get_or now a 0 ≡ get_or m a 0
 
 unchanged : (m : List ℕ) (k : Option Regs) (now : List ℕ) → now ≡ m → Left m k now
 unchanged m k now e = record { long = ap length e; same = λ a f. ap (λ (n : List ℕ). get_or n a 0) e }
@@ -80,7 +80,7 @@ painting-left (some r) ts m s p = record {
 pub write-left : (e : Engine) (m : List ℕ) (o d : ℕ) → Left m (order e o d) (written e m o d).memory
 write-left e m o d =
     by_cases (ℕ_discrete (number_of (written e m o d).answer) 0)
-    (λ z. painting-left (order e o d) (touchesOf e m o d) m (written e m o d) ((write-written e m o d).paints z))
+    (λ z. painting-left (order e o d) (touches_of e m o d) m (written e m o d) ((write-written e m o d).paints z))
     (λ n. unchanged m (order e o d) (written e m o d).memory (refused-undone e m o d n).1)
 
 -- a memory of bytes stays one
@@ -88,10 +88,10 @@ bytes_of : (k : Option Regs) (ts : List Touch) (m : List ℕ) (s : Step) → Pai
 bytes_of none ts m s p b = subst⁻¹ Bytes p.0 b
 bytes_of (some r) ts m s p b = subst⁻¹ Bytes p.memory (paint_bytes (target r) ts (state m 0 0) b)
 
-pub write_bytes : (e : Engine) (m : List ℕ) (o d : ℕ) → Bytes m → Bytes (written e m o d).memory
-write_bytes e m o d b =
+pub write-bytes : (e : Engine) (m : List ℕ) (o d : ℕ) → Bytes m → Bytes (written e m o d).memory
+write-bytes e m o d b =
     by_cases (ℕ_discrete (number_of (written e m o d).answer) 0)
-    (λ z. bytes_of (order e o d) (touchesOf e m o d) m (written e m o d) ((write-written e m o d).paints z) b)
+    (λ z. bytes_of (order e o d) (touches_of e m o d) m (written e m o d) ((write-written e m o d).paints z) b)
     (λ n. subst⁻¹ Bytes (refused-undone e m o d n).1 b)
 
 pub only-covered : OnlyCovered

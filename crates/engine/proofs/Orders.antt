@@ -5,20 +5,20 @@ use mathlib.Core.Option.{none, some}
 use Prim.Native.Nat.{ℕ}
 use native.Mathlib.Omega.{arith}
 use Rattle.registers.specs.declared.Regs.{Regs}
-use Rattle.registers.specs.Regs.{putReg}
+use Rattle.registers.specs.Regs.{put_reg}
 use Rattle.bank.specs.Bank.{stored}
 use Rattle.cuts.specs.Cut.{number}
 use Rattle.engine.specs.declared.Engine.{Engine}
-use Rattle.engine.specs.Step.{regs, storedIn}
+use Rattle.engine.specs.Step.{regs, stored_in}
 use Rattle.engine.specs.Orders.{launching}
-use Rattle.acts.proofs.Cases.{by_number}
+use Rattle.acts.proofs.Cases.{by-number}
 
 module _ (e : Engine) (d : ℕ) where
   pub launch-number : number (launching e d) ≡ number (regs e)
-  unfolding launching storedIn stored putReg
-  launch-number = by_number (λ (r : Regs). number r ≡ number (regs e)) (number (regs e)) _ _ _ _ _ _ _ (λ _. refl) (λ _. refl) (λ _. refl) (λ _. refl) (λ _. refl) (λ _ _. refl) (λ _. refl)
+  unfolding launching stored_in stored put_reg
+  launch-number = by-number (λ (r : Regs). number r ≡ number (regs e)) (number (regs e)) _ _ _ _ _ _ _ (λ _. refl) (λ _. refl) (λ _. refl) (λ _. refl) (λ _. refl) (λ _ _. refl) (λ _. refl)
 
-  pub launch-copy : number (regs e) ≡ 1 → launching e d ≡ regs (storedIn e 0x5c d)
+  pub launch-copy : number (regs e) ≡ 1 → launching e d ≡ regs (stored_in e 0x5c d)
   unfolding launching
   launch-copy n = rw n
 

@@ -6,7 +6,7 @@ use Prim.Native.Nat.{ℕ, ◌+◌}
 use native.Mathlib.Omega.{arith}
 use Rattle.engine.specs.declared.Engine.{Engine}
 use Rattle.engine.specs.declared.Answer.{Answer}
-use Rattle.engine.specs.Step.{count_of, changedOf}
+use Rattle.engine.specs.Step.{count_of, changed_of}
 use Rattle.engine.specs.Writes.{Write, by, run, before, played, counted, changes}
 
 pub played-last : (e : Engine) (m : List ℕ) (ws : List Write) (w : Write)
@@ -22,7 +22,7 @@ unfolding counted
 counted-last [] a = omega arith
 counted-last (b ∷ answers) a = let h = counted-last answers a in omega arith
 
-pub changes-last : (answers : List Answer) (a : Answer) → changes (answers ++ (a ∷ [])) ≡ changes answers + changedOf a
+pub changes-last : (answers : List Answer) (a : Answer) → changes (answers ++ (a ∷ [])) ≡ changes answers + changed_of a
 unfolding changes
 changes-last [] a = omega arith
 changes-last (b ∷ answers) a = let h = changes-last answers a in omega arith

@@ -3,16 +3,16 @@
 use mathlib.Core.List.{List}
 use Prim.Native.Nat.{ℕ}
 use Rattle.paint.specs.Paint.{Touch}
-use Rattle.acts.specs.Deed.{rectEnded, lineEnded, filling, copying, stretching, lining, opening, feeding, touchedByFill, touchedByCopy, touchedByStretch, touchedByLine, touchedByWord}
+use Rattle.acts.specs.Deed.{rect_ended, line_ended, filling, copying, stretching, lining, opening, feeding, touched_by_fill, touched_by_copy, touched_by_stretch, touched_by_line, touched_by_word}
 use Rattle.engine.specs.declared.Engine.{Engine}
-use Rattle.engine.specs.Step.{Step, withBank, judging}
+use Rattle.engine.specs.Step.{Step, with_bank, judging}
 
 -- ---- the engine after a rectangle, and after a line that leaves this style
-abbrev pub afterRect : Engine → Engine
-afterRect e = withBank e (rectEnded e.bank)
+abbrev pub after_rect : Engine → Engine
+after_rect e = with_bank e (rect_ended e.bank)
 
-abbrev pub afterLine : Engine → ℕ → Engine
-afterLine e style = withBank e (lineEnded e.bank style)
+abbrev pub after_line : Engine → ℕ → Engine
+after_line e style = with_bank e (line_ended e.bank style)
 
 -- ---- what each command leaves
 
@@ -36,17 +36,17 @@ abbrev pub fed : Engine → List ℕ → ℕ → Step
 fed e m word = judging e e m (feeding e.bank e.blit m word)
 
 -- ---- what each command touches
-abbrev pub fillTouches : Engine → List Touch
-fillTouches e = touchedByFill e.bank
+abbrev pub fill_touches : Engine → List Touch
+fill_touches e = touched_by_fill e.bank
 
-abbrev pub copyTouches : Engine → List Touch
-copyTouches e = touchedByCopy e.bank
+abbrev pub copy_touches : Engine → List Touch
+copy_touches e = touched_by_copy e.bank
 
-abbrev pub stretchTouches : Engine → List ℕ → List Touch
-stretchTouches e m = touchedByStretch e.bank m
+abbrev pub stretch_touches : Engine → List ℕ → List Touch
+stretch_touches e m = touched_by_stretch e.bank m
 
-abbrev pub drawTouches : Engine → List Touch
-drawTouches e = touchedByLine e.bank
+abbrev pub draw_touches : Engine → List Touch
+draw_touches e = touched_by_line e.bank
 
-abbrev pub wordTouches : Engine → ℕ → List Touch
-wordTouches e word = touchedByWord e.bank e.blit word
+abbrev pub word_touches : Engine → ℕ → List Touch
+word_touches e word = touched_by_word e.bank e.blit word

@@ -8,7 +8,7 @@ use native.Mathlib.Omega.{arith}
 use lib.Dec.{eqb}
 use lib.ListN.{length}
 use borrow.Author.Tests.{eq-eqb, ne_eqb}
-use Rattle.engine.specs.Promises.{table, isFirst, Given, ByTheTable}
+use Rattle.engine.specs.Promises.{table, is_first, Given, ByTheTable}
 use Rattle.engine.proofs.Commands.{first_of, write-written}
 
 -- rows that are looked at from number k on give no number from 1 to k - 1
@@ -18,15 +18,15 @@ none-lower k n [] some below = ne_eqb 0 n (λ z. omega arith)
 none-lower k n (true ∷ rows) some below = ne_eqb k n (λ z. omega arith)
 none-lower k n (false ∷ rows) some below = none-lower (suc k) n rows some (omega arith)
 
-none_at_all : (k : ℕ) (rows : List Bool) → 0 < k → eqb (first_of k rows) 0 ≡ isFirst 0 rows
-unfolding first_of isFirst
+none_at_all : (k : ℕ) (rows : List Bool) → 0 < k → eqb (first_of k rows) 0 ≡ is_first 0 rows
+unfolding first_of is_first
 none_at_all k [] some = refl
 none_at_all k (true ∷ rows) some = ne_eqb k 0 (λ z. omega arith)
 none_at_all k (false ∷ rows) some = none_at_all (suc k) rows (omega arith)
 
 -- row n of those from k on
-this-one : (n k : ℕ) (rows : List Bool) → 0 < k → eqb (first_of k rows) (n + k) ≡ isFirst (suc n) rows
-unfolding first_of isFirst
+this-one : (n k : ℕ) (rows : List Bool) → 0 < k → eqb (first_of k rows) (n + k) ≡ is_first (suc n) rows
+unfolding first_of is_first
 this-one n k [] some = ne_eqb 0 (n + k) (λ z. omega arith)
 this-one zero k (true ∷ rows) some = eq-eqb k (0 + k) (omega arith)
 this-one (suc n) k (true ∷ rows) some = ne_eqb k (suc n + k) (λ z. omega arith)
@@ -51,7 +51,7 @@ by-the-table = record {
   memory = given 0;
   offset = given 1;
   waiting = given 2;
-  notBuilt = given 3;
+  not_built = given 3;
   format = given 4;
   host = given 5;
   off = given 6;

@@ -13,19 +13,19 @@ use Rattle.acts.specs.Deed.{Deed, carrying, starting}
 use Rattle.engine.specs.declared.Engine.{Engine}
 use Rattle.engine.specs.declared.Answer.{Answer}
 use Rattle.engine.specs.declared.Answer.TheVariants.{Taken, Memory, Offset, Waiting}
-use Rattle.engine.specs.Step.{Step, step, number_of, count_of, changedOf, refusal, idle, storedIn, judging, carried, launched, commanded, toRegister, toPattern, toPlace, written}
+use Rattle.engine.specs.Step.{Step, step, number_of, count_of, changed_of, refusal, idle, stored_in, judging, carried, launched, commanded, to_register, to_pattern, to_place, written}
 use Rattle.engine.specs.Promises.{RefusedUndone}
 use Rattle.acts.proofs.Cases.{picked}
 use Rattle.engine.proofs.Laws.{refused_none}
 
 record Kept (e : Engine) (m : List ℕ) (s : Step) : Type 0 where
-  undone : (number_of s.answer ≡ 0 → ⊥) → (s.engine ≡ e) × (s.memory ≡ m) × (count_of s.answer ≡ 0) × (changedOf s.answer ≡ 0)
+  undone : (number_of s.answer ≡ 0 → ⊥) → (s.engine ≡ e) × (s.memory ≡ m) × (count_of s.answer ≡ 0) × (changed_of s.answer ≡ 0)
 
 -- a step that is taken, and one that hands back what came
 taken : {e : Engine} {m : List ℕ} (k : Engine) (left : List ℕ) (n c : ℕ) → Kept e m (step k left (Taken n c))
 taken k left n c = record { undone = λ no'. absurd (no' refl) }
 
-same_back : (e : Engine) (m : List ℕ) (a : Answer) → (count_of a ≡ 0) × (changedOf a ≡ 0) → Kept e m (step e m a)
+same_back : (e : Engine) (m : List ℕ) (a : Answer) → (count_of a ≡ 0) × (changed_of a ≡ 0) → Kept e m (step e m a)
 same_back e m a z = record { undone = λ _. (refl, refl, z.0, z.1) }
 
 -- a command that its verdict refuses, or carries out
@@ -40,10 +40,10 @@ launched-kept : (e : Engine) (m : List ℕ) (d : ℕ) → Kept e m (launched e m
 unfolding launched
 launched-kept e m d = judged-kept e e m (starting e.bank e.blit m d)
 
-place_kept : (p : Place) (e : Engine) (m : List ℕ) (o d : ℕ) → Kept e m (toPlace p e m o d)
-unfolding toRegister toPattern commanded
+place_kept : (p : Place) (e : Engine) (m : List ℕ) (o d : ℕ) → Kept e m (to_place p e m o d)
+unfolding to_register to_pattern commanded
 place_kept Register e m o d =
-    picked (Kept e m) (eqb o 0x70) _ _ (λ _. picked (Kept e m) (bit d 8) _ _ (λ _. carried-kept e (idle (storedIn e 0x70 d)) m) (λ _. taken _ _ _ _))
+    picked (Kept e m) (eqb o 0x70) _ _ (λ _. picked (Kept e m) (bit d 8) _ _ (λ _. carried-kept e (idle (stored_in e 0x70 d)) m) (λ _. taken _ _ _ _))
     (λ _. picked (Kept e m) e.blit.waiting _ _ (λ _. same_back e m Waiting (refl, refl)) (λ _. taken _ _ _ _))
 place_kept (Pattern i) e m o d = picked (Kept e m) e.blit.waiting _ _ (λ _. same_back e m Waiting (refl, refl)) (λ _. taken _ _ _ _)
 place_kept Launch e m o d = launched-kept e m d

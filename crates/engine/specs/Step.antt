@@ -7,13 +7,13 @@ use Rattle.bank.specs.declared.Bank.{Bank}
 use Rattle.bank.specs.declared.Reading.{Reading}
 use Rattle.registers.specs.declared.Place.{Place}
 use Rattle.registers.specs.declared.Place.TheVariants.{Register, Pattern, Launch, Nowhere}
-use Rattle.bank.specs.Bank.{freshBank, stored, patterned, readAt}
+use Rattle.bank.specs.Bank.{fresh_bank, stored, patterned, read_at}
 use Rattle.registers.specs.Offsets.{place_of}
 use Rattle.cuts.specs.Cut.{bit}
-use Rattle.rooms.specs.Room.{noRooms, after}
+use Rattle.rooms.specs.Room.{no_rooms, after}
 use Rattle.acts.specs.declared.Blit.{Blit}
 use Rattle.acts.specs.declared.Act.{Act}
-use Rattle.acts.specs.Deed.{noBlit, Made, bankOf, withEnds, Deed, carrying, starting}
+use Rattle.acts.specs.Deed.{no_blit, Made, bank_of, with_ends, Deed, carrying, starting}
 use Rattle.engine.specs.declared.Outcome.{Outcome}
 use Rattle.engine.specs.declared.Engine.{Engine}
 use Rattle.engine.specs.declared.Answer.{Answer}
@@ -42,16 +42,16 @@ count_of Host = 0
 count_of Off = 0
 count_of Meet = 0
 
-abbrev pub changedOf : Answer → ℕ
-changedOf (Taken n c) = c
-changedOf Memory = 0
-changedOf Offset = 0
-changedOf Waiting = 0
-changedOf NotBuilt = 0
-changedOf Format = 0
-changedOf Host = 0
-changedOf Off = 0
-changedOf Meet = 0
+abbrev pub changed_of : Answer → ℕ
+changed_of (Taken n c) = c
+changed_of Memory = 0
+changed_of Offset = 0
+changed_of Waiting = 0
+changed_of NotBuilt = 0
+changed_of Format = 0
+changed_of Host = 0
+changed_of Off = 0
+changed_of Meet = 0
 
 -- the answer of a row from 4 to 8
 unfoldable pub refusal : ℕ → Answer
@@ -60,26 +60,26 @@ refusal n = cond (eqb n 4) NotBuilt (cond (eqb n 5) Format (cond (eqb n 6) Host 
 -- ---- the engine
 
 -- opened for a memory of so many bytes
-unfoldable pub freshEngine : ℕ → Engine
-freshEngine len = record { bank = freshBank; blit = noBlit; opened = len; rooms = noRooms }
+unfoldable pub fresh_engine : ℕ → Engine
+fresh_engine len = record { bank = fresh_bank; blit = no_blit; opened = len; rooms = no_rooms }
 
-abbrev pub withBank : Engine → Bank → Engine
-withBank e b = record { bank = b; blit = e.blit; opened = e.opened; rooms = e.rooms }
+abbrev pub with_bank : Engine → Bank → Engine
+with_bank e b = record { bank = b; blit = e.blit; opened = e.opened; rooms = e.rooms }
 
-abbrev pub withBlit : Engine → Blit → Engine
-withBlit e b = record { bank = e.bank; blit = b; opened = e.opened; rooms = e.rooms }
+abbrev pub with_blit : Engine → Blit → Engine
+with_blit e b = record { bank = e.bank; blit = b; opened = e.opened; rooms = e.rooms }
 
 abbrev pub regs : Engine → Regs
 regs e = e.bank.regs
 
 -- the kept bits of a word in a register, and what is kept of the surface that it is a register of; no host blit waiting
-unfoldable pub storedIn : Engine → ℕ → ℕ → Engine
-storedIn e o d =
+unfoldable pub stored_in : Engine → ℕ → ℕ → Engine
+stored_in e o d =
     let b = stored e.bank o d in
     record { bank = b; blit = e.blit; opened = e.opened; rooms = after e.opened o b.regs e.rooms }
 
 abbrev pub idle : Engine → Engine
-idle e = withBlit e noBlit
+idle e = with_blit e no_blit
 
 -- ---- what a write makes
 pub record Step : Type 0 where
@@ -114,38 +114,38 @@ launched e m d = judging e e m (starting e.bank e.blit m d)
 -- a write to command abandons what waits, and runs with bit 8
 unfoldable pub commanded : Engine → List ℕ → ℕ → Step
 commanded e m d =
-    cond (bit d 8) (carried e (idle (storedIn e 0x70 d)) m) (step (idle (storedIn e 0x70 d)) m (Taken 0 0))
+    cond (bit d 8) (carried e (idle (stored_in e 0x70 d)) m) (step (idle (stored_in e 0x70 d)) m (Taken 0 0))
 
-unfoldable pub toRegister : Engine → List ℕ → ℕ → ℕ → Step
-toRegister e m o d =
+unfoldable pub to_register : Engine → List ℕ → ℕ → ℕ → Step
+to_register e m o d =
     cond (eqb o 0x70) (commanded e m d)
-    (cond e.blit.waiting (step e m Waiting) (step (storedIn e o d) m (Taken 0 0)))
+    (cond e.blit.waiting (step e m Waiting) (step (stored_in e o d) m (Taken 0 0)))
 
-unfoldable pub toPattern : Engine → List ℕ → ℕ → ℕ → Step
-toPattern e m i d = cond e.blit.waiting (step e m Waiting) (step (withBank e (patterned e.bank i d)) m (Taken 0 0))
+unfoldable pub to_pattern : Engine → List ℕ → ℕ → ℕ → Step
+to_pattern e m i d = cond e.blit.waiting (step e m Waiting) (step (with_bank e (patterned e.bank i d)) m (Taken 0 0))
 
-abbrev pub toPlace : Place → Engine → List ℕ → ℕ → ℕ → Step
-toPlace Register e m o d = toRegister e m o d
-toPlace (Pattern i) e m o d = toPattern e m i d
-toPlace Launch e m o d = launched e m d
-toPlace Nowhere e m o d = step e m Offset
+abbrev pub to_place : Place → Engine → List ℕ → ℕ → ℕ → Step
+to_place Register e m o d = to_register e m o d
+to_place (Pattern i) e m o d = to_pattern e m i d
+to_place Launch e m o d = launched e m d
+to_place Nowhere e m o d = step e m Offset
 
 unfoldable pub written : Engine → List ℕ → ℕ → ℕ → Step
 written e m o d =
     cond (ltb (2 ^ 24) (length m)) (step e m Memory)
-    (cond (eqb (length m) e.opened) (toPlace (place_of o) e m o d)
+    (cond (eqb (length m) e.opened) (to_place (place_of o) e m o d)
     (step e m Memory))
 
 -- ---- reading back
-abbrev pub readFrom : Engine → ℕ → Reading
-readFrom e o = readAt e.bank o
+abbrev pub read_from : Engine → ℕ → Reading
+read_from e o = read_at e.bank o
 
 -- ---- what a command that had these registers left of the engine
 unfoldable pub settled : Engine → Regs → Act → Outcome
 settled e r a =
     cond (eqb a.number 0)
     (record {
-      engine = record { bank = withEnds (bankOf r e.bank.pattern) a.ends; blit = a.blit; opened = e.opened; rooms = e.rooms };
+      engine = record { bank = with_ends (bank_of r e.bank.pattern) a.ends; blit = a.blit; opened = e.opened; rooms = e.rooms };
       answer = Taken a.tally.count a.tally.changed;
     })
     (record { engine = e; answer = refusal a.number })

@@ -8,7 +8,7 @@ use Rattle.registers.specs.declared.Place.TheVariants.{Register, Pattern, Launch
 use Rattle.registers.specs.Offsets.{place_of}
 use Rattle.engine.specs.declared.Engine.{Engine}
 use Rattle.engine.specs.declared.Answer.{Answer}
-use Rattle.engine.specs.Step.{Step, count_of, changedOf, written}
+use Rattle.engine.specs.Step.{Step, count_of, changed_of, written}
 use Rattle.engine.specs.Orders.{order_at}
 
 pub record Write : Type 0 where
@@ -40,7 +40,7 @@ counted (a ∷ more) = count_of a + counted more
 
 unfoldable pub changes : List Answer → ℕ
 changes [] = 0
-changes (a ∷ more) = changedOf a + changes more
+changes (a ∷ more) = changed_of a + changes more
 
 -- n words of data: word k is ws k, written to the offset os k
 unfoldable pub sent : (ℕ → ℕ) → (ℕ → ℕ) → ℕ → List Write
@@ -53,9 +53,9 @@ pub record Lent : Type 0 where
   pub write : Write
 
 -- what an engine becomes by such writes
-unfoldable pub lentTo : Engine → List Lent → Engine
-lentTo e [] = e
-lentTo e (l ∷ ls) = lentTo (by e l.memory l.write).engine ls
+unfoldable pub lent_to : Engine → List Lent → Engine
+lent_to e [] = e
+lent_to e (l ∷ ls) = lent_to (by e l.memory l.write).engine ls
 
 -- ---- the registers of the command that a write starts, if it does. A word for a host blit that waits belongs to the command that opened it.
 abbrev pub start_at : Place → Engine → Write → Option Regs

@@ -1,6 +1,6 @@
 // The engine: a register write decoded, judged by the table of answers, and carried out.
 ghost use Rattle.std.specs.Prelude.{◌≡◌, ◌^◌, ◌≤◌};
-ghost use Rattle.engine.specs.Step.{number_of, count_of, changedOf, refusal, freshEngine, settled, step, launched, commanded, toRegister, toPattern, written, readFrom};
+ghost use Rattle.engine.specs.Step.{number_of, count_of, changed_of, refusal, fresh_engine, settled, step, launched, commanded, to_register, to_pattern, written, read_from};
 
 use acts::{Act, Blit};
 use bank::{Bank, Reading};
@@ -67,7 +67,7 @@ impl Answer {
 
     // How many of them have other bytes than just before they were written, 0 for a refusal.
     pub fn changed(self) -> u32
-        ensures { result ≡ changedOf self }
+        ensures { result ≡ changed_of self }
     {
         match self {
             Answer::Taken(_, n) => n,
@@ -104,7 +104,7 @@ fn refuse(n: u32) -> Answer
 impl Engine {
     // A fresh engine for a memory of len bytes.
     pub fn open(len: usize) -> Engine
-        ensures { result ≡ freshEngine len }
+        ensures { result ≡ fresh_engine len }
     {
         Engine {
             bank: Bank::fresh(),
@@ -116,7 +116,7 @@ impl Engine {
 
     // What a register holds.
     pub fn read(self, offset: u32) -> Reading
-        ensures { result ≡ readFrom self offset }
+        ensures { result ≡ read_from self offset }
     {
         let bank = self.bank;
         bank.read(offset)
@@ -188,7 +188,7 @@ impl Engine {
 
     fn take_register(self, mem: &mut [u8], offset: u32, word: u32) -> Outcome
         requires { self.opened ≤ 2 ^ 24 }
-        ensures { step result.engine mem.new result.answer ≡ toRegister self mem.old offset word }
+        ensures { step result.engine mem.new result.answer ≡ to_register self mem.old offset word }
     {
         if offset == 0x70 {
             return self.take_command(mem, word);
@@ -214,7 +214,7 @@ impl Engine {
     }
 
     fn take_pattern(self, mem: &[u8], at: usize, word: u32) -> Outcome
-        ensures { step result.engine mem.now result.answer ≡ toPattern self mem.now at word }
+        ensures { step result.engine mem.now result.answer ≡ to_pattern self mem.now at word }
     {
         if self.blit.waiting {
             return Outcome {

@@ -1,7 +1,7 @@
 // What the two words of a surface say: where it is, how its rows step, and its format.
 ghost use Rattle.std.specs.Prelude.{◌≡◌, ◌+◌, ◌-◌, ◌%◌, ◌^◌, ◌<◌};
-ghost use Rattle.formats.specs.Format.{bytes_of, coloured, isTiled, targetNamed, viewNamed, target_of, sourceNamed, hostNamed, source_of};
-ghost use Rattle.formats.specs.Step.{rowLength, step_of};
+ghost use Rattle.formats.specs.Format.{bytes_of, coloured, is_tiled, target_named, view_named, target_of, source_named, host_named, source_of};
+ghost use Rattle.formats.specs.Step.{row_length, step_of};
 ghost use Rattle.formats.specs.Asked.{Sized};
 
 use surface::Surface;
@@ -25,21 +25,21 @@ fn is_coloured(code: u32) -> bool
 }
 
 fn is_tiled(base: u32) -> bool
-    ensures { result ≡ isTiled base }
+    ensures { result ≡ is_tiled base }
 {
     base / 0x8000_0000 % 2 == 1
 }
 
 // Whether a target's words name a surface.
 pub fn names_target(format: u32) -> bool
-    ensures { result ≡ targetNamed format }
+    ensures { result ≡ target_named format }
 {
     is_coloured(format / 0x1_0000 % 8)
 }
 
 // Whether they name one whose rows can be viewed.
 pub fn names_view(base: u32, format: u32) -> bool
-    ensures { result ≡ viewNamed base format }
+    ensures { result ≡ view_named base format }
 {
     !is_tiled(base) & names_target(format)
 }
@@ -57,7 +57,7 @@ pub fn target_of(base: u32, format: u32) -> Surface
 
 // Whether a source's words do.
 pub fn names_source(base: u32, format: u32) -> bool
-    ensures { result ≡ sourceNamed base format }
+    ensures { result ≡ source_named base format }
 {
     let code = format / 0x1_0000 % 16;
     if is_tiled(base) {
@@ -68,7 +68,7 @@ pub fn names_source(base: u32, format: u32) -> bool
 
 // Whether a host blit's do.
 pub fn names_host(base: u32, format: u32) -> bool
-    ensures { result ≡ hostNamed base format }
+    ensures { result ≡ host_named base format }
 {
     let code = format / 0x1_0000 % 16;
     !is_tiled(base) & ((code == 0) | is_coloured(code))
@@ -77,7 +77,7 @@ pub fn names_host(base: u32, format: u32) -> bool
 // The bytes of a row of so many pixels.
 pub fn row_length(bytes: u32, width: u32) -> u32
     requires { Sized bytes width }
-    ensures { result ≡ rowLength bytes width }
+    ensures { result ≡ row_length bytes width }
 {
     if bytes == 0 {
         return (width * 1 + 7) / 8;

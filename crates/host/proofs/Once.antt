@@ -13,7 +13,7 @@ use Rattle.surface.specs.Pixels.{Px, px, across, rect}
 use Rattle.surface.proofs.Lists.{In, pairs-append}
 use Rattle.surface.proofs.Rects.{Distinct, in-across, rect-distinct}
 use Rattle.host.specs.declared.Feed.{Feed}
-use Rattle.host.specs.Host.{lastByteOf, Pixel, whole, run, by_byte, byBytes, by_word}
+use Rattle.host.specs.Host.{last_byte_of, Pixel, whole, run, by_byte, by_bytes, by_word}
 use Rattle.host.proofs.Places.{column-of}
 
 -- a pixel's column and row in the rectangle
@@ -27,7 +27,7 @@ across-distinct x n y = rw append-nil at (rect-distinct false false x y n 1)
 module _ (f : Feed) (last word : ℕ) where
   -- the last byte of the pixel in this column and row
   abbrev ends : Px → ℕ
-  ends p = lastByteOf f p.x p.y
+  ends p = last_byte_of f p.x p.y
 
   run-across : (o i n : ℕ) → map spot (run f last word o i n) ≡ across false i n (o / f.step)
   unfolding run across
@@ -48,7 +48,7 @@ module _ (f : Feed) (last word : ℕ) where
   byte-distinct o = byte-across Distinct o tt (across-distinct _ _ _)
 
   byte-ends : (o : ℕ) (p : Px) → In p (map spot (by_byte f last word o)) → ends p ≡ o
-  unfolding lastByteOf
+  unfolding last_byte_of
   byte-ends o p =
       byte-across (λ ps. In p ps → ends p ≡ o) o (λ m. absurd (Memᴰ.not-nil m))
       (λ m.
@@ -58,19 +58,19 @@ module _ (f : Feed) (last word : ℕ) where
       rw y (omega (arith, div-add-mod' o f.step)))
 
   -- ---- some bytes, and so a word
-  bytes-end : (o n : ℕ) (p : Px) → In p (map spot (byBytes f last word o n)) → o ≤ ends p
-  unfolding byBytes
+  bytes-end : (o n : ℕ) (p : Px) → In p (map spot (by_bytes f last word o n)) → o ≤ ends p
+  unfolding by_bytes
   bytes-end o zero p m = absurd (Memᴰ.not-nil m)
   bytes-end o (suc n) p m =
       ⊎_elim (λ i. omega (arith, byte-ends o p i)) (λ i. omega (arith, bytes-end (o + 1) n p i))
       (Memᴰ.append_cases (map spot (by_byte f last word o)) (rw map-append at m))
 
-  bytes-distinct : (o n : ℕ) → Distinct (map spot (byBytes f last word o n))
-  unfolding byBytes
+  bytes-distinct : (o n : ℕ) → Distinct (map spot (by_bytes f last word o n))
+  unfolding by_bytes
   bytes-distinct o zero = tt
   bytes-distinct o (suc n) =
       rw map-append
-      (pairs-append (map spot (by_byte f last word o)) (map spot (byBytes f last word (o + 1) n)) (byte-distinct o) (bytes-distinct (o + 1) n)
+      (pairs-append (map spot (by_byte f last word o)) (map spot (by_bytes f last word (o + 1) n)) (byte-distinct o) (bytes-distinct (o + 1) n)
       (λ p q i j e. omega (arith, byte-ends o p i, bytes-end (o + 1) n q j, ap ends e)))
 
   pub word-distinct : (k : ℕ) → Distinct (map spot (by_word f last word k))

@@ -16,9 +16,9 @@ use Rattle.paint.specs.Asked.{Room}
 use Rattle.paint.proofs.Tallies.{room-first}
 use Rattle.paint.proofs.Loops.{Left, left-begins}
 use Rattle.host.specs.declared.Feed.{Feed}
-use Rattle.host.specs.Host.{Pixel, by_word, byRun, last_of}
+use Rattle.host.specs.Host.{Pixel, by_word, by_run, last_of}
 use Rattle.host.specs.Asked.{Sizes}
-use Rattle.host.specs.Draw.{hostTouches, drawn}
+use Rattle.host.specs.Draw.{host_touches, drawn}
 use Rattle.host.proofs.Drawing.{bytes-length, draw-takes, draw-ended}
 
 -- ---- the last word
@@ -37,28 +37,28 @@ last_some (w ∷ v ∷ ws) last some =
     last_some (v ∷ ws) w (omega arith) ∙ rw (e, f)
 
 module _ (f : Feed) where
-  pub run-append : (us vs : List ℕ) (last k : ℕ) → byRun f last (us ++ vs) k ≡ byRun f last us k ++ byRun f (last_of last us) vs (k + length us)
-  unfolding byRun last_of
+  pub run-append : (us vs : List ℕ) (last k : ℕ) → by_run f last (us ++ vs) k ≡ by_run f last us k ++ by_run f (last_of last us) vs (k + length us)
+  unfolding by_run last_of
   run-append [] vs last k = rw (add-zero k)
   run-append (u ∷ us) vs last k =
       let e : k + 1 + length us ≡ k + suc (length us) = omega arith in
       ap (λ (ps : List Pixel). by_word f last u k ++ ps) (run-append us vs u (k + 1))
-      ∙ sym (append_assoc (by_word f last u k) (byRun f u us (k + 1)) (byRun f (last_of u us) vs (k + 1 + length us)))
-      ∙ ap (λ (n : ℕ). (by_word f last u k ++ byRun f u us (k + 1)) ++ byRun f (last_of u us) vs n) e
+      ∙ sym (append_assoc (by_word f last u k) (by_run f u us (k + 1)) (by_run f (last_of u us) vs (k + 1 + length us)))
+      ∙ ap (λ (n : ℕ). (by_word f last u k ++ by_run f u us (k + 1)) ++ by_run f (last_of u us) vs n) e
 
-  pub run-one : (w last k : ℕ) → byRun f last (w ∷ []) k ≡ by_word f last w k
-  unfolding byRun
+  pub run-one : (w last k : ℕ) → by_run f last (w ∷ []) k ≡ by_word f last w k
+  unfolding by_run
   run-one w last k = append-nil (by_word f last w k)
 
-  run_length : Sizes f → (ws : List ℕ) (last k : ℕ) → length (byRun f last ws k) ≤ 2 ^ 15 * length ws
-  unfolding byRun by_word
+  run_length : Sizes f → (ws : List ℕ) (last k : ℕ) → length (by_run f last ws k) ≤ 2 ^ 15 * length ws
+  unfolding by_run by_word
   run_length sizes [] last k = omega arith
   run_length sizes (w ∷ ws) last k =
-      omega (arith, length-append (by_word f last w k) (byRun f w ws (k + 1)), bytes-length f last w (omega (arith, sizes.width)) (4 * k) 4, run_length sizes ws w (k + 1))
+      omega (arith, length-append (by_word f last w k) (by_run f w ws (k + 1)), bytes-length f last w (omega (arith, sizes.width)) (4 * k) 4, run_length sizes ws w (k + 1))
 
 -- ---- the loop over the words of a run, the first of them number k: i of them are taken, and `last` is the word before the next
 pub record RunLeft (ink : Ink) (pattern : List ℕ) (c : Clip) (feed : Feed) (first : ℕ) (ws : List ℕ) (k : ℕ) (m₀ : List ℕ) (i last : ℕ) (m : List ℕ) (r : Tally) : Type 0 where
-  pub left : Left ink.target (hostTouches ink pattern c feed (byRun feed first ws k)) m₀ (tally 0 0) (2 ^ 15 * i) (hostTouches ink pattern c feed (byRun feed last (drop i ws) (k + i))) m r
+  pub left : Left ink.target (host_touches ink pattern c feed (by_run feed first ws k)) m₀ (tally 0 0) (2 ^ 15 * i) (host_touches ink pattern c feed (by_run feed last (drop i ws) (k + i))) m r
   pub within : i ≤ length ws
 
 module _ {ink : Ink} {pattern : List ℕ} {c : Clip} {feed : Feed} {first : ℕ} {ws : List ℕ} {k : ℕ} {m₀ : List ℕ} where
@@ -71,16 +71,16 @@ module _ {ink : Ink} {pattern : List ℕ} {c : Clip} {feed : Feed} {first : ℕ}
 
     -- n words at once
     pub run-takes : Sizes feed → (n : ℕ) {m' : List ℕ} {r' : Tally} → i + n ≤ length ws
-        → tallied m' r' ≡ drawn ink pattern c feed (byRun feed last (take n (drop i ws)) (k + i)) (tallied m r)
+        → tallied m' r' ≡ drawn ink pattern c feed (by_run feed last (take n (drop i ws)) (k + i)) (tallied m r)
         → RunLeft ink pattern c feed first ws k m₀ (i + n) (last_of last (take n (drop i ws))) m' r'
     run-takes sizes n fits put =
         let long : length (take n (drop i ws)) ≡ n = length-take-le n (drop i ws) (omega (arith, length-drop i ws)) in
         let next : k + i + length (take n (drop i ws)) ≡ k + (i + n) = omega arith in
         record {
-          left = draw-takes ink pattern c feed (byRun feed last (drop i ws) (k + i)) (byRun feed last (take n (drop i ws)) (k + i)) _ now.left
-              (ap (λ (vs : List ℕ). byRun feed last vs (k + i)) (sym (take-append-drop n (drop i ws)))
+          left = draw-takes ink pattern c feed (by_run feed last (drop i ws) (k + i)) (by_run feed last (take n (drop i ws)) (k + i)) _ now.left
+              (ap (λ (vs : List ℕ). by_run feed last vs (k + i)) (sym (take-append-drop n (drop i ws)))
               ∙ run-append feed (take n (drop i ws)) (drop n (drop i ws)) last (k + i)
-              ∙ ap₂ (λ (vs : List ℕ) (o : ℕ). byRun feed last (take n (drop i ws)) (k + i) ++ byRun feed (last_of last (take n (drop i ws))) vs o) (drop-drop n i ws) next)
+              ∙ ap₂ (λ (vs : List ℕ) (o : ℕ). by_run feed last (take n (drop i ws)) (k + i) ++ by_run feed (last_of last (take n (drop i ws))) vs o) (drop-drop n i ws) next)
               (omega (arith, run_length feed sizes (take n (drop i ws)) last (k + i))) put;
           within = fits;
         }
@@ -95,6 +95,6 @@ module _ {ink : Ink} {pattern : List ℕ} {c : Clip} {feed : Feed} {first : ℕ}
         subst (λ (vs : List ℕ). RunLeft ink pattern c feed first ws k m₀ (i + 1) (last_of last vs) m' r') one
         (run-takes sizes 1 (omega arith) (rw (one, run-one feed (get_or ws i 0) last (k + i)) put))
 
-    pub run-ended : length ws ≤ i → tallied m r ≡ drawn ink pattern c feed (byRun feed first ws k) (state m₀ 0 0)
-    unfolding byRun
-    run-ended all = draw-ended ink pattern c feed {rest = byRun feed last (drop i ws) (k + i)} (rw (drop_of_length-le ws all)) now.left
+    pub run-ended : length ws ≤ i → tallied m r ≡ drawn ink pattern c feed (by_run feed first ws k) (state m₀ 0 0)
+    unfolding by_run
+    run-ended all = draw-ended ink pattern c feed {rest = by_run feed last (drop i ws) (k + i)} (rw (drop_of_length-le ws all)) now.left

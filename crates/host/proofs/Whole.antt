@@ -11,11 +11,11 @@ use native.Mathlib.Omega.{arith}
 use borrow.Author.Tests.{ltb-true, ltb-false, lt-ltb, le-ltb}
 use lib.Arith.{digits_div, digits_mod}
 use lib.Dec.{ltb}
-use Rattle.formats.specs.Step.{rowLength, dataBytes, dataWords}
+use Rattle.formats.specs.Step.{row_length, data_bytes, data_words}
 use Rattle.host.specs.declared.Feed.{Feed}
-use Rattle.host.specs.Host.{lastByteOf, words_of, Pixel, pixel, value_of, whole, run, by_byte, byBytes, by_word}
+use Rattle.host.specs.Host.{last_byte_of, words_of, Pixel, pixel, value_of, whole, run, by_byte, by_bytes, by_word}
 use Rattle.host.specs.Asked.{Rows}
-use Rattle.host.specs.Stream.{value_at, rowFrom, rows, before, byWords}
+use Rattle.host.specs.Stream.{value_at, row_from, rows, before, by_words}
 use Rattle.host.proofs.Places.{whole-none, whole-all, whole-more, column-of, step-some}
 use Rattle.host.proofs.Finished.{Has, finished-by}
 use Rattle.host.proofs.Needed.{some-pixel, some-needed}
@@ -51,7 +51,7 @@ module _ (ws : ℕ → ℕ) (f : Feed) (d : Data ws f) where
   its-prior : (k : ℕ) → Prior ws k (before ws k)
   its-prior k = record { word = before-prior ws k; small = before_small ws d.words k }
 
-  pub right : (i j k last : ℕ) → Prior ws k last → lastByteOf f i j / 4 ≡ k → value_of f last (ws k) (lastByteOf f i j % 4) i ≡ value_at ws f i j
+  pub right : (i j k last : ℕ) → Prior ws k last → last_byte_of f i j / 4 ≡ k → value_of f last (ws k) (last_byte_of f i j % 4) i ≡ value_at ws f i j
   right i j k last p e = value-right ws f i j k last e p.word p.small d.held.sizes.bytes
 
   -- each pixel that a word finishes has the value that the data says
@@ -59,9 +59,9 @@ module _ (ws : ℕ → ℕ) (f : Feed) (d : Data ws f) where
   word-values k p m = let r = (finished-by f (before ws k) (ws k) d.held k p).0 m in r.ends.value ∙ right p.i p.j k (before ws k) (its-prior k) r.here
 
   -- ---- a row's pixels
-  run_row : (o k last i n : ℕ) → Prior ws k last → o / 4 ≡ k → ((a : ℕ) → i ≤ a → a < i + n → lastByteOf f a (o / f.step) ≡ o)
-      → run f last (ws k) o i n ≡ rowFrom ws f (o / f.step) i n
-  unfolding run rowFrom
+  run_row : (o k last i n : ℕ) → Prior ws k last → o / 4 ≡ k → ((a : ℕ) → i ≤ a → a < i + n → last_byte_of f a (o / f.step) ≡ o)
+      → run f last (ws k) o i n ≡ row_from ws f (o / f.step) i n
+  unfolding run row_from
   run_row o k last i zero p e h = refl
   run_row o k last i (suc n) p e h =
       let q = h i (omega arith) (omega arith) in
@@ -69,22 +69,22 @@ module _ (ws : ℕ → ℕ) (f : Feed) (d : Data ws f) where
       ap (λ (m : ℕ). value_of f last (ws k) (m % 4) i) (sym q) ∙ right i (o / f.step) k last p (ap (λ (m : ℕ). m / 4) q ∙ e) in
       ap₂ (λ (u : ℕ) (t : List Pixel). pixel i (o / f.step) u ∷ t) v (run_row o k last (i + 1) n p e (λ a l u. h a (omega arith) (omega arith)))
 
-  pub row-append : (j i m n : ℕ) → rowFrom ws f j i m ++ rowFrom ws f j (i + m) n ≡ rowFrom ws f j i (m + n)
-  unfolding rowFrom
+  pub row-append : (j i m n : ℕ) → row_from ws f j i m ++ row_from ws f j (i + m) n ≡ row_from ws f j i (m + n)
+  unfolding row_from
   row-append j i zero n = rw (add-zero i, zero-add n)
   row-append j i (suc m) n =
       let p : i + suc m ≡ i + 1 + m = omega arith in
       rw (suc-add, p) (ap (λ (t : List Pixel). pixel i j (value_at ws f i j) ∷ t) (row-append j (i + 1) m n))
 
-  row_done : (j : ℕ) → rows ws f j ++ rowFrom ws f j 0 (whole f f.step) ≡ rows ws f (j + 1)
+  row_done : (j : ℕ) → rows ws f j ++ row_from ws f j 0 (whole f f.step) ≡ rows ws f (j + 1)
   unfolding rows
   row_done j = rw (whole-all f f.step d.held.held, add-one)
 
   -- ---- the pixels whose last byte is before byte o
   up_to : ℕ → List Pixel
-  up_to o = cond (ltb (o / f.step) f.height) (rows ws f (o / f.step) ++ rowFrom ws f (o / f.step) 0 (whole f (o % f.step))) (rows ws f f.height)
+  up_to o = cond (ltb (o / f.step) f.height) (rows ws f (o / f.step) ++ row_from ws f (o / f.step) 0 (whole f (o % f.step))) (rows ws f f.height)
 
-  up_in : (o j c : ℕ) → o / f.step ≡ j → o % f.step ≡ c → j < f.height → up_to o ≡ rows ws f j ++ rowFrom ws f j 0 (whole f c)
+  up_in : (o j c : ℕ) → o / f.step ≡ j → o % f.step ≡ c → j < f.height → up_to o ≡ rows ws f j ++ row_from ws f j 0 (whole f c)
   unfolding up_to
   up_in o j c p q l = rw (p, q, lt-ltb j f.height l)
 
@@ -93,15 +93,15 @@ module _ (ws : ℕ → ℕ) (f : Feed) (d : Data ws f) where
   up-past o l = rw (le-ltb (o / f.step) f.height l)
 
   row-start : (o j : ℕ) → o / f.step ≡ j → o % f.step ≡ 0 → j ≤ f.height → up_to o ≡ rows ws f j
-  unfolding rowFrom
+  unfolding row_from
   row-start o j p q l =
       ⊎_elim (λ e. up-past o (omega (arith, p, e)) ∙ ap (rows ws f) (sym e))
       (λ lt. up_in o j 0 p q lt ∙ rw (whole-none f) (append-nil (rows ws f j))) (eq-or-lt_of_le l)
 
   -- ---- one byte more
   byte-row : (o k last : ℕ) → Prior ws k last → o / 4 ≡ k → o / f.step < f.height
-      → by_byte f last (ws k) o ≡ rowFrom ws f (o / f.step) (whole f (o % f.step)) (whole f (o % f.step + 1) - whole f (o % f.step))
-  unfolding by_byte lastByteOf
+      → by_byte f last (ws k) o ≡ row_from ws f (o / f.step) (whole f (o % f.step)) (whole f (o % f.step + 1) - whole f (o % f.step))
+  unfolding by_byte last_byte_of
   byte-row o k last p e l =
       rw (lt-ltb (o / f.step) f.height l)
       (run_row o k last (whole f (o % f.step)) (whole f (o % f.step + 1) - whole f (o % f.step)) p e
@@ -110,16 +110,16 @@ module _ (ws : ℕ → ℕ) (f : Feed) (d : Data ws f) where
       omega (arith, col, div-add-mod' o f.step)))
 
   byte-adds : (o k : ℕ) → o / 4 ≡ k → o / f.step < f.height
-      → up_to o ++ by_byte f (before ws k) (ws k) o ≡ rows ws f (o / f.step) ++ rowFrom ws f (o / f.step) 0 (whole f (o % f.step + 1))
+      → up_to o ++ by_byte f (before ws k) (ws k) o ≡ rows ws f (o / f.step) ++ row_from ws f (o / f.step) 0 (whole f (o % f.step + 1))
   byte-adds o k e l =
       let j = o / f.step in
       let c = o % f.step in
       let q : whole f c + (whole f (c + 1) - whole f c) ≡ whole f (c + 1) = omega (arith, whole-more f c) in
       ap₂ (λ (x y : List Pixel). x ++ y) (up_in o j c refl refl l) (byte-row o k (before ws k) (its-prior k) e l)
-      ∙ append_assoc (rows ws f j) (rowFrom ws f j 0 (whole f c)) (rowFrom ws f j (whole f c) (whole f (c + 1) - whole f c))
+      ∙ append_assoc (rows ws f j) (row_from ws f j 0 (whole f c)) (row_from ws f j (whole f c) (whole f (c + 1) - whole f c))
       ∙ ap (λ (t : List Pixel). rows ws f j ++ t)
-      (ap (λ (n : ℕ). rowFrom ws f j 0 (whole f c) ++ rowFrom ws f j n (whole f (c + 1) - whole f c)) (sym (zero-add (whole f c)))
-      ∙ row-append j 0 (whole f c) (whole f (c + 1) - whole f c) ∙ ap (rowFrom ws f j 0) q)
+      (ap (λ (n : ℕ). row_from ws f j 0 (whole f c) ++ row_from ws f j n (whole f (c + 1) - whole f c)) (sym (zero-add (whole f c)))
+      ∙ row-append j 0 (whole f c) (whole f (c + 1) - whole f c) ∙ ap (row_from ws f j 0) q)
 
   -- in the row, at its end, or past the last row
   next-in : (o : ℕ) → o % f.step + 1 < f.step → ((o + 1) / f.step ≡ o / f.step) × ((o + 1) % f.step ≡ o % f.step + 1)
@@ -146,7 +146,7 @@ module _ (ws : ℕ → ℕ) (f : Feed) (d : Data ws f) where
     where
       at-end : o / f.step < f.height → o % f.step + 1 ≡ f.step → up_to o ++ by_byte f (before ws k) (ws k) o ≡ up_to (o + 1)
       at-end l q =
-          byte-adds o k e l ∙ ap (λ (n : ℕ). rows ws f (o / f.step) ++ rowFrom ws f (o / f.step) 0 (whole f n)) q ∙ row_done (o / f.step)
+          byte-adds o k e l ∙ ap (λ (n : ℕ). rows ws f (o / f.step) ++ row_from ws f (o / f.step) 0 (whole f n)) q ∙ row_done (o / f.step)
           ∙ sym (row-start (o + 1) (o / f.step + 1) (next_row o q).0 (next_row o q).1 (omega arith))
 
       within : o / f.step < f.height → o % f.step + 1 < f.step → up_to o ++ by_byte f (before ws k) (ws k) o ≡ up_to (o + 1)
@@ -156,23 +156,23 @@ module _ (ws : ℕ → ℕ) (f : Feed) (d : Data ws f) where
       inside l = ⊎_elim (at-end l) (within l) (eq-or-lt_of_le (omega (arith, mod-lt o (step-some f d.held))))
 
   -- ---- four bytes, and so a word
-  bytes_next : (o k n : ℕ) → ((t : ℕ) → t < n → (o + t) / 4 ≡ k) → up_to o ++ byBytes f (before ws k) (ws k) o n ≡ up_to (o + n)
-  unfolding byBytes
+  bytes_next : (o k n : ℕ) → ((t : ℕ) → t < n → (o + t) / 4 ≡ k) → up_to o ++ by_bytes f (before ws k) (ws k) o n ≡ up_to (o + n)
+  unfolding by_bytes
   bytes_next o k zero e = append-nil (up_to o) ∙ ap up_to (sym (add-zero o))
   bytes_next o k (suc n) e =
       let z : o / 4 ≡ k = rw (add-zero o) at (e 0 (omega arith)) in
       let q : o + 1 + n ≡ o + suc n = omega arith in
-      sym (append_assoc (up_to o) (by_byte f (before ws k) (ws k) o) (byBytes f (before ws k) (ws k) (o + 1) n))
-      ∙ ap (λ (t : List Pixel). t ++ byBytes f (before ws k) (ws k) (o + 1) n) (byte_next o k z)
+      sym (append_assoc (up_to o) (by_byte f (before ws k) (ws k) o) (by_bytes f (before ws k) (ws k) (o + 1) n))
+      ∙ ap (λ (t : List Pixel). t ++ by_bytes f (before ws k) (ws k) (o + 1) n) (byte_next o k z)
       ∙ bytes_next (o + 1) k n (λ t l. let r : o + 1 + t ≡ o + suc t = omega arith in rw r (e (suc t) (omega arith)))
       ∙ ap up_to q
 
-  words_up : (n : ℕ) → byWords ws f n ≡ up_to (4 * n)
-  unfolding byWords by_word rows
+  words_up : (n : ℕ) → by_words ws f n ≡ up_to (4 * n)
+  unfolding by_words by_word rows
   words_up zero = sym (row-start 0 0 (zero-div f.step) (zero-mod f.step) (omega arith))
   words_up (suc n) =
       let q : 4 * n + 4 ≡ 4 * suc n = omega arith in
-      ap (λ (t : List Pixel). t ++ byBytes f (before ws n) (ws n) (4 * n) 4) (words_up n)
+      ap (λ (t : List Pixel). t ++ by_bytes f (before ws n) (ws n) (4 * n) 4) (words_up n)
       ∙ bytes_next (4 * n) n 4 (λ t l. omega arith) ∙ ap up_to q
 
   -- ---- what is kept before the first word counts for nothing
@@ -183,7 +183,7 @@ module _ (ws : ℕ → ℕ) (f : Feed) (d : Data ws f) where
       (lt-or-le (o / f.step) f.height)
 
   pub word-any : (k last : ℕ) → Prior ws k last → by_word f last (ws k) k ≡ by_word f (before ws k) (ws k) k
-  unfolding by_word byBytes
+  unfolding by_word by_bytes
   word-any k last p =
       rw (
         byte-any (4 * k) k last p (omega arith),
@@ -193,7 +193,7 @@ module _ (ws : ℕ → ℕ) (f : Feed) (d : Data ws f) where
       )
 
   -- ---- once all bytes have come, all rows are there
-  up-all : (o : ℕ) → 0 < f.height → (f.height - 1) * f.step + rowLength f.bytes f.width ≤ o → up_to o ≡ rows ws f f.height
+  up-all : (o : ℕ) → 0 < f.height → (f.height - 1) * f.step + row_length f.bytes f.width ≤ o → up_to o ≡ rows ws f f.height
   up-all o h l = ⊎_elim last_row (up-past o) (lt-or-le (o / f.step) f.height)
     where
       last_row : o / f.step < f.height → up_to o ≡ rows ws f f.height
@@ -201,16 +201,16 @@ module _ (ws : ℕ → ℕ) (f : Feed) (d : Data ws f) where
           let a : f.height - 1 ≤ o / f.step = (le-div_iff_mul-le {k = f.step} {x = f.height - 1} {y = o} (step-some f d.held)).1 (omega arith) in
           let j : o / f.step ≡ f.height - 1 = omega arith in
           let p = ap (λ (n : ℕ). n * f.step) j in
-          let c : rowLength f.bytes f.width ≤ o % f.step = omega (arith, p, div-add-mod' o f.step) in
+          let c : row_length f.bytes f.width ≤ o % f.step = omega (arith, p, div-add-mod' o f.step) in
           let q : f.height - 1 + 1 ≡ f.height = omega arith in
           up_in o (f.height - 1) (o % f.step) j refl (omega arith)
-          ∙ ap (λ (n : ℕ). rows ws f (f.height - 1) ++ rowFrom ws f (f.height - 1) 0 n) (whole-all f (o % f.step) c ∙ sym (whole-all f f.step d.held.held))
+          ∙ ap (λ (n : ℕ). rows ws f (f.height - 1) ++ row_from ws f (f.height - 1) 0 n) (whole-all f (o % f.step) c ∙ sym (whole-all f f.step d.held.held))
           ∙ row_done (f.height - 1) ∙ ap (rows ws f) q
 
-  pub all_words : 0 < f.height → byWords ws f (words_of f) ≡ rows ws f f.height
-  unfolding dataWords
+  pub all_words : 0 < f.height → by_words ws f (words_of f) ≡ rows ws f f.height
+  unfolding data_words
   all_words h =
       let w = some-pixel f d.held in
       let e = some-needed f.bytes f.step f.width f.height (λ z. omega arith) (λ z. omega arith) in
-      words_up ((dataBytes f.bytes f.step f.width f.height + 3) / 4)
-      ∙ up-all (4 * ((dataBytes f.bytes f.step f.width f.height + 3) / 4)) h (omega arith)
+      words_up ((data_bytes f.bytes f.step f.width f.height + 3) / 4)
+      ∙ up-all (4 * ((data_bytes f.bytes f.step f.width f.height + 3) / 4)) h (omega arith)

@@ -1,12 +1,12 @@
 -- What functions of this crate ask for. No promise rests on it.
 -- Assumes nothing.
 use Rattle.std.specs.Prelude.{true, ◌≡◌, ℕ, ◌+◌, ◌-◌, ◌^◌, ◌<◌, ◌≤◌}
-use Rattle.formats.specs.Step.{rowLength}
+use Rattle.formats.specs.Step.{row_length}
 use Rattle.surface.specs.Asked.{Colour, OnColour}
 use Rattle.surface.specs.Pixels.{origin}
 use Rattle.ink.specs.declared.Ink.{Ink}
 use Rattle.paint.specs.declared.Clip.{Clip}
-use Rattle.paint.specs.Clip.{inClip}
+use Rattle.paint.specs.Clip.{in_clip}
 use Rattle.paint.specs.Asked.{Bits12}
 use Rattle.host.specs.declared.Feed.{Feed}
 
@@ -20,12 +20,12 @@ pub record Sizes (f : Feed) : Type 0 where
 -- the same, with pixels in a row, which the step holds
 pub record Rows (f : Feed) : Type 0 where
   pub sizes : Sizes f
-  pub held : rowLength f.bytes f.width ≤ f.step
-  pub some : 0 < rowLength f.bytes f.width
+  pub held : row_length f.bytes f.width ≤ f.step
+  pub some : 0 < row_length f.bytes f.width
 
 -- every pixel of the rectangle that is inside the clip is on the target, in a memory of len bytes
 pub record OpenOn (ink : Ink) (clip : Clip) (feed : Feed) (len : ℕ) : Type 0 where
-  pub on : (i j : ℕ) → i < feed.width → j < feed.height → inClip clip (feed.x + i) (feed.y + j) ≡ true
+  pub on : (i j : ℕ) → i < feed.width → j < feed.height → in_clip clip (feed.x + i) (feed.y + j) ≡ true
       → OnColour ink.target len (feed.x + i - origin) (feed.y + j - origin)
 
 -- a host blit that was opened

@@ -2,24 +2,24 @@
 -- a pixel is drawn when its last byte has come, and what follows a row's pixels finishes none.
 -- Assumes nothing.
 use Rattle.std.specs.Prelude.{cond, List, [], ◌∷◌, ◌++◌, ℕ, zero, suc, ◌+◌, ◌-◌, ◌*◌, ◌/◌, ◌%◌, ◌^◌, min, eqb, ltb}
-use Rattle.formats.specs.Step.{bitsPer, dataWords}
+use Rattle.formats.specs.Step.{bits_per, data_words}
 use Rattle.host.specs.declared.Feed.{Feed}
 
 -- ---- places in the data
 
 unfoldable pub bits_of : Feed → ℕ
-bits_of f = bitsPer f.bytes
+bits_of f = bits_per f.bytes
 
 -- the last byte of pixel i in its row: that of its last bit
-unfoldable pub lastColumn : Feed → ℕ → ℕ
-lastColumn f i = ((i + 1) * bits_of f - 1) / 8
+unfoldable pub last_column : Feed → ℕ → ℕ
+last_column f i = ((i + 1) * bits_of f - 1) / 8
 
 -- the last byte of pixel (i, j): rows are at the step
-unfoldable pub lastByteOf : Feed → ℕ → ℕ → ℕ
-lastByteOf f i j = j * f.step + lastColumn f i
+unfoldable pub last_byte_of : Feed → ℕ → ℕ → ℕ
+last_byte_of f i j = j * f.step + last_column f i
 
 abbrev pub words_of : Feed → ℕ
-words_of f = dataWords f.bytes f.step f.width f.height
+words_of f = data_words f.bytes f.step f.width f.height
 
 -- ---- a pixel and its source value
 pub record Pixel : Type 0 where
@@ -60,18 +60,18 @@ by_byte f last word o =
     []
 
 -- by n bytes from byte o on
-unfoldable pub byBytes : Feed → ℕ → ℕ → ℕ → ℕ → List Pixel
-byBytes f last word o zero = []
-byBytes f last word o (suc n) = by_byte f last word o ++ byBytes f last word (o + 1) n
+unfoldable pub by_bytes : Feed → ℕ → ℕ → ℕ → ℕ → List Pixel
+by_bytes f last word o zero = []
+by_bytes f last word o (suc n) = by_byte f last word o ++ by_bytes f last word (o + 1) n
 
 -- by word number k; `last` is the word before it
 unfoldable pub by_word : Feed → ℕ → ℕ → ℕ → List Pixel
-by_word f last word k = byBytes f last word (4 * k) 4
+by_word f last word k = by_bytes f last word (4 * k) 4
 
 -- by words from number k on; `last` is the word before them
-unfoldable pub byRun : Feed → ℕ → List ℕ → ℕ → List Pixel
-byRun f last [] k = []
-byRun f last (w ∷ ws) k = by_word f last w k ++ byRun f w ws (k + 1)
+unfoldable pub by_run : Feed → ℕ → List ℕ → ℕ → List Pixel
+by_run f last [] k = []
+by_run f last (w ∷ ws) k = by_word f last w k ++ by_run f w ws (k + 1)
 
 -- the last word of a run, or the one before it where it has none
 unfoldable pub last_of : ℕ → List ℕ → ℕ

@@ -1,11 +1,11 @@
 // Host blits: the pixels that a word of data finishes, painted. Nothing here knows a register's offset or an answer's number.
 ghost use Rattle.std.specs.Prelude.{◌≡◌, [], ◌∷◌, ◌+◌, ◌-◌, ◌*◌, ◌/◌, ◌%◌, ◌^◌, ◌<◌, length};
-ghost use Rattle.formats.specs.Step.{bitsPer, dataWords};
+ghost use Rattle.formats.specs.Step.{bits_per, data_words};
 ghost use Rattle.paint.specs.Paint.{state, tallied};
 ghost use Rattle.paint.specs.Asked.{Room};
-ghost use Rattle.host.specs.Host.{pixel, value_of, whole, by_byte, by_word, byRun};
+ghost use Rattle.host.specs.Host.{pixel, value_of, whole, by_byte, by_word, by_run};
 ghost use Rattle.host.specs.Asked.{Sizes, Opened, Waits, WaitsFor};
-ghost use Rattle.host.specs.Draw.{hostSource, drawn};
+ghost use Rattle.host.specs.Draw.{host_source, drawn};
 
 use ink::Ink;
 use paint::{Clip, Source, Tally};
@@ -25,7 +25,7 @@ pub struct Feed {
 // The words that a blit needs.
 pub fn words_needed(feed: Feed) -> u32
     requires { Sizes feed }
-    ensures { result ≡ dataWords feed.bytes feed.step feed.width feed.height }
+    ensures { result ≡ data_words feed.bytes feed.step feed.width feed.height }
 {
     if feed.width == 0 {
         return 0;
@@ -40,7 +40,7 @@ pub fn words_needed(feed: Feed) -> u32
 // The pixels that so many bytes hold whole.
 fn pixels_of(bytes: u32, count: u32) -> u32
     requires { (bytes < 5) × (count < 2 ^ 18) }
-    ensures { result ≡ 8 * count / bitsPer bytes }
+    ensures { result ≡ 8 * count / bits_per bytes }
 {
     if bytes == 0 {
         return 8 * count;
@@ -97,7 +97,7 @@ pub fn value_of(feed: Feed, last: u32, word: u32, t: u32, i: u32) -> u32
 }
 
 fn source_of(ink: Ink, feed: Feed, v: u32) -> Source
-    ensures { result ≡ hostSource ink feed v }
+    ensures { result ≡ host_source ink feed v }
 {
     let bytes = feed.bytes;
     if bytes == 0 {
@@ -202,7 +202,7 @@ pub fn host_words(
     words: &[u32],
 ) -> Tally
     requires { WaitsFor ink c feed (length mem.old) taken (length words.now) }
-    ensures { tallied mem.new result ≡ drawn ink pattern c feed (byRun feed last words.now taken) (state mem.old 0 0) }
+    ensures { tallied mem.new result ≡ drawn ink pattern c feed (by_run feed last words.now taken) (state mem.old 0 0) }
 {
     let mut n = Tally {
         count: 0,

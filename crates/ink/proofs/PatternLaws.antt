@@ -12,9 +12,9 @@ use lib.Dec.{eqb}
 use lib.ListN.{length, get_or, set, replicate}
 use lib.Seq.{get_or-set_same, get_or-set_other, ext_get_or}
 use Rattle.surface.proofs.Lists.{by_cases}
-use Rattle.surface.specs.Place.{readBytes}
+use Rattle.surface.specs.Place.{read_bytes}
 use Rattle.ink.specs.declared.Ink.{Ink}
-use Rattle.ink.specs.Pattern.{patternBit, patternPixel, patternIn, RowOf, ValuesOf}
+use Rattle.ink.specs.Pattern.{pattern_bit, pattern_pixel, pattern_in, RowOf, ValuesOf}
 use Rattle.ink.specs.Asked.{Cell}
 
 -- the four bytes from a pixel's place on are in the pattern, however few of them it has
@@ -28,33 +28,33 @@ pub bytes_pos : (n : ℕ) → 0 < 256 ^ n
 bytes_pos zero = omega arith
 bytes_pos (suc n) = let h = bytes_pos n in rw (pow-suc 256 n) (omega arith)
 
-read_low : (m : List ℕ) (at : ℕ → ℕ) (k n j : ℕ) → ((i : ℕ) → get_or m i 0 < 256) → readBytes m at k (n + j) % 256 ^ n ≡ readBytes m at k n
-unfolding readBytes
+read_low : (m : List ℕ) (at : ℕ → ℕ) (k n j : ℕ) → ((i : ℕ) → get_or m i 0 < 256) → read_bytes m at k (n + j) % 256 ^ n ≡ read_bytes m at k n
+unfolding read_bytes
 read_low m at k zero j b = omega arith
 read_low m at k (suc n) j b =
     let e : suc n + j ≡ suc (n + j) = omega arith in
-    let v = get_or m (at k) 0 + 256 * readBytes m at (suc k) (n + j) in
+    let v = get_or m (at k) 0 + 256 * read_bytes m at (suc k) (n + j) in
     let low : v % 256 ≡ get_or m (at k) 0 = omega (arith, b (at k)) in
-    let high : v / 256 ≡ readBytes m at (suc k) (n + j) = omega (arith, b (at k)) in
+    let high : v / 256 ≡ read_bytes m at (suc k) (n + j) = omega (arith, b (at k)) in
     let split : v % (256 ^ n * 256) ≡ v / 256 % 256 ^ n * 256 + v % 256 = mod-mul v (bytes_pos n) (omega arith) in
     rw (e, pow-suc 256 n, split, low, high, read_low m at (suc k) n j b) (omega arith)
 
-word-there : (pattern : List ℕ) (at : ℕ) → get_or pattern at 0 + 256 * (get_or pattern (at + 1) 0 + 256 * (get_or pattern (at + 2) 0 + 256 * get_or pattern (at + 3) 0)) ≡ readBytes pattern (λ k. at + k) 0 4
-unfolding readBytes
+word-there : (pattern : List ℕ) (at : ℕ) → get_or pattern at 0 + 256 * (get_or pattern (at + 1) 0 + 256 * (get_or pattern (at + 2) 0 + 256 * get_or pattern (at + 3) 0)) ≡ read_bytes pattern (λ k. at + k) 0 4
+unfolding read_bytes
 word-there pattern at = let first = ap (λ (i : ℕ). get_or pattern i 0) (add-zero at) in omega (arith, first)
 
 -- ---- the value by the row's byte and the four bytes from the pixel's place on
 pub value_there : (ink : Ink) (pattern : List ℕ) (column row : ℕ) {byte word : ℕ} → Cell ink.target.bytes column row → ((i : ℕ) → get_or pattern i 0 < 256) → byte ≡ get_or pattern row 0
     → word ≡ get_or pattern ((row * 8 + column) * ink.target.bytes) 0 + 256 * (get_or pattern ((row * 8 + column) * ink.target.bytes + 1) 0
     + 256 * (get_or pattern ((row * 8 + column) * ink.target.bytes + 2) 0 + 256 * get_or pattern ((row * 8 + column) * ink.target.bytes + 3) 0))
-    → cond ink.mono (cond (eqb (byte / 2 ^ (7 - column) % 2) 1) ink.fore ink.back) (word % 256 ^ ink.target.bytes) ≡ patternIn ink pattern column row
-unfolding patternIn patternBit patternPixel
+    → cond ink.mono (cond (eqb (byte / 2 ^ (7 - column) % 2) 1) ink.fore ink.back) (word % 256 ^ ink.target.bytes) ≡ pattern_in ink pattern column row
+unfolding pattern_in pattern_bit pattern_pixel
 value_there ink pattern column row {byte} {word} cell small b w =
     let n = ink.target.bytes in
     let at = (row * 8 + column) * n in
     let four : 4 ≡ n + (4 - n) = omega (arith, cell.four) in
-    let pixel : word % 256 ^ n ≡ readBytes pattern (λ k. at + k) 0 n =
-    ap (λ (v : ℕ). v % 256 ^ n) (w ∙ word-there pattern at ∙ ap (readBytes pattern (λ k. at + k) 0) four) ∙ read_low pattern (λ k. at + k) 0 n (4 - n) small in
+    let pixel : word % 256 ^ n ≡ read_bytes pattern (λ k. at + k) 0 n =
+    ap (λ (v : ℕ). v % 256 ^ n) (w ∙ word-there pattern at ∙ ap (read_bytes pattern (λ k. at + k) 0) four) ∙ read_low pattern (λ k. at + k) 0 n (4 - n) small in
     ap₂ (λ (a v : ℕ). cond ink.mono (cond (eqb (a / 2 ^ (7 - column) % 2) 1) ink.fore ink.back) v) b pixel
 
 -- ---- lists filled from the front

@@ -1,7 +1,7 @@
 // What does not change within a command, and how its pattern lies.
 ghost use Rattle.std.specs.Prelude.{◌≡◌, cond, ◌+◌, ◌-◌, ◌*◌, ◌/◌, ◌%◌, ◌^◌, ◌<◌, ◌≤◌, eqb, get_or};
 ghost use Rattle.surface.specs.Asked.{Colour};
-ghost use Rattle.ink.specs.Pattern.{patternColumn, patternRow, patternIn, patternValue, RowOf, ValuesOf};
+ghost use Rattle.ink.specs.Pattern.{pattern_column, pattern_row, pattern_in, pattern_value, RowOf, ValuesOf};
 ghost use Rattle.ink.specs.Asked.{Cell};
 
 use surface::Surface;
@@ -16,32 +16,32 @@ pub struct Ink {
     pub rop1: u32,
     pub rop2: u32,
     pub rop3: u32,
-    pub srcKey: bool,
-    pub srcMin: u32,
-    pub srcMax: u32,
-    pub dstKey: bool,
-    pub dstMin: u32,
-    pub dstMax: u32,
+    pub src_key: bool,
+    pub src_min: u32,
+    pub src_max: u32,
+    pub dst_key: bool,
+    pub dst_min: u32,
+    pub dst_max: u32,
     pub mono: bool,
     pub forced: bool,
-    pub patX: u32,
-    pub patY: u32,
+    pub pat_x: u32,
+    pub pat_y: u32,
     pub clear: bool,
 }
 
 pub fn pattern_column(ink: Ink, x: u32) -> u32
-    ensures { (result ≡ patternColumn ink x) × (result < 8) }
+    ensures { (result ≡ pattern_column ink x) × (result < 8) }
 {
-    (x % 8 + ink.patX % 8) % 8
+    (x % 8 + ink.pat_x % 8) % 8
 }
 
 pub fn pattern_row(ink: Ink, y: u32) -> u32
-    ensures { (result ≡ patternRow ink y) × (result < 8) }
+    ensures { (result ≡ pattern_row ink y) × (result < 8) }
 {
     if ink.forced {
         return 0;
     }
-    (y % 8 + ink.patY % 8) % 8
+    (y % 8 + ink.pat_y % 8) % 8
 }
 
 pub fn pattern_byte(pattern: [u8; 256], at: u32) -> u32
@@ -101,7 +101,7 @@ fn value_of(ink: Ink, byte: u32, column: u32, word: u32) -> u32
 
 fn pattern_in(ink: Ink, pattern: [u8; 256], column: u32, row: u32) -> u32
     requires { Cell ink.target.bytes column row }
-    ensures { result ≡ patternIn ink pattern column row }
+    ensures { result ≡ pattern_in ink pattern column row }
 {
     let at = ((row * 8 + column) * ink.target.bytes) as usize;
     let byte = wide(pattern[row as usize]);
@@ -117,7 +117,7 @@ fn pattern_in(ink: Ink, pattern: [u8; 256], column: u32, row: u32) -> u32
 // The pattern at a pixel.
 pub fn pattern_at(ink: Ink, pattern: [u8; 256], x: u32, y: u32) -> u32
     requires { Colour ink.target }
-    ensures { result ≡ patternValue ink pattern x y }
+    ensures { result ≡ pattern_value ink pattern x y }
 {
     pattern_in(ink, pattern, pattern_column(ink, x), pattern_row(ink, y))
 }
@@ -125,7 +125,7 @@ pub fn pattern_at(ink: Ink, pattern: [u8; 256], x: u32, y: u32) -> u32
 // The same of a pattern that is lent, so that a loop over many pixels copies it once.
 pub fn pattern_seen(ink: Ink, pattern: &[u8; 256], x: u32, y: u32) -> u32
     requires { Colour ink.target }
-    ensures { result ≡ patternValue ink pattern.now x y }
+    ensures { result ≡ pattern_value ink pattern.now x y }
 {
     let column = pattern_column(ink, x);
     let row = pattern_row(ink, y);

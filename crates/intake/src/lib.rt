@@ -2,7 +2,7 @@
 // byte is there.
 ghost use Rattle.std.specs.Prelude.{◌≡◌, ◌*◌, ◌≤◌, length};
 ghost use Rattle.packets.specs.Answers.{lent, call, noting, called};
-ghost use Rattle.intake.specs.Intake.{machine, byEngine, fedOf};
+ghost use Rattle.intake.specs.Intake.{machine, by_engine, fed_of};
 
 use engine::Engine;
 use packets::{Event, Reader};
@@ -26,7 +26,7 @@ fn tell(
     event: Event,
     used: usize,
 ) -> Fed
-    ensures { fedOf result mem.new answers.new ≡ noting byEngine event reader (machine engine mem.old) (lent answers.old answered) used }
+    ensures { fed_of result mem.new answers.new ≡ noting by_engine event reader (machine engine mem.old) (lent answers.old answered) used }
 {
     match event {
         Event::Nothing => Fed {
@@ -70,7 +70,7 @@ pub fn feed(
     piece: &[u8],
     answers: &mut [u32],
 ) -> Fed
-    ensures answers_after { fedOf result mem.new answers.new ≡ called byEngine reader (machine engine mem.old) piece.now answers.old }
+    ensures answers_after { fed_of result mem.new answers.new ≡ called by_engine reader (machine engine mem.old) piece.now answers.old }
     ensures within { (result.used ≤ length piece.now) × (result.answered * 3 ≤ length answers.new) }
 {
     let mut f = Fed {

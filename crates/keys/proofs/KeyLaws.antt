@@ -9,7 +9,7 @@ use native.Mathlib.Omega.{arith}
 use borrow.Author.Tests.{lt-leb, eq-eqb, ne_eqb, leb-true}
 use lib.Dec.{leb, eqb, leb-zero, leb-suc-zero, eqb-suc-zero}
 use Rattle.colour.proofs.Bits.{fields}
-use Rattle.keys.specs.Key.{Channel, chan, channels, channel, within, allWithin, keyMatch}
+use Rattle.keys.specs.Key.{Channel, chan, channels, channel, within, all_within, key_match}
 
 -- a channel of a list of channels
 pub data Among (c : Channel) : List Channel → Type 0 where
@@ -25,19 +25,19 @@ none_within c lo hi v h = by-test (leb (channel c lo) (channel c v)) refl
     by-test true e = lt-leb (channel c v) (channel c hi) (omega (arith, leb-true (channel c lo) (channel c v) e))
     by-test false e = refl
 
-none-all : {c : Channel} {cs : List Channel} (lo hi v : ℕ) → Among c cs → channel c hi < channel c lo → allWithin cs lo hi v ≡ false
-none-all {c} lo hi v (here {cs}) h = ap (λ t. t && allWithin cs lo hi v) (none_within c lo hi v h)
+none-all : {c : Channel} {cs : List Channel} (lo hi v : ℕ) → Among c cs → channel c hi < channel c lo → all_within cs lo hi v ≡ false
+none-all {c} lo hi v (here {cs}) h = ap (λ t. t && all_within cs lo hi v) (none_within c lo hi v h)
 none-all lo hi v (there {d} {cs} m) h = ap (λ t. within d lo hi v && t) (none-all lo hi v m h) ∙ and-false (within d lo hi v)
 
-pub never : {c : Channel} (bytes lo hi v : ℕ) → Among c (channels bytes) → channel c hi < channel c lo → keyMatch bytes lo hi v ≡ false
-unfolding keyMatch
+pub never : {c : Channel} (bytes lo hi v : ℕ) → Among c (channels bytes) → channel c hi < channel c lo → key_match bytes lo hi v ≡ false
+unfolding key_match
 never bytes lo hi v m h = none-all lo hi v m h
 
 -- ---- a key of 0 to 0
 
 -- the bits of a pixel that are colour: all but the top byte of four
-abbrev pub colourBits : ℕ → ℕ
-colourBits bytes = cond (eqb bytes 1) 8 (cond (eqb bytes 2) 16 24)
+abbrev pub colour_bits : ℕ → ℕ
+colour_bits bytes = cond (eqb bytes 1) 8 (cond (eqb bytes 2) 16 24)
 
 -- one channel, and all of them: their sum is 0
 at_zero : (x : ℕ) → (leb 0 x && leb x 0) ≡ eqb x 0
@@ -56,7 +56,7 @@ black-channel : (c : Channel) (v : ℕ) → within c 0 0 v ≡ eqb (channel c v)
 unfolding within
 black-channel c v = rw (zero-div, zero-mod) (at_zero (channel c v))
 
-black-all : (cs : List Channel) (v : ℕ) → allWithin cs 0 0 v ≡ eqb (sum cs v) 0
+black-all : (cs : List Channel) (v : ℕ) → all_within cs 0 0 v ≡ eqb (sum cs v) 0
 unfolding sum
 black-all [] v = refl
 black-all (c ∷ cs) v = ap₂ (λ s t. s && t) (black-channel c v) (black-all cs v) ∙ zero-and (channel c v) (sum cs v)
@@ -78,6 +78,6 @@ black-of false false v =
     together (v / 2 ^ 0 % 256 + (v / 2 ^ 8 % 256 + (v / 2 ^ 16 % 256 + 0))) (v % 2 ^ 24)
     (λ e. omega (arith, fields v 8 8 8)) (λ e. omega (arith, fields v 8 8 8))
 
-pub black-only : (bytes v : ℕ) → keyMatch bytes 0 0 v ≡ eqb (v % 2 ^ colourBits bytes) 0
-unfolding keyMatch
+pub black-only : (bytes v : ℕ) → key_match bytes 0 0 v ≡ eqb (v % 2 ^ colour_bits bytes) 0
+unfolding key_match
 black-only bytes v = black-all (channels bytes) v ∙ black-of (eqb bytes 1) (eqb bytes 2) v

@@ -23,9 +23,9 @@ channel c v = v / 2 ^ c.start % c.values
 unfoldable pub within : Channel → ℕ → ℕ → ℕ → Bool
 within c lo hi v = leb (channel c lo) (channel c v) && leb (channel c v) (channel c hi)
 
-abbrev pub allWithin : List Channel → ℕ → ℕ → ℕ → Bool
-allWithin [] lo hi v = true
-allWithin (c ∷ cs) lo hi v = within c lo hi v && allWithin cs lo hi v
+abbrev pub all_within : List Channel → ℕ → ℕ → ℕ → Bool
+all_within [] lo hi v = true
+all_within (c ∷ cs) lo hi v = within c lo hi v && all_within cs lo hi v
 
-unfoldable pub keyMatch : ℕ → ℕ → ℕ → ℕ → Bool
-keyMatch bytes lo hi v = allWithin (channels bytes) lo hi v
+unfoldable pub key_match : ℕ → ℕ → ℕ → ℕ → Bool
+key_match bytes lo hi v = all_within (channels bytes) lo hi v

@@ -36,9 +36,9 @@ most r (suc zero) = r.high1
 most r (suc (suc i)) = r.high2
 
 -- channels of v, from number i on, are in their ranges
-abbrev pub allIn : List Channel → Range → ℕ → ℕ → Bool
-allIn [] r i v = true
-allIn (c ∷ cs) r i v = (leb (least r i) (channel c v) && leb (channel c v) (most r i)) && allIn cs r (suc i) v
+abbrev pub all_in : List Channel → Range → ℕ → ℕ → Bool
+all_in [] r i v = true
+all_in (c ∷ cs) r i v = (leb (least r i) (channel c v) && leb (channel c v) (most r i)) && all_in cs r (suc i) v
 
 unfoldable pub in_range : ℕ → Range → ℕ → Bool
-in_range bytes r v = allIn (channels bytes) r 0 v
+in_range bytes r v = all_in (channels bytes) r 0 v

@@ -1,6 +1,6 @@
 // Colour keys. A format is its bytes per pixel.
 ghost use Rattle.std.specs.Prelude.{◌≡◌, true, ◌&&◌, ◌<◌, ◌%◌, leb};
-ghost use Rattle.keys.specs.Key.{chan, channel, keyMatch};
+ghost use Rattle.keys.specs.Key.{chan, channel, key_match};
 ghost use Rattle.keys.specs.Range.{range_of, in_range};
 ghost use Rattle.keys.specs.Asked.{listed};
 
@@ -87,7 +87,7 @@ pub fn in_range(bytes: u32, r: Range, v: u32) -> bool
 
 // Whether every channel of v is between those of lo and hi.
 pub fn key_match(bytes: u32, lo: u32, hi: u32, v: u32) -> bool
-    ensures { result ≡ keyMatch bytes lo hi v }
+    ensures { result ≡ key_match bytes lo hi v }
 {
     in_range(bytes, range_of(bytes, lo, hi), v)
 }

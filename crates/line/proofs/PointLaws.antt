@@ -13,17 +13,17 @@ use lib.Dec.{leb}
 use lib.ListN.{length}
 use Rattle.line.specs.declared.Point.{Point}
 use Rattle.line.specs.declared.Line.{Line}
-use Rattle.line.specs.Line.{point, far, towards, xMajor, longer, shorter, place, pointAt, pointsFrom, pointCount, points}
+use Rattle.line.specs.Line.{point, far, towards, x_major, longer, shorter, place, point_at, points_from, point_count, points}
 use Rattle.line.specs.Asked.{Within, Placed}
 use Rattle.line.proofs.Sides.{either, longer-x, longer-y, shorter-x, shorter-y, shorter-le, count-le, aside-first, aside-last, aside-le}
 
 -- ---- by the major axis
 module _ (l : Line) (a b : ℕ) where
-  pub place-x : xMajor l ≡ true → place l a b ≡ point (towards l.x0 l.x1 a) (towards l.y0 l.y1 b)
+  pub place-x : x_major l ≡ true → place l a b ≡ point (towards l.x0 l.x1 a) (towards l.y0 l.y1 b)
   unfolding place
   place-x e = rw e
 
-  pub place-y : xMajor l ≡ false → place l a b ≡ point (towards l.x0 l.x1 b) (towards l.y0 l.y1 a)
+  pub place-y : x_major l ≡ false → place l a b ≡ point (towards l.x0 l.x1 b) (towards l.y0 l.y1 a)
   unfolding place
   place-y e = rw e
 
@@ -36,41 +36,41 @@ towards-all : (a b : ℕ) → towards a b (far a b) ≡ b
 unfolding towards far
 towards-all a b = either (leb a b) (λ e. rw e (omega (arith, leb-true a b e))) (λ e. rw e (omega (arith, leb-false a b e)))
 
-pub first : (l : Line) → pointAt l 0 ≡ point l.x0 l.y0
-unfolding pointAt
+pub first : (l : Line) → point_at l 0 ≡ point l.x0 l.y0
+unfolding point_at
 first l =
     rw (aside-first (longer l) (shorter l))
-    (either (xMajor l) (λ e. place-x l 0 0 e ∙ simp towards_none) (λ e. place-y l 0 0 e ∙ simp towards_none))
+    (either (x_major l) (λ e. place-x l 0 0 e ∙ simp towards_none) (λ e. place-y l 0 0 e ∙ simp towards_none))
 
-pub last : (l : Line) → pointAt l (longer l) ≡ point l.x1 l.y1
-unfolding pointAt
+pub last : (l : Line) → point_at l (longer l) ≡ point l.x1 l.y1
+unfolding point_at
 last l =
     rw (aside-last (longer l) (shorter l) (shorter-le l))
-    (either (xMajor l) (λ e. place-x l (longer l) (shorter l) e ∙ rw (longer-x l e, shorter-y l e, towards-all l.x0 l.x1, towards-all l.y0 l.y1))
+    (either (x_major l) (λ e. place-x l (longer l) (shorter l) e ∙ rw (longer-x l e, shorter-y l e, towards-all l.x0 l.x1, towards-all l.y0 l.y1))
     (λ e. place-y l (longer l) (shorter l) e ∙ rw (longer-y l e, shorter-x l e, towards-all l.x0 l.x1, towards-all l.y0 l.y1)))
 
 -- ---- how many
-from-length : (l : Line) (i k : ℕ) → length (pointsFrom l i k) ≡ k
-unfolding pointsFrom
+from-length : (l : Line) (i k : ℕ) → length (points_from l i k) ≡ k
+unfolding points_from
 from-length l i zero = refl
 from-length l i (suc k) = ap suc (from-length l (i + 1) k)
 
-pub points-length : (l : Line) → length (points l) ≡ pointCount l
+pub points-length : (l : Line) → length (points l) ≡ point_count l
 unfolding points
-points-length l = from-length l 0 (pointCount l)
+points-length l = from-length l 0 (point_count l)
 
 -- ---- what holds of point i for each i holds of each point
-pub from_each : (P : Point → Type 0) (l : Line) (i k : ℕ) → ((j : ℕ) → i ≤ j → j < i + k → P (pointAt l j))
-    → (p : Point) → Memᴰ p (pointsFrom l i k) → P p
-unfolding pointsFrom
+pub from_each : (P : Point → Type 0) (l : Line) (i k : ℕ) → ((j : ℕ) → i ≤ j → j < i + k → P (point_at l j))
+    → (p : Point) → Memᴰ p (points_from l i k) → P p
+unfolding points_from
 from_each P l i zero f p m = absurd (Memᴰ.not-nil m)
 from_each P l i (suc k) f p m =
     ⊎_elim (λ e. subst P (sym e) (f i (omega arith) (omega arith)))
     (λ n. from_each P l (i + 1) k (λ j g h. f j (omega arith) (omega arith)) p n) (Memᴰ.cases_cons m)
 
-pub points-each : (P : Point → Type 0) (l : Line) → ((i : ℕ) → i ≤ longer l → P (pointAt l i)) → (p : Point) → Memᴰ p (points l) → P p
+pub points-each : (P : Point → Type 0) (l : Line) → ((i : ℕ) → i ≤ longer l → P (point_at l i)) → (p : Point) → Memᴰ p (points l) → P p
 unfolding points
-points-each P l f = from_each P l 0 (pointCount l) (λ j g h. f j (omega (arith, count-le l)))
+points-each P l f = from_each P l 0 (point_count l) (λ j g h. f j (omega (arith, count-le l)))
 
 -- ---- where they lie: within the box of the two ends
 pub record Between (a b p : ℕ) : Type 0 where
@@ -89,7 +89,7 @@ towards-between a b k h =
 
 pub place-in-box : (l : Line) (a b : ℕ) → a ≤ longer l → b ≤ shorter l → InBox l (place l a b)
 place-in-box l a b h k =
-    either (xMajor l)
+    either (x_major l)
     (λ e. rw (place-x l a b e) (record {
       x = towards-between l.x0 l.x1 a (omega (arith, longer-x l e));
       y = towards-between l.y0 l.y1 b (omega (arith, shorter-y l e));
@@ -99,8 +99,8 @@ place-in-box l a b h k =
       y = towards-between l.y0 l.y1 a (omega (arith, longer-y l e));
     }))
 
-pub point-box : (l : Line) (i : ℕ) → i ≤ longer l → InBox l (pointAt l i)
-unfolding pointAt
+pub point-box : (l : Line) (i : ℕ) → i ≤ longer l → InBox l (point_at l i)
+unfolding point_at
 point-box l i h = place-in-box l i _ h (aside-le (longer l) (shorter l) i (shorter-le l) h)
 
 pub points-in-box : (l : Line) (p : Point) → Memᴰ p (points l) → InBox l p
@@ -118,10 +118,10 @@ unfolding towards far
 towards-apart a b k k' h h' e =
     either (leb a b) (λ q. let r = rw q at e in omega arith) (λ q. let r = rw q at e in omega (arith, leb-false a b q))
 
-pub points-differ : (l : Line) (i i' : ℕ) → i ≤ longer l → i' ≤ longer l → pointAt l i ≡ pointAt l i' → i ≡ i'
-unfolding pointAt
+pub points-differ : (l : Line) (i i' : ℕ) → i ≤ longer l → i' ≤ longer l → point_at l i ≡ point_at l i' → i ≡ i'
+unfolding point_at
 points-differ l i i' h h' q =
-    either (xMajor l)
+    either (x_major l)
     (λ e. towards-apart l.x0 l.x1 i i' (omega (arith, longer-x l e)) (omega (arith, longer-x l e))
     (ap (λ (p : Point). p.x) (sym (place-x l i _ e) ∙ q ∙ place-x l i' _ e)))
     (λ e. towards-apart l.y0 l.y1 i i' (omega (arith, longer-y l e)) (omega (arith, longer-y l e))
@@ -131,14 +131,14 @@ pub same_point : (p q : Point) → p.x ≡ q.x → p.y ≡ q.y → p ≡ q
 same_point p q e f = λ i. record { x = e i; y = f i }
 
 -- ---- the points that a loop has left
-pub from_start : (l : Line) (e : ℕ) → e ≡ pointCount l → pointsFrom l 0 (e - 0) ≡ points l
+pub from_start : (l : Line) (e : ℕ) → e ≡ point_count l → points_from l 0 (e - 0) ≡ points l
 unfolding points
 from_start l e q = rw (sub-zero e, q)
 
-pub from_cons : (l : Line) (i e : ℕ) → i < e → pointsFrom l i (e - i) ≡ pointAt l i ∷ pointsFrom l (i + 1) (e - (i + 1))
-unfolding pointsFrom
+pub from_cons : (l : Line) (i e : ℕ) → i < e → points_from l i (e - i) ≡ point_at l i ∷ points_from l (i + 1) (e - (i + 1))
+unfolding points_from
 from_cons l i e h = let q : e - i ≡ suc (e - (i + 1)) = omega arith in rw q
 
-pub from-none : (l : Line) (i e : ℕ) → e ≤ i → pointsFrom l i (e - i) ≡ []
-unfolding pointsFrom
+pub from-none : (l : Line) (i e : ℕ) → e ≤ i → points_from l i (e - i) ≡ []
+unfolding points_from
 from-none l i e h = let q : e - i ≡ 0 = omega arith in rw q

@@ -8,7 +8,7 @@ use native.Mathlib.Omega.{arith}
 use borrow.Author.Tests.{leb-true, leb-false}
 use lib.Arith.{digits_div}
 use Rattle.line.specs.declared.Line.{Line}
-use Rattle.line.specs.Line.{dx, dy, far, xMajor, longer, shorter, aside, pointCount}
+use Rattle.line.specs.Line.{dx, dy, far, x_major, longer, shorter, aside, point_count}
 use Rattle.line.specs.Asked.{Within, Placed}
 
 -- what follows from a test that holds, and from one that does not
@@ -17,26 +17,26 @@ either true f g = f refl
 either false f g = g refl
 
 -- ---- which is which
-pub longer-x : (l : Line) → xMajor l ≡ true → longer l ≡ dx l
+pub longer-x : (l : Line) → x_major l ≡ true → longer l ≡ dx l
 unfolding longer
 longer-x l e = rw e
 
-pub longer-y : (l : Line) → xMajor l ≡ false → longer l ≡ dy l
+pub longer-y : (l : Line) → x_major l ≡ false → longer l ≡ dy l
 unfolding longer
 longer-y l e = rw e
 
-pub shorter-y : (l : Line) → xMajor l ≡ true → shorter l ≡ dy l
+pub shorter-y : (l : Line) → x_major l ≡ true → shorter l ≡ dy l
 unfolding shorter
 shorter-y l e = rw e
 
-pub shorter-x : (l : Line) → xMajor l ≡ false → shorter l ≡ dx l
+pub shorter-x : (l : Line) → x_major l ≡ false → shorter l ≡ dx l
 unfolding shorter
 shorter-x l e = rw e
 
 pub shorter-le : (l : Line) → shorter l ≤ longer l
-unfolding xMajor
+unfolding x_major
 shorter-le l =
-    either (xMajor l) (λ e. omega (arith, longer-x l e, shorter-y l e, leb-true (dy l) (dx l) e))
+    either (x_major l) (λ e. omega (arith, longer-x l e, shorter-y l e, leb-true (dy l) (dx l) e))
     (λ e. omega (arith, longer-y l e, shorter-x l e, leb-false (dy l) (dx l) e))
 
 -- ---- within 13 signed bits
@@ -46,18 +46,18 @@ far_lt h k = omega arith
 
 pub longer-lt : {l : Line} → Placed l → longer l < 8192
 longer-lt {l} h =
-    either (xMajor l) (λ e. omega (arith, longer-x l e, far_lt h.x0 h.x1)) (λ e. omega (arith, longer-y l e, far_lt h.y0 h.y1))
+    either (x_major l) (λ e. omega (arith, longer-x l e, far_lt h.x0 h.x1)) (λ e. omega (arith, longer-y l e, far_lt h.y0 h.y1))
 
 -- ---- how many points
-pub count-poly : (l : Line) → l.poly ≡ true → longer l ≡ pointCount l
-unfolding pointCount
+pub count-poly : (l : Line) → l.poly ≡ true → longer l ≡ point_count l
+unfolding point_count
 count-poly l e = sym (ap (λ (b : Bool). cond b (longer l) (longer l + 1)) e)
 
-pub count-line : (l : Line) → l.poly ≡ false → longer l + 1 ≡ pointCount l
-unfolding pointCount
+pub count-line : (l : Line) → l.poly ≡ false → longer l + 1 ≡ point_count l
+unfolding point_count
 count-line l e = sym (ap (λ (b : Bool). cond b (longer l) (longer l + 1)) e)
 
-pub count-le : (l : Line) → pointCount l ≤ longer l + 1
+pub count-le : (l : Line) → point_count l ≤ longer l + 1
 count-le l = either l.poly (λ e. omega (arith, count-poly l e)) (λ e. omega (arith, count-line l e))
 
 -- ---- the steps along the minor axis

@@ -10,8 +10,8 @@ use lib.Dec.{ltb}
 use Rattle.line.specs.declared.Line.{Line}
 use Rattle.line.specs.declared.Point.{Point}
 use Rattle.line.specs.declared.Tread.{Tread}
-use Rattle.line.specs.Line.{longer, shorter, aside, place, pointAt, pointCount}
-use Rattle.line.specs.Tread.{tread, trodden, leftOver, AtStep}
+use Rattle.line.specs.Line.{longer, shorter, aside, place, point_at, point_count}
+use Rattle.line.specs.Tread.{tread, trodden, left_over, AtStep}
 use Rattle.line.specs.Asked.{Placed}
 use Rattle.line.proofs.Sides.{either, shorter-le, longer-lt, count-le, aside-first, aside-le}
 
@@ -29,27 +29,27 @@ module _ (q r d t k : ℕ) (e : t ≡ q * d + r + k) where
       (ap (λ (u : ℕ). u / d) f ∙ digits_div (q + 1) s, ap (λ (u : ℕ). u % d) f ∙ digits_mod (q + 1) s)
 
 module _ (n m i : ℕ) (h : m ≤ n) (p : 0 < n) where
-  sum : 2 * (i + 1) * m + n ≡ aside n m i * (2 * n) + leftOver n m i + 2 * m
+  sum : 2 * (i + 1) * m + n ≡ aside n m i * (2 * n) + left_over n m i + 2 * m
   unfolding aside
   sum =
       let d : 2 * (i + 1) * m ≡ 2 * i * m + 2 * m = ap (λ (k : ℕ). k * m) (omega arith) ∙ add-mul (2 * i) 2 m in
       let f : 2 * (i + 1) * m + n ≡ 2 * i * m + n + 2 * m = omega arith in
       f ∙ ap (λ (t : ℕ). t + 2 * m) (sym (div-add-mod' (2 * i * m + n) (2 * n)))
 
-  pub aside-stays : leftOver n m i < 2 * n - 2 * m → (aside n m (i + 1) ≡ aside n m i) × (leftOver n m (i + 1) ≡ leftOver n m i + 2 * m)
+  pub aside-stays : left_over n m i < 2 * n - 2 * m → (aside n m (i + 1) ≡ aside n m i) × (left_over n m (i + 1) ≡ left_over n m i + 2 * m)
   unfolding aside
-  aside-stays g = below (aside n m i) (leftOver n m i) (2 * n) (2 * (i + 1) * m + n) (2 * m) sum (omega arith)
+  aside-stays g = below (aside n m i) (left_over n m i) (2 * n) (2 * (i + 1) * m + n) (2 * m) sum (omega arith)
 
-  pub aside_grows : 2 * n - 2 * m ≤ leftOver n m i
-      → (aside n m (i + 1) ≡ aside n m i + 1) × (leftOver n m (i + 1) ≡ leftOver n m i - (2 * n - 2 * m))
+  pub aside_grows : 2 * n - 2 * m ≤ left_over n m i
+      → (aside n m (i + 1) ≡ aside n m i + 1) × (left_over n m (i + 1) ≡ left_over n m i - (2 * n - 2 * m))
   unfolding aside
   aside_grows g =
-      let l : leftOver n m i < 2 * n = mod-lt (2 * i * m + n) (omega arith) in
-      let r = above (aside n m i) (leftOver n m i) (2 * n) (2 * (i + 1) * m + n) (2 * m) sum (omega arith) (omega arith) in
+      let l : left_over n m i < 2 * n = mod-lt (2 * i * m + n) (omega arith) in
+      let r = above (aside n m i) (left_over n m i) (2 * n) (2 * (i + 1) * m + n) (2 * m) sum (omega arith) (omega arith) in
       (r.0, r.1 ∙ omega arith)
 
 -- ---- the walk
-pub start-rest : (n m : ℕ) → n ≡ leftOver n m 0
+pub start-rest : (n m : ℕ) → n ≡ left_over n m 0
 start-rest zero m = let q : 2 * 0 * m + 0 ≡ 0 = omega arith in rw q refl
 start-rest (suc n) m = let q : 2 * 0 * m + suc n ≡ suc n = omega arith in rw q (sym (mod-eq_of_lt (omega arith)))
 
@@ -84,8 +84,8 @@ module _ {l : Line} {n m i : ℕ} {t : Tread} (way : OnWay l n m i t) where
   pub way-placed : (i ≤ longer l) × (t.aside ≤ shorter l)
   way-placed = (way.upto, omega (arith, way-aside, way.short))
 
-  pub way-point : {p : Point} → p ≡ place l i t.aside → p ≡ pointAt l i
-  unfolding pointAt
+  pub way-point : {p : Point} → p ≡ place l i t.aside → p ≡ point_at l i
+  unfolding point_at
   way-point e = e ∙ ap (place l i) way.at.aside ∙ rw (way.long, way.short)
 
   pub way-small : Placed l → (m ≤ n) × (n < 8192) × (t.aside ≤ n)
@@ -94,7 +94,7 @@ module _ {l : Line} {n m i : ℕ} {t : Tread} (way : OnWay l n m i t) where
       (low, omega (arith, longer-lt placed, way.long), omega (arith, way-aside))
 
   -- a line of a single point has no next one
-  pub way-goes : {r : Tread} {total : ℕ} → r ≡ trodden n m t → total ≡ pointCount l → i + 1 < total → OnWay l n m (i + 1) r
+  pub way-goes : {r : Tread} {total : ℕ} → r ≡ trodden n m t → total ≡ point_count l → i + 1 < total → OnWay l n m (i + 1) r
   way-goes e q h =
       let g : i + 1 ≤ longer l = omega (arith, count-le l) in
       record {

@@ -4,13 +4,13 @@ use Rattle.std.specs.Prelude.{true, [], ◌∷◌, ◌≡◌, ℕ, ◌<◌, ◌�
 use Rattle.paint.specs.Asked.{Room, Bits12}
 use Rattle.surface.specs.declared.Surface.{Surface}
 use Rattle.surface.specs.Asked.{Colour}
-use Rattle.spans.specs.Span.{allOn}
+use Rattle.spans.specs.Span.{all_on}
 use Rattle.paint.specs.declared.Clip.{Clip}
 use Rattle.paint.specs.declared.Tally.{Tally}
 use Rattle.line.specs.declared.Point.{Point}
 use Rattle.line.specs.declared.Line.{Line}
 use Rattle.line.specs.Line.{points}
-use Rattle.line.specs.Draw.{coveredPoints}
+use Rattle.line.specs.Draw.{covered_points}
 
 -- a position within 13 signed bits
 pub record Within (p : ℕ) : Type 0 where
@@ -34,11 +34,11 @@ pub record Drawable (s : Surface) (len : ℕ) (c : Clip) (l : Line) : Type 0 whe
   pub surface : Colour s
   pub clip : Bits12 c
   pub line : Placed l
-  pub on : allOn s len (coveredPoints c (points l)) ≡ true
+  pub on : all_on s len (covered_points c (points l)) ≡ true
 
 -- the same of a single point, where n tells of the pixels before it
 pub record DrawablePoint (s : Surface) (len : ℕ) (c : Clip) (p : Point) (n : Tally) : Type 0 where
   pub surface : Colour s
   pub clip : Bits12 c
-  pub on : allOn s len (coveredPoints c (p ∷ [])) ≡ true
+  pub on : all_on s len (covered_points c (p ∷ [])) ≡ true
   pub room : Room n 1

@@ -15,10 +15,10 @@ trodden n m t =
     (tread (t.aside + 1) (t.rest - (2 * n - 2 * m)))
 
 -- the remainder at point i of the division that gives its steps aside
-abbrev pub leftOver : ℕ → ℕ → ℕ → ℕ
-leftOver n m i = (2 * i * m + n) % (2 * n)
+abbrev pub left_over : ℕ → ℕ → ℕ → ℕ
+left_over n m i = (2 * i * m + n) % (2 * n)
 
 -- the walk is at point i
 pub record AtStep (n m i : ℕ) (t : Tread) : Type 0 where
   pub aside : t.aside ≡ aside n m i
-  pub rest : t.rest ≡ leftOver n m i
+  pub rest : t.rest ≡ left_over n m i

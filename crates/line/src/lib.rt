@@ -2,11 +2,11 @@
 ghost use Rattle.std.specs.Prelude.{◌≡◌, true, [], ◌∷◌, ◌+◌, ◌-◌, ◌%◌, ◌^◌, ◌<◌, ◌≤◌, min, max};
 ghost use Rattle.surface.specs.Asked.{Colour};
 ghost use Rattle.paint.specs.Asked.{Bits12};
-ghost use Rattle.line.specs.Line.{far, towards, xMajor, longer, shorter, place, pointCount, points};
+ghost use Rattle.line.specs.Line.{far, towards, x_major, longer, shorter, place, point_count, points};
 ghost use Rattle.line.specs.Tread.{trodden};
 ghost use Rattle.line.specs.Asked.{Within, Placed, Testable};
-ghost use Rattle.line.specs.Stipple.{stepped, stippleBit, after};
-ghost use Rattle.line.specs.Draw.{lineOff};
+ghost use Rattle.line.specs.Stipple.{stepped, stipple_bit, after};
+ghost use Rattle.line.specs.Draw.{line_off};
 
 use paint::Clip;
 use surface::Surface;
@@ -48,7 +48,7 @@ fn moved(a: u32, b: u32, k: u32) -> u32
 }
 
 pub fn x_major(l: Line) -> bool
-    ensures { result ≡ xMajor l }
+    ensures { result ≡ x_major l }
 {
     distance(l.y0, l.y1) <= distance(l.x0, l.x1)
 }
@@ -75,7 +75,7 @@ pub fn short_side(l: Line) -> u32
 
 pub fn point_count(l: Line) -> u32
     requires { Placed l }
-    ensures { result ≡ pointCount l }
+    ensures { result ≡ point_count l }
 {
     if l.poly {
         long_side(l)
@@ -157,7 +157,7 @@ pub fn style_after(pen: Pen, style: u32) -> u32
 }
 
 pub fn stipple_bit(pen: Pen, style: u32) -> u32
-    ensures { result ≡ stippleBit pen style }
+    ensures { result ≡ stipple_bit pen style }
 {
     if pen.stippled {
         (pen.stipple >> (style / 0x1000000 % 0x20)) % 2
@@ -169,7 +169,7 @@ pub fn stipple_bit(pen: Pen, style: u32) -> u32
 // Whether a point is covered, and off the surface.
 fn point_off(len: usize, s: Surface, c: Clip, p: Point) -> bool
     requires { Colour s × Bits12 c }
-    ensures { result ≡ lineOff s len c (p ∷ []) }
+    ensures { result ≡ line_off s len c (p ∷ []) }
 {
     if paint::covers(c, p.x, p.y) {
         return !spans::close_on(len, s, p.x - 16384, p.y - 16384);
@@ -200,7 +200,7 @@ fn reach(a: u32, b: u32, end: u32) -> u32
 // Whether a covered point of the line is off the surface: none is where the rectangle is on it that holds them.
 pub fn line_off(len: usize, s: Surface, c: Clip, l: Line) -> bool
     requires { Testable s c l }
-    ensures { result ≡ lineOff s len c (points l) }
+    ensures { result ≡ line_off s len c (points l) }
 {
     let w = reach(l.x0, l.x1, c.right);
     let h = reach(l.y0, l.y1, c.bottom);

@@ -3,15 +3,15 @@
 use Rattle.std.proofs.Common.{◌≡◌, ℕ, ◌+◌, ◌-◌, ◌<◌, ◌≤◌, Bool, true, false, cond, not, ◌&&◌, eqb, ltb, leb, List, [], ◌∷◌, length, get_or, drop, sym, refl, ap, ◌∙◌, add-one, arith, drop-cons, eqb-true}
 use mathlib.Core.Bool.{and-eq-true_iff}
 use Rattle.basics.specs.Each.{each}
-use Rattle.basics.specs.Word.{wordAt}
+use Rattle.basics.specs.Word.{word_at}
 use Rattle.packets.specs.declared.Rest.{Rest}
 use Rattle.packets.specs.declared.Reader.{Reader}
 use Rattle.packets.specs.declared.Event.{Event}
 use Rattle.packets.specs.declared.Event.TheVariants.{Nothing, Write, Closed}
 use Rattle.packets.specs.declared.Next.{Next}
-use Rattle.packets.specs.Reader.{between, worded, took, isBetween, next, next_of}
+use Rattle.packets.specs.Reader.{between, worded, took, is_between, next, next_of}
 use Rattle.packets.specs.Delivery.{Note, nine, Wrote, wrote, Writer}
-use Rattle.packets.specs.Answers.{Lent, room, put, Call, call, Done, noting, isFull, tookOne, took_all}
+use Rattle.packets.specs.Answers.{Lent, room, put, Call, call, Done, noting, is_full, took_one, took_all}
 use Rattle.packets.proofs.NextLaws.{four}
 use Rattle.packets.proofs.Promises.{word, spelling}
 
@@ -33,7 +33,7 @@ parts : (w h : ℕ) (rest : Rest) (c : Bool) → h ≡ 0 → w ≡ 0 → not c �
 parts w h rest false f g e = rw (f, g)
 parts w h rest true f g e = rw (f, g) (ap (λ (t : Bool). record { word = 0; held = 0; rest = rest; closed = t }) (sym e))
 
-between_is : (r : Reader) → isBetween r ≡ true → r ≡ between r.rest
+between_is : (r : Reader) → is_between r ≡ true → r ≡ between r.rest
 between_is r e =
     let all = (and-eq-true_iff (eqb r.held 0 && eqb r.word 0) (not r.closed)).0 e in
     let both = (and-eq-true_iff (eqb r.held 0) (eqb r.word 0)).0 all.0 in
@@ -56,8 +56,8 @@ module _ {S : Type 0} (write : Writer S) where
 
   four-took : (a b c d u : ℕ) (rest : Rest) (s : S) (l : Lent) → room l ≡ true
       → noting write (worded rest (word a b c d)).event (worded rest (word a b c d)).reader s l (u + 4)
-      ≡ tookOne write d (tookOne write c (tookOne write b (tookOne write a (call (between rest) s l u))))
-  unfolding tookOne took
+      ≡ took_one write d (took_one write c (took_one write b (took_one write a (call (between rest) s l u))))
+  unfolding took_one took
   four-took a b c d u rest s l h =
       let used : u + 4 ≡ u + 1 + 1 + 1 + 1 = omega arith in
       rw (h, used, ← (spelling a b c d))
@@ -72,23 +72,23 @@ module _ {S : Type 0} (write : Writer S) where
     after : Next → Call S
     after n = noting write n.event n.reader s l n.used
 
-    word-turn : (isBetween r && room l && leb 4 (length piece - u)) ≡ true
-        → Turned piece (call r s l u) (after (next (worded r.rest (wordAt piece u)) (u + 4)))
-    unfolding each after wordAt
+    word-turn : (is_between r && room l && leb 4 (length piece - u)) ≡ true
+        → Turned piece (call r s l u) (after (next (worded r.rest (word_at piece u)) (u + 4)))
+    unfolding each after word_at
     word-turn e =
-        let both = (and-eq-true_iff (isBetween r) (room l)).0 ((and-eq-true_iff (isBetween r && room l) (leb 4 (length piece - u))).0 e).0 in
-        let more = four (isBetween r && room l) (length piece - u) e in
+        let both = (and-eq-true_iff (is_between r) (room l)).0 ((and-eq-true_iff (is_between r && room l) (leb 4 (length piece - u))).0 e).0 in
+        let more = four (is_between r && room l) (length piece - u) e in
         record {
           further = omega arith;
           within = omega arith;
           same =
-              ap (each (tookOne write) (drop (u + 4) piece)) (four-took (get_or piece u 0) (get_or piece (u + 1) 0) (get_or piece (u + 2) 0) (get_or piece (u + 3) 0) u r.rest s l both.1)
-              ∙ sym (ap (λ (t : List ℕ). each (tookOne write) t (call (between r.rest) s l u)) (four-first piece u (omega arith)))
-              ∙ ap (λ (q : Reader). each (tookOne write) (drop u piece) (call q s l u)) (sym (between_is r both.0));
+              ap (each (took_one write) (drop (u + 4) piece)) (four-took (get_or piece u 0) (get_or piece (u + 1) 0) (get_or piece (u + 2) 0) (get_or piece (u + 3) 0) u r.rest s l both.1)
+              ∙ sym (ap (λ (t : List ℕ). each (took_one write) t (call (between r.rest) s l u)) (four-first piece u (omega arith)))
+              ∙ ap (λ (q : Reader). each (took_one write) (drop u piece) (call q s l u)) (sym (between_is r both.0));
         }
 
-    byte-turn : isFull (call r s l u) ≡ false → Turned piece (call r s l u) (after (next (took (get_or piece u 0) r) (u + 1)))
-    unfolding each after tookOne
+    byte-turn : is_full (call r s l u) ≡ false → Turned piece (call r s l u) (after (next (took (get_or piece u 0) r) (u + 1)))
+    unfolding each after took_one
     byte-turn f =
         record {
           further = omega arith;
@@ -96,23 +96,23 @@ module _ {S : Type 0} (write : Writer S) where
           same = rw (one-first piece u some, f);
         }
 
-    pub turned : isFull (call r s l u) ≡ false → {n : Next} → n ≡ next_of r piece u (room l) → {c' : Call S} → c' ≡ noting write n.event n.reader s l n.used
+    pub turned : is_full (call r s l u) ≡ false → {n : Next} → n ≡ next_of r piece u (room l) → {c' : Call S} → c' ≡ noting write n.event n.reader s l n.used
         → Turned piece (call r s l u) c'
     unfolding next_of after
-    turned f {n} g {c'} k = rw (k, g) (by-test (isBetween r && room l && leb 4 (length piece - u)) refl)
+    turned f {n} g {c'} k = rw (k, g) (by-test (is_between r && room l && leb 4 (length piece - u)) refl)
       where
-        by-test : (t : Bool) → (isBetween r && room l && leb 4 (length piece - u)) ≡ t
+        by-test : (t : Bool) → (is_between r && room l && leb 4 (length piece - u)) ≡ t
             → Turned piece (call r s l u)
-            (after (cond t (next (worded r.rest (wordAt piece u)) (u + 4)) (next (took (get_or piece u 0) r) (u + 1))))
+            (after (cond t (next (worded r.rest (word_at piece u)) (u + 4)) (next (took (get_or piece u 0) r) (u + 1))))
         by-test true e = word-turn e
         by-test false e = byte-turn f
 
   -- the code's test for it
-  pub tested : {t b : Bool} (r : Reader) (s : S) (l : Lent) (u : ℕ) → t ≡ room l → (ltb 2 r.held && not t) ≡ b → isFull (call r s l u) ≡ b
+  pub tested : {t b : Bool} (r : Reader) (s : S) (l : Lent) (u : ℕ) → t ≡ room l → (ltb 2 r.held && not t) ≡ b → is_full (call r s l u) ≡ b
   tested r s l u p e = rw p at e
 
   -- a full call takes nothing more
-  pub full-stays : (bytes : List ℕ) (c : Call S) → isFull c ≡ true → c ≡ took_all write bytes c
-  unfolding each tookOne
+  pub full-stays : (bytes : List ℕ) (c : Call S) → is_full c ≡ true → c ≡ took_all write bytes c
+  unfolding each took_one
   full-stays [] c f = refl
   full-stays (b ∷ bytes) c f = rw f (full-stays bytes c f)

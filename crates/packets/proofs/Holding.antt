@@ -9,7 +9,7 @@ use Rattle.packets.specs.declared.Event.{Event}
 use Rattle.packets.specs.declared.Event.TheVariants.{Nothing, Write, Closed}
 use Rattle.packets.specs.Reader.{shifted, took, heard}
 use Rattle.packets.specs.Delivery.{Note, nine, Writer, Delivery, delivery, told, taken, fed}
-use Rattle.packets.specs.Answers.{Lent, lent, room, put, Call, call, noting, isFull, tookOne, took_all, called, words_of, holding}
+use Rattle.packets.specs.Answers.{Lent, lent, room, put, Call, call, noting, is_full, took_one, took_all, called, words_of, holding}
 use Rattle.packets.specs.Promises.{CallTook, StopsFull}
 use Rattle.packets.proofs.CallLaws.{full-stays}
 
@@ -86,7 +86,7 @@ module _ {S : Type 0} (write : Writer S) (run : List ℕ) where
       record { is = ap (λ (l : Lent). call r s l u) (put-holding run notes nine more); fits = answer-fits notes nine more }
 
   -- where a byte may bring an answer and the call is not full there is room for it
-  spared : (b u : ℕ) (d : Delivery S) → length d.notes * 3 ≤ length run → isFull (beside u d) ≡ false → ((took b d.reader).event ≡ Nothing → ⊥)
+  spared : (b u : ℕ) (d : Delivery S) → length d.notes * 3 ≤ length run → is_full (beside u d) ≡ false → ((took b d.reader).event ≡ Nothing → ⊥)
       → length d.notes < length run / 3
   spared b u d h f some = by-room (room (holding run d.notes)) refl
     where
@@ -107,14 +107,14 @@ module _ {S : Type 0} (write : Writer S) (run : List ℕ) where
     most : stop ≤ length bytes
     fits : length (fed write (take stop bytes) d).notes * 3 ≤ length run
     is : took_all write bytes (beside u d) ≡ beside (u + stop) (fed write (take stop bytes) d)
-    stops : stop < length bytes → isFull (beside (u + stop) (fed write (take stop bytes) d)) ≡ true
+    stops : stop < length bytes → is_full (beside (u + stop) (fed write (take stop bytes) d)) ≡ true
 
   went_on : (b u : ℕ) (bytes : List ℕ) (d : Delivery S) → length d.notes * 3 ≤ length run
       → (length (taken write b d).notes * 3 ≤ length run → Went bytes (taken write b d) (u + 1)) → Went (b ∷ bytes) d u
-  unfolding each taken tookOne
-  went_on b u bytes d h more = by-test (isFull (beside u d)) refl
+  unfolding each taken took_one
+  went_on b u bytes d h more = by-test (is_full (beside u d)) refl
     where
-      by-test : (t : Bool) → isFull (beside u d) ≡ t → Went (b ∷ bytes) d u
+      by-test : (t : Bool) → is_full (beside u d) ≡ t → Went (b ∷ bytes) d u
       by-test true f = record {
         stop = 0;
         most = omega arith;
@@ -131,7 +131,7 @@ module _ {S : Type 0} (write : Writer S) (run : List ℕ) where
             stop = suc k.stop;
             most = omega (arith, k.most);
             fits = k.fits;
-            is = rw f (ap (each (tookOne write) bytes) one.is ∙ k.is ∙ ap (λ (v : ℕ). beside v (fed write (take k.stop bytes) (taken write b d))) past);
+            is = rw f (ap (each (took_one write) bytes) one.is ∙ k.is ∙ ap (λ (v : ℕ). beside v (fed write (take k.stop bytes) (taken write b d))) past);
             stops = λ l. k.stops (omega arith);
           }
 
@@ -148,7 +148,7 @@ module _ {S : Type 0} (write : Writer S) (run : List ℕ) where
     last : 2 < d.reader.held
     full : length run / 3 ≤ length d.notes
 
-  stopped : (d : Delivery S) (u : ℕ) → length d.notes * 3 ≤ length run → isFull (beside u d) ≡ true → Stopped d
+  stopped : (d : Delivery S) (u : ℕ) → length d.notes * 3 ≤ length run → is_full (beside u d) ≡ true → Stopped d
   stopped d u h f =
       let both = (and-eq-true_iff (ltb 2 d.reader.held) (not (room (holding run d.notes)))).0 f in
       record {

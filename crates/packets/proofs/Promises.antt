@@ -10,11 +10,11 @@ use Rattle.packets.specs.declared.Reader.{Reader}
 use Rattle.packets.specs.declared.Event.{Event}
 use Rattle.packets.specs.declared.Event.TheVariants.{Nothing, Write, Closed}
 use Rattle.packets.specs.declared.Heard.{Heard}
-use Rattle.packets.specs.Header.{turnedDown}
+use Rattle.packets.specs.Header.{turned_down}
 use Rattle.packets.specs.Reader.{opened, advanced, between, blank, shut, heard, headed, worded, shifted, took}
 use Rattle.packets.specs.Delivery.{Note, nine, Writer, Delivery, delivery, told, taken, fed}
-use Rattle.packets.specs.Promises.{OneOpen, OneTake, joined, spelled, oneCall, calls, AnyPieces, carried, PacketCarried, NoWords, NineOnce, Reopened}
-use Rattle.packets.proofs.RestLaws.{Going, counting, masking, Live, over, going, nextOffset, going-live, going-left, opened-live, rest-offsets, offsetsLeft}
+use Rattle.packets.specs.Promises.{OneOpen, OneTake, joined, spelled, one_call, calls, AnyPieces, carried, PacketCarried, NoWords, NineOnce, Reopened}
+use Rattle.packets.proofs.RestLaws.{Going, counting, masking, Live, over, going, next_offset, going-live, going-left, opened-live, rest-offsets, offsets_left}
 
 -- ---- a contract that says what the outcome equals allows one
 pub one-open : OneOpen
@@ -55,23 +55,23 @@ module _ {S : Type 0} (write : Writer S) where
       (word-taken rest s notes (w % 2 ^ 8) (w / 2 ^ 8 % 2 ^ 8) (w / 2 ^ 16 % 2 ^ 8) (w / 2 ^ 24) ∙ ap (λ (v : ℕ). after (worded rest v) s notes) (spelled-word w))
 
   -- ---- packets
-  going-word : {rest : Rest} → Going rest → (w : ℕ) → worded rest w ≡ heard (between (advanced rest)) (Write (nextOffset rest) w)
+  going-word : {rest : Rest} → Going rest → (w : ℕ) → worded rest w ≡ heard (between (advanced rest)) (Write (next_offset rest) w)
   going-word (counting h) w = refl
   going-word (masking f h) w = refl
 
-  words-carried : {rest : Rest} → Live rest → (s : S) (notes : List Note) (ws : List ℕ) → length ws ≡ length (offsetsLeft rest)
-      → fed write (spelled ws) (delivery (between rest) s notes) ≡ carried write (offsetsLeft rest) ws (delivery blank s notes)
+  words-carried : {rest : Rest} → Live rest → (s : S) (notes : List Note) (ws : List ℕ) → length ws ≡ length (offsets_left rest)
+      → fed write (spelled ws) (delivery (between rest) s notes) ≡ carried write (offsets_left rest) ws (delivery blank s notes)
   unfolding each carried
   words-carried over s notes [] h = refl
   words-carried over s notes (w ∷ ws) h = absurd (omega arith)
   words-carried (going {rest} g) s notes [] h = absurd (omega (arith, ap length (going-left g)))
   words-carried (going {rest} g) s notes (w ∷ ws) h =
-      let st = write (nextOffset rest) w s in
-      let h' : length ws ≡ length (offsetsLeft (advanced rest)) = omega (arith, ap length (going-left g)) in
+      let st = write (next_offset rest) w s in
+      let h' : length ws ≡ length (offsets_left (advanced rest)) = omega (arith, ap length (going-left g)) in
       word_first rest s notes w ws ∙ rw (going-word g w, going-left g) (words-carried (going-live g) st.state (notes ++ (st.note ∷ [])) ws h')
 
   -- a header in an empty reader
-  header-first : (s : S) (notes : List Note) (h : ℕ) (ws : List ℕ) → turnedDown h ≡ false
+  header-first : (s : S) (notes : List Note) (h : ℕ) (ws : List ℕ) → turned_down h ≡ false
       → fed write (spelled (h ∷ ws)) (delivery blank s notes) ≡ fed write (spelled ws) (delivery (between (opened h)) s notes)
   unfolding headed
   header-first s notes h ws f = word_first Empty s notes h ws ∙ rw f
@@ -82,9 +82,9 @@ module _ {S : Type 0} (write : Writer S) where
       ∙ words-carried (opened-live h f) s notes ws (rw (rest-offsets h f) k)
       ∙ ap (λ (os : List ℕ). carried write os ws (delivery blank s notes)) (rest-offsets h f)
 
-  pub no_words : NoWords write
+  pub no-words : NoWords write
   unfolding carried
-  no_words s notes h f g k = packet-carried s notes h [] f g (sym (ap length k)) ∙ rw k
+  no-words s notes h f g k = packet-carried s notes h [] f g (sym (ap length k)) ∙ rw k
 
   -- ---- a packet turned down
   closed-drops : (s : S) (notes : List Note) (bytes : List ℕ) → fed write bytes (delivery shut s notes) ≡ delivery shut s notes
@@ -118,7 +118,7 @@ module _ {S : Type 0} (write : Writer S) where
       let h = took b d.reader in
       ap (each (taken write) bytes) (told-behind h.event h.reader d.state before d.notes) ∙ fed-behind bytes before (taken write b d)
 
-  one-call : (piece : List ℕ) (d : Delivery S) → oneCall write piece d ≡ fed write piece d
+  one-call : (piece : List ℕ) (d : Delivery S) → one_call write piece d ≡ fed write piece d
   one-call piece d =
       sym (fed-behind piece d.notes (delivery d.reader d.state []))
       ∙ ap (λ (notes : List Note). fed write piece (delivery d.reader d.state notes)) (append-nil d.notes)
@@ -127,7 +127,7 @@ module _ {S : Type 0} (write : Writer S) where
   unfolding calls joined each
   any-pieces [] d = refl
   any-pieces (piece ∷ pieces) d =
-      any-pieces pieces (oneCall write piece d) ∙ ap (each (taken write) (joined pieces)) (one-call piece d) ∙ sym (each_append (taken write) piece (joined pieces) d)
+      any-pieces pieces (one_call write piece d) ∙ ap (each (taken write) (joined pieces)) (one-call piece d) ∙ sym (each_append (taken write) piece (joined pieces) d)
 
   -- ---- what every write keeps, any bytes keep
   module _ (P : S → Type 0) (keeps : (o w : ℕ) (s : S) → P s → P (write o w s).state) where

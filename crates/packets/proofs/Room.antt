@@ -8,7 +8,7 @@ use Rattle.packets.specs.declared.Reader.{Reader}
 use Rattle.packets.specs.declared.Event.{Event}
 use Rattle.packets.specs.declared.Event.TheVariants.{Nothing, Write, Closed}
 use Rattle.packets.specs.declared.Heard.{Heard}
-use Rattle.packets.specs.Header.{turnedDown}
+use Rattle.packets.specs.Header.{turned_down}
 use Rattle.packets.specs.Reader.{opened, between, shut, heard, headed, shifted, worded, took}
 use Rattle.packets.specs.Delivery.{Note, Writer, Delivery, delivery, told, taken, fed}
 use Rattle.packets.specs.Answers.{Call, called}
@@ -28,7 +28,7 @@ record Paid (held : ℕ) (h : Heard) : Type 0 where
 
 word-paid : (rest : Rest) (w : ℕ) → Paid 4 (worded rest w)
 unfolding headed
-word-paid Empty w = by-test (turnedDown w)
+word-paid Empty w = by-test (turned_down w)
   where
     by-test : (t : Bool) → Paid 4 (cond t (heard shut Closed) (heard (between (opened w)) Nothing))
     by-test true = record { short = omega arith; most = omega arith }

@@ -61,17 +61,17 @@ abbrev pub noting : {S : Type 0} → Writer S → Event → Reader → S → Len
 noting write e r s l used = call r (acted write e s) (noted write e s l) used
 
 -- a word's last byte is next, and there is no room for an answer to it
-abbrev pub isFull : {S : Type 0} → Call S → Bool
-isFull c = nat_lt 2 c.reader.held && not (room c.lent)
+abbrev pub is_full : {S : Type 0} → Call S → Bool
+is_full c = nat_lt 2 c.reader.held && not (room c.lent)
 
 -- one byte, where the call has not stopped
-unfoldable pub tookOne : {S : Type 0} → Writer S → ℕ → Call S → Call S
-tookOne write b c =
-    cond (isFull c) c
+unfoldable pub took_one : {S : Type 0} → Writer S → ℕ → Call S → Call S
+took_one write b c =
+    cond (is_full c) c
     (noting write (took b c.reader).event (took b c.reader).reader c.state c.lent (c.used + 1))
 
 abbrev pub took_all : {S : Type 0} → Writer S → List ℕ → Call S → Call S
-took_all write bytes c = each (tookOne write) bytes c
+took_all write bytes c = each (took_one write) bytes c
 
 -- a whole call
 abbrev pub called : {S : Type 0} → Writer S → Reader → S → List ℕ → List ℕ → Call S

@@ -4,7 +4,7 @@
 use Rattle.std.specs.Prelude.{◌≡◌, ℕ, ◌+◌, ◌/◌, ◌%◌, ◌^◌, ◌<◌, ◌≤◌, true, false, List, [], ◌∷◌, ◌++◌, length, take}
 use Rattle.packets.specs.declared.Reader.{Reader}
 use Rattle.packets.specs.declared.Heard.{Heard}
-use Rattle.packets.specs.Header.{turnedDown, offsetsOf}
+use Rattle.packets.specs.Header.{turned_down, offsets_of}
 use Rattle.packets.specs.Reader.{blank, shut, took}
 use Rattle.packets.specs.Delivery.{Note, nine, Writer, Delivery, delivery, fed}
 use Rattle.packets.specs.Answers.{call, called, holding}
@@ -30,13 +30,13 @@ module _ {S : Type 0} (write : Writer S) where
   -- ---- Pieces. However the bytes are divided among calls, reader, state and the sequence of answers are the same
 
   -- a call begins with no answers of its own; the caller puts them behind those of the calls before
-  abbrev pub oneCall : List ℕ → Delivery S → Delivery S
-  oneCall piece d =
+  abbrev pub one_call : List ℕ → Delivery S → Delivery S
+  one_call piece d =
       let t = fed write piece (delivery d.reader d.state []) in delivery t.reader t.state (d.notes ++ t.notes)
 
   unfoldable pub calls : List (List ℕ) → Delivery S → Delivery S
   calls [] d = d
-  calls (piece ∷ pieces) d = calls pieces (oneCall piece d)
+  calls (piece ∷ pieces) d = calls pieces (one_call piece d)
 
   abbrev pub AnyPieces : Type 0
   AnyPieces = (pieces : List (List ℕ)) (d : Delivery S) → calls pieces d ≡ fed write (joined pieces) d
@@ -72,20 +72,20 @@ module _ {S : Type 0} (write : Writer S) where
 
   -- a whole packet is the register writes that its header names, each answered, and the reader is empty again
   abbrev pub PacketCarried : Type 0
-  PacketCarried = (s : S) (notes : List Note) (h : ℕ) (ws : List ℕ) → h < 2 ^ 32 → turnedDown h ≡ false → length ws ≡ length (offsetsOf h)
-      → fed write (spelled (h ∷ ws)) (delivery blank s notes) ≡ carried (offsetsOf h) ws (delivery blank s notes)
+  PacketCarried = (s : S) (notes : List Note) (h : ℕ) (ws : List ℕ) → h < 2 ^ 32 → turned_down h ≡ false → length ws ≡ length (offsets_of h)
+      → fed write (spelled (h ∷ ws)) (delivery blank s notes) ≡ carried (offsets_of h) ws (delivery blank s notes)
 
   -- a packet of no words ends with its header
   abbrev pub NoWords : Type 0
-  NoWords = (s : S) (notes : List Note) (h : ℕ) → h < 2 ^ 32 → turnedDown h ≡ false → offsetsOf h ≡ [] → fed write (spelled (h ∷ [])) (delivery blank s notes) ≡ delivery blank s notes
+  NoWords = (s : S) (notes : List Note) (h : ℕ) → h < 2 ^ 32 → turned_down h ≡ false → offsets_of h ≡ [] → fed write (spelled (h ∷ [])) (delivery blank s notes) ≡ delivery blank s notes
 
   -- one turned down is answered once; the tail is then empty, later bytes change nothing, and the state stays
   abbrev pub NineOnce : Type 0
-  NineOnce = (s : S) (notes : List Note) (h : ℕ) (later : List ℕ) → turnedDown h ≡ true
+  NineOnce = (s : S) (notes : List Note) (h : ℕ) (later : List ℕ) → turned_down h ≡ true
       → fed write (spelled (h ∷ []) ++ later) (delivery blank s notes) ≡ delivery shut s (notes ++ (nine ∷ []))
 
   -- with the reader opened anew the next bytes are taken as if that packet had not come
   abbrev pub Reopened : Type 0
-  Reopened = (s : S) (notes : List Note) (h : ℕ) (dropped later : List ℕ) → turnedDown h ≡ true
+  Reopened = (s : S) (notes : List Note) (h : ℕ) (dropped later : List ℕ) → turned_down h ≡ true
       → let d = fed write (spelled (h ∷ []) ++ dropped) (delivery blank s notes) in
       fed write later (delivery blank d.state d.notes) ≡ fed write later (delivery blank s (notes ++ (nine ∷ [])))

@@ -1,7 +1,7 @@
 -- The reader: bytes become words, low byte first, and a word is a header or the data of a register write.
 -- Assumes nothing.
 use Rattle.std.specs.Prelude.{ℕ, zero, suc, ◌+◌, ◌-◌, ◌*◌, ◌/◌, ◌%◌, ◌^◌, Bool, true, false, cond, not, ◌&&◌, List, length, ◌==◌, nat_le, nat_lt, slice_index}
-use Rattle.basics.specs.Word.{wordAt}
+use Rattle.basics.specs.Word.{word_at}
 use Rattle.packets.specs.declared.Rest.{Rest}
 use Rattle.packets.specs.declared.Rest.TheVariants.{Empty, Counted, Masked}
 use Rattle.packets.specs.declared.Reader.{Reader}
@@ -9,7 +9,7 @@ use Rattle.packets.specs.declared.Event.{Event}
 use Rattle.packets.specs.declared.Event.TheVariants.{Nothing, Write, Closed}
 use Rattle.packets.specs.declared.Heard.{Heard}
 use Rattle.packets.specs.declared.Next.{Next}
-use Rattle.packets.specs.Header.{kind, wordCount, firstOffset, consecutive, mask, turnedDown}
+use Rattle.packets.specs.Header.{kind, word_count, first_offset, consecutive, mask, turned_down}
 
 -- ---- what is left of a packet
 
@@ -24,7 +24,7 @@ skipped (suc k) o bits = cond (bits % 2 == 1) (Masked o bits) (skipped k ((o + 4
 
 -- of a packet with this header, before its first word
 unfoldable pub opened : ℕ → Rest
-opened h = cond (kind h == 2) (skipped 32 8 (mask h)) (counted (firstOffset h) (cond (consecutive h) 4 0) (wordCount h))
+opened h = cond (kind h == 2) (skipped 32 8 (mask h)) (counted (first_offset h) (cond (consecutive h) 4 0) (word_count h))
 
 -- after a word
 unfoldable pub advanced : Rest → Rest
@@ -48,7 +48,7 @@ heard r e = record { reader = r; event = e }
 
 -- a header opens a packet, or it is turned down
 unfoldable pub headed : ℕ → Heard
-headed h = cond (turnedDown h) (heard shut Closed) (heard (between (opened h)) Nothing)
+headed h = cond (turned_down h) (heard shut Closed) (heard (between (opened h)) Nothing)
 
 -- in a packet it is the data of a register write, and the packet goes on
 abbrev pub worded : Rest → ℕ → Heard
@@ -71,14 +71,14 @@ took b r =
 
 -- ---- what the code does on the way: the bytes from i on of a piece, a whole word of them where there is one and room for its answer, else one
 
-abbrev pub isBetween : Reader → Bool
-isBetween r = r.held == 0 && r.word == 0 && not r.closed
+abbrev pub is_between : Reader → Bool
+is_between r = r.held == 0 && r.word == 0 && not r.closed
 
 abbrev pub next : Heard → ℕ → Next
 next h used = record { reader = h.reader; event = h.event; used = used }
 
 unfoldable pub next_of : Reader → List ℕ → ℕ → Bool → Next
 next_of r piece i room =
-    cond (isBetween r && room && nat_le 4 (length piece - i))
-    (next (worded r.rest (wordAt piece i)) (i + 4))
+    cond (is_between r && room && nat_le 4 (length piece - i))
+    (next (worded r.rest (word_at piece i)) (i + 4))
     (next (took (slice_index piece i) r) (i + 1))

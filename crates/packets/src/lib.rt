@@ -1,8 +1,8 @@
 // Command packets: a reader takes the bytes of the command FIFO, cut anywhere, and says which register writes they bring. What carries the writes out is its
 // caller's.
 ghost use Rattle.std.specs.Prelude.{◌≡◌, ◌+◌, ◌*◌, ◌/◌, ◌%◌, ◌^◌, ◌<◌, length};
-ghost use Rattle.packets.specs.Header.{turnedDown};
-ghost use Rattle.packets.specs.Reader.{counted, skipped, opened, advanced, between, blank, heard, headed, worded, shifted, took, isBetween, next_of};
+ghost use Rattle.packets.specs.Header.{turned_down};
+ghost use Rattle.packets.specs.Reader.{counted, skipped, opened, advanced, between, blank, heard, headed, worded, shifted, took, is_between, next_of};
 ghost use Rattle.packets.specs.Delivery.{note};
 ghost use Rattle.packets.specs.Answers.{spare, lent, put};
 
@@ -56,7 +56,7 @@ fn shift(word: u32, byte: u8) -> u32
 // ---- headers
 
 fn turn_down(header: u32) -> bool
-    ensures { result ≡ turnedDown header }
+    ensures { result ≡ turned_down header }
 {
     !((header % 8 == 1) & (header / 0x4000 % 2 == 1) | (header % 8 == 2))
 }
@@ -214,7 +214,7 @@ impl Reader {
 
     // Nothing held, and no packet turned down.
     fn is_between(self) -> bool
-        ensures { result ≡ isBetween self }
+        ensures { result ≡ is_between self }
     {
         (self.held == 0) & (self.word == 0) & !self.closed
     }

@@ -13,7 +13,7 @@ use lib.Dec.{eqb, ltb}
 use lib.ListN.{length}
 use borrow.Author.Tests.{lt-ltb, ltb-true, eqb-true, ne_eqb}
 use Rattle.surface.specs.declared.Surface.{Surface}
-use Rattle.surface.specs.Place.{byte_at, firstByte, onSurface}
+use Rattle.surface.specs.Place.{byte_at, first_byte, on_surface}
 use Rattle.surface.specs.Pixels.{Px, rect, Inside}
 use Rattle.surface.specs.Asked.{Colour}
 use Rattle.surface.proofs.Lists.{In, by_cases}
@@ -21,8 +21,8 @@ use Rattle.surface.proofs.Rects.{Distinct, rect-in, rect-length}
 use Rattle.surface.proofs.OnLaws.{and_left, and_right, some_byte, on-bytes}
 use Rattle.spans.specs.Span.{addresses}
 use Rattle.spans.proofs.Spans.{in-addresses, addresses-in}
-use Rattle.pages.specs.Pages.{page_of, markedAt, marking}
-use Rattle.pages.specs.Extent.{starts, bandOf, firstPage, lastPage, extentOf}
+use Rattle.pages.specs.Pages.{page_of, marked_at, marking}
+use Rattle.pages.specs.Extent.{starts, band_of, first_page, last_page, extent_of}
 use Rattle.pages.proofs.MarkLaws.{either, false-true, or_cases, InPage, marking-none, marks-between, starts_none}
 use Rattle.pages.proofs.Bands.{Filled, stride-some, page-within, band-marks}
 use Rattle.pages.proofs.Fills.{fills}
@@ -41,38 +41,38 @@ pub record Boxed (s : Surface) (x y w h count : ℕ) : Type 0 where
   pub some : 0 < count
   pub wide : 0 < w
   pub high : 0 < h
-  pub fits : lastPage s x y w h < 4096
+  pub fits : last_page s x y w h < 4096
 
 module _ (s : Surface) (x y w h count : ℕ) where
   abbrev test : Bool
-  test = ltb 0 count && (ltb 0 w && (ltb 0 h && ltb (lastPage s x y w h) 4096))
+  test = ltb 0 count && (ltb 0 w && (ltb 0 h && ltb (last_page s x y w h) 4096))
 
   test-boxed : test ≡ true → Boxed s x y w h count
   test-boxed e =
-      let last = ltb (lastPage s x y w h) 4096 in
+      let last = ltb (last_page s x y w h) 4096 in
       let f = and_right (ltb 0 count) _ e in
       let g = and_right (ltb 0 w) _ f in
       record {
         some = ltb-true 0 count (and_left (ltb 0 count) _ e);
         wide = ltb-true 0 w (and_left (ltb 0 w) _ f);
         high = ltb-true 0 h (and_left (ltb 0 h) last g);
-        fits = ltb-true (lastPage s x y w h) 4096 (and_right (ltb 0 h) last g);
+        fits = ltb-true (last_page s x y w h) 4096 (and_right (ltb 0 h) last g);
       }
 
   boxed-test : Boxed s x y w h count → test ≡ true
-  boxed-test b = rw (lt-ltb 0 count b.some, lt-ltb 0 w b.wide, lt-ltb 0 h b.high, lt-ltb (lastPage s x y w h) 4096 b.fits)
+  boxed-test b = rw (lt-ltb 0 count b.some, lt-ltb 0 w b.wide, lt-ltb 0 h b.high, lt-ltb (last_page s x y w h) 4096 b.fits)
 
-  pub extent-box : Boxed s x y w h count → extentOf s x y w h count
-      ≡ record { first = firstPage s x y; past = lastPage s x y w h + 1; whole = eqb (firstPage s x y) (lastPage s x y w h) || (eqb count (w * h) && eqb (bandOf s y h) h) }
-  unfolding extentOf
+  pub extent-box : Boxed s x y w h count → extent_of s x y w h count
+      ≡ record { first = first_page s x y; past = last_page s x y w h + 1; whole = eqb (first_page s x y) (last_page s x y w h) || (eqb count (w * h) && eqb (band_of s y h) h) }
+  unfolding extent_of
   extent-box b = rw (boxed-test b)
 
-  pub extent-none : count ≡ 0 → extentOf s x y w h count ≡ record { first = 0; past = 0; whole = true }
-  unfolding extentOf
+  pub extent-none : count ≡ 0 → extent_of s x y w h count ≡ record { first = 0; past = 0; whole = true }
+  unfolding extent_of
   extent-none e = rw e
 
-  pub extent-all : (count ≡ 0 → ⊥) → (Boxed s x y w h count → ⊥) → extentOf s x y w h count ≡ record { first = 0; past = 4096; whole = false }
-  unfolding extentOf
+  pub extent-all : (count ≡ 0 → ⊥) → (Boxed s x y w h count → ⊥) → extent_of s x y w h count ≡ record { first = 0; past = 4096; whole = false }
+  unfolding extent_of
   extent-all n off = either test (λ e. absurd (off (test-boxed e))) (λ e. rw (e, ne_eqb count 0 n))
 
   by-extent : {A : Type 0} → (Boxed s x y w h count → A) → (count ≡ 0 → A) → ((count ≡ 0 → ⊥) → (Boxed s x y w h count → ⊥) → A) → A
@@ -85,7 +85,7 @@ pub record Lies (s : Surface) (x y w h count : ℕ) (ps : List Px) : Type 0 wher
   pub inside : (p : Px) → In p ps → Inside x y w h p
   pub len : ℕ
   pub limit : len ≤ 2 ^ 24
-  pub on : (p : Px) → In p ps → onSurface s len p.x p.y ≡ true
+  pub on : (p : Px) → In p ps → on_surface s len p.x p.y ≡ true
   pub once : Distinct ps
   pub many : length ps ≡ count
 
@@ -98,7 +98,7 @@ no-pixel [] e p i = Memᴰ.not-nil i
 no-pixel (q ∷ ps) e p i = omega arith
 
 module _ {s : Surface} {x y w h count : ℕ} {ps : List Px} (l : Lies s x y w h count ps) where
-  page-held : (a : ℕ) → Memᴰ a (addresses s ps) → (firstPage s x y ≤ page_of a) × (page_of a ≤ lastPage s x y w h)
+  page-held : (a : ℕ) → Memᴰ a (addresses s ps) → (first_page s x y ≤ page_of a) × (page_of a ≤ last_page s x y w h)
   page-held a i =
       let b = in-addresses s ps a i in
       let p = b.0 in
@@ -114,7 +114,7 @@ module _ {s : Surface} {x y w h count : ℕ} {ps : List Px} (l : Lies s x y w h 
   none_in e a i = let b = in-addresses s ps a i in no-pixel ps (l.many ∙ e) b.0 b.1
 
   pub extent-holds : (a : ℕ) → Memᴰ a (addresses s ps)
-      → ((extentOf s x y w h count).first ≤ page_of a) × (page_of a < (extentOf s x y w h count).past)
+      → ((extent_of s x y w h count).first ≤ page_of a) × (page_of a < (extent_of s x y w h count).past)
   extent-holds a i =
       by-extent s x y w h count
       (λ b. rw (extent-box s x y w h count b) (let r = page-held a i in omega arith))
@@ -122,16 +122,16 @@ module _ {s : Surface} {x y w h count : ℕ} {ps : List Px} (l : Lies s x y w h 
       (λ n off. rw (extent-all s x y w h count n off) (omega (arith, page-small a i)))
 
   -- one page alone has a byte of any pixel
-  one-page : 0 < count → firstPage s x y ≡ lastPage s x y w h → (k : ℕ) → firstPage s x y ≤ k → k ≤ lastPage s x y w h → InPage (addresses s ps) k
+  one-page : 0 < count → first_page s x y ≡ last_page s x y w h → (k : ℕ) → first_page s x y ≤ k → k ≤ last_page s x y w h → InPage (addresses s ps) k
   one-page some e k low high =
       let p = some-pixel ps (omega (arith, l.many)) in
-      let a = byte_at s (firstByte s p.0.x + 0) p.0.y in
+      let a = byte_at s (first_byte s p.0.x + 0) p.0.y in
       let i = addresses-in s ps p.0 a p.1 (record { k = 0; low = some_byte s; at = refl }) in
       let r = page-held a i in
       record { a = a; one = i; page = omega arith }
 
   -- all pixels of one band have a byte in each
-  all-filled : Boxed s x y w h count → count ≡ w * h → bandOf s y h ≡ h → Filled s x y w h ps
+  all-filled : Boxed s x y w h count → count ≡ w * h → band_of s y h ≡ h → Filled s x y w h ps
   all-filled b e band =
       let p = some-pixel ps (omega (arith, l.many, b.some)) in
       let pixels = rect false false x y w h in
@@ -146,26 +146,26 @@ module _ {s : Surface} {x y w h count : ℕ} {ps : List Px} (l : Lies s x y w h 
         only = l.inside;
       }
 
-  box-marks : Boxed s x y w h count → (eqb (firstPage s x y) (lastPage s x y w h) || (eqb count (w * h) && eqb (bandOf s y h) h)) ≡ true → (marks : List Bool)
-      → marking s ps marks ≡ markedAt (starts (firstPage s x y) (lastPage s x y w h + 1 - firstPage s x y)) marks
+  box-marks : Boxed s x y w h count → (eqb (first_page s x y) (last_page s x y w h) || (eqb count (w * h) && eqb (band_of s y h) h)) ≡ true → (marks : List Bool)
+      → marking s ps marks ≡ marked_at (starts (first_page s x y) (last_page s x y w h + 1 - first_page s x y)) marks
   box-marks b whole marks =
       ⊎_elim
-      (λ e. marks-between (addresses s ps) (firstPage s x y) (lastPage s x y w h) marks page-held (one-page b.some (eqb-true (firstPage s x y) (lastPage s x y w h) e)))
+      (λ e. marks-between (addresses s ps) (first_page s x y) (last_page s x y w h) marks page-held (one-page b.some (eqb-true (first_page s x y) (last_page s x y w h) e)))
       (λ e.
-      let count-all = eqb-true count (w * h) (and_left (eqb count (w * h)) (eqb (bandOf s y h) h) e) in
-      let one-band = eqb-true (bandOf s y h) h (and_right (eqb count (w * h)) (eqb (bandOf s y h) h) e) in
+      let count-all = eqb-true count (w * h) (and_left (eqb count (w * h)) (eqb (band_of s y h) h) e) in
+      let one-band = eqb-true (band_of s y h) h (and_right (eqb count (w * h)) (eqb (band_of s y h) h) e) in
       band-marks (all-filled b count-all one-band) marks)
-      (or_cases (eqb (firstPage s x y) (lastPage s x y w h)) (eqb count (w * h) && eqb (bandOf s y h) h) whole)
+      (or_cases (eqb (first_page s x y) (last_page s x y w h)) (eqb count (w * h) && eqb (band_of s y h) h) whole)
 
-  pub extent-whole : (extentOf s x y w h count).whole ≡ true → (marks : List Bool)
-      → marking s ps marks ≡ markedAt (starts (extentOf s x y w h count).first ((extentOf s x y w h count).past - (extentOf s x y w h count).first)) marks
+  pub extent-whole : (extent_of s x y w h count).whole ≡ true → (marks : List Bool)
+      → marking s ps marks ≡ marked_at (starts (extent_of s x y w h count).first ((extent_of s x y w h count).past - (extent_of s x y w h count).first)) marks
   extent-whole whole marks =
       by-extent s x y w h count
       (λ b. rw (extent-box s x y w h count b) (box-marks b (rw (extent-box s x y w h count b) at whole) marks))
       (λ e. rw (extent-none s x y w h count e) (marking-none s ps marks (no-pixel ps (l.many ∙ e)) ∙ sym (starts_none 0 0 marks (omega arith))))
       (λ n off. absurd (false-true (rw (extent-all s x y w h count n off) at whole)))
 
-pub extent-past : (s : Surface) (x y w h count : ℕ) → (extentOf s x y w h count).past ≤ 4096
+pub extent-past : (s : Surface) (x y w h count : ℕ) → (extent_of s x y w h count).past ≤ 4096
 extent-past s x y w h count =
     by-extent s x y w h count
     (λ b. rw (extent-box s x y w h count b) (omega (arith, b.fits)))

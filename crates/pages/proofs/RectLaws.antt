@@ -7,15 +7,15 @@ use Prim.Native.Nat.{ℕ, zero, suc, ◌+◌, ◌-◌, ◌*◌, ◌^◌, ◌<◌
 use native.Mathlib.Nat.{zero-add, suc-add, add-zero, sub-zero, suc-mul}
 use native.Mathlib.Omega.{arith}
 use Rattle.surface.specs.declared.Surface.{Surface}
-use Rattle.surface.specs.Place.{onSurface}
+use Rattle.surface.specs.Place.{on_surface}
 use Rattle.surface.specs.Pixels.{rect}
 use Rattle.surface.specs.Asked.{Small}
 use Rattle.surface.proofs.Bytes.{product_lt}
 use Rattle.surface.proofs.Rects.{rect-in, in-rect}
-use Rattle.surface.proofs.OnLaws.{colour-first, colour-count, lastByte, on-last}
+use Rattle.surface.proofs.OnLaws.{colour-first, colour-count, last_byte, on-last}
 use Rattle.spans.proofs.Corner.{rect-corner, all-each, each_all}
 use Rattle.pages.specs.Pages.{marking}
-use Rattle.pages.specs.Extent.{lastPage}
+use Rattle.pages.specs.Extent.{last_page}
 use Rattle.pages.specs.Asked.{Markable, InBand}
 use Rattle.pages.proofs.MarkLaws.{marking-append, marking-none}
 use Rattle.pages.proofs.Bands.{Filled, stride-some}
@@ -25,14 +25,14 @@ column-small {s} x small h = product_lt 14 3 {a = x} {b = s.bytes} (omega arith)
 
 -- ---- a rectangle in one band
 module _ {s : Surface} {x y w h : ℕ} (b : InBand s x y w h) where
-  corner-on : onSurface s b.markable.len (x + (w - 1)) (y + (h - 1)) ≡ true
+  corner-on : on_surface s b.markable.len (x + (w - 1)) (y + (h - 1)) ≡ true
   corner-on = sym (rect-corner false false s b.markable.len x y w h b.some b.high) ∙ b.markable.on
 
-  pub last-page-fits : lastPage s x y w h < 4096
+  pub last-page-fits : last_page s x y w h < 4096
   last-page-fits =
       let some = b.markable.colour.some in
       let next : (x + w) * s.bytes ≡ (x + (w - 1)) * s.bytes + s.bytes = ap (λ (n : ℕ). n * s.bytes) (omega (arith, b.some)) ∙ suc-mul (x + (w - 1)) s.bytes in
-      let column : lastByte s (x + (w - 1)) ≡ (x + w) * s.bytes - 1 = omega (arith, colour-first s (x + (w - 1)) some, colour-count s x some) in
+      let column : last_byte s (x + (w - 1)) ≡ (x + w) * s.bytes - 1 = omega (arith, colour-first s (x + (w - 1)) some, colour-count s x some) in
       let inside = rw column at (on-last s b.markable.len (x + (w - 1)) (y + (h - 1)) corner-on) in
       omega (arith, b.markable.limit)
 

@@ -12,32 +12,32 @@ abbrev pub page_of : ℕ → ℕ
 page_of a = a / 4096
 
 -- as many marks as 16,777,216 bytes have pages, all clear
-unfoldable pub noMarks : List Bool
-noMarks = replicate 4096 false
+unfoldable pub no_marks : List Bool
+no_marks = replicate 4096 false
 
 -- the marks with those of these addresses' pages set
-unfoldable pub markedAt : List ℕ → List Bool → List Bool
-markedAt [] marks = marks
-markedAt (a ∷ more) marks = markedAt more (set marks (page_of a) true)
+unfoldable pub marked_at : List ℕ → List Bool → List Bool
+marked_at [] marks = marks
+marked_at (a ∷ more) marks = marked_at more (set marks (page_of a) true)
 
 -- with those of every byte of these pixels
 abbrev pub marking : Surface → List Px → List Bool → List Bool
-marking s ps marks = markedAt (addresses s ps) marks
+marking s ps marks = marked_at (addresses s ps) marks
 
 -- the first marked one of n pages from number k on
-unfoldable pub firstFrom : List Bool → ℕ → ℕ → Marked
-firstFrom marks k zero = Nothing
-firstFrom marks k (suc n) = cond (get_or marks k false) (At k) (firstFrom marks (k + 1) n)
+unfoldable pub first_from : List Bool → ℕ → ℕ → Marked
+first_from marks k zero = Nothing
+first_from marks k (suc n) = cond (get_or marks k false) (At k) (first_from marks (k + 1) n)
 
 -- of all, at or after a number
-abbrev pub firstMarked : List Bool → ℕ → Marked
-firstMarked marks page = firstFrom marks page (4096 - page)
+abbrev pub first_marked : List Bool → ℕ → Marked
+first_marked marks page = first_from marks page (4096 - page)
 
 -- how many of n pages from number k on are marked
-unfoldable pub countFrom : List Bool → ℕ → ℕ → ℕ
-countFrom marks k zero = 0
-countFrom marks k (suc n) = cond (get_or marks k false) 1 0 + countFrom marks (k + 1) n
+unfoldable pub count_from : List Bool → ℕ → ℕ → ℕ
+count_from marks k zero = 0
+count_from marks k (suc n) = cond (get_or marks k false) 1 0 + count_from marks (k + 1) n
 
 -- of all
-abbrev pub countMarked : List Bool → ℕ
-countMarked marks = countFrom marks 0 4096
+abbrev pub count_marked : List Bool → ℕ
+count_marked marks = count_from marks 0 4096

@@ -2,8 +2,8 @@
 ghost use Rattle.std.specs.Prelude.{◌≡◌, false, [], ◌∷◌, ◌-◌, ◌^◌, ◌<◌, ◌≤◌};
 ghost use Rattle.surface.specs.Pixels.{px, rect};
 ghost use Rattle.surface.specs.Asked.{Small};
-ghost use Rattle.pages.specs.Pages.{noMarks, markedAt, marking, firstMarked, countMarked};
-ghost use Rattle.pages.specs.Extent.{starts, bandOf, firstPage, lastPage, extentOf};
+ghost use Rattle.pages.specs.Pages.{no_marks, marked_at, marking, first_marked, count_marked};
+ghost use Rattle.pages.specs.Extent.{starts, band_of, first_page, last_page, extent_of};
 ghost use Rattle.pages.specs.Asked.{MarkablePixel, Markable, InBand, Sized};
 
 use surface::Surface;
@@ -23,7 +23,7 @@ pub struct Extent {
 }
 
 pub fn no_marks() -> [bool; 4096]
-    ensures { result ≡ noMarks }
+    ensures { result ≡ no_marks }
 {
     [false; 4096]
 }
@@ -31,7 +31,7 @@ pub fn no_marks() -> [bool; 4096]
 // The pages from first up to, and without, past are marked.
 pub fn mark_pages(marks: &mut [bool; 4096], first: usize, past: usize)
     requires { past ≤ 4096 }
-    ensures { marks.new ≡ markedAt (starts first (past - first)) marks.old }
+    ensures { marks.new ≡ marked_at (starts first (past - first)) marks.old }
 {
     let mut page = first;
     while page < past {
@@ -56,7 +56,7 @@ pub fn mark_pixel(marks: &mut [bool; 4096], s: Surface, x: u32, y: u32)
 
 // Of h rows from row y on, how many lie so close that no page fits between two of them.
 fn band(s: Surface, y: u32, h: u32) -> u32
-    ensures { (result ≡ bandOf s y h) × (result ≤ h) × (0 < h → 0 < result) }
+    ensures { (result ≡ band_of s y h) × (result ≤ h) × (0 < h → 0 < result) }
 {
     if s.tiled {
         return surface::least(h, 32 - y % 32);
@@ -70,14 +70,14 @@ fn band(s: Surface, y: u32, h: u32) -> u32
 // The page of a rectangle's first byte, and that of its last.
 fn first_page(s: Surface, x: u32, y: u32) -> usize
     requires { Small s × (x ≤ 2 ^ 13) }
-    ensures { result ≡ firstPage s x y }
+    ensures { result ≡ first_page s x y }
 {
     surface::byte_at(s, surface::wide(x * s.bytes), surface::wide(y)) / 4096
 }
 
 fn last_page(s: Surface, x: u32, y: u32, w: u32, h: u32) -> usize
     requires { Sized s x y w h × (0 < w) × (0 < h) }
-    ensures { result ≡ lastPage s x y w h }
+    ensures { result ≡ last_page s x y w h }
 {
     let column = surface::wide((x + w) * s.bytes - 1);
     surface::byte_at(s, column, surface::wide(y + (h - 1))) / 4096
@@ -111,7 +111,7 @@ pub fn mark_rect(marks: &mut [bool; 4096], s: Surface, x: u32, y: u32, w: u32, h
 // Where `count` of the pixels of a rectangle are written: the pages from its first byte to its last, and whether all of them are to be marked.
 pub fn extent_of(s: Surface, x: u32, y: u32, w: u32, h: u32, count: u32) -> Extent
     requires { Sized s x y w h }
-    ensures { result ≡ extentOf s x y w h count }
+    ensures { result ≡ extent_of s x y w h count }
 {
     if count == 0 {
         return Extent {
@@ -140,7 +140,7 @@ pub fn extent_of(s: Surface, x: u32, y: u32, w: u32, h: u32, count: u32) -> Exte
 
 // The first marked page at or after a number.
 pub fn first_marked(marks: &[bool; 4096], page: u32) -> Marked
-    ensures { result ≡ firstMarked marks.now page }
+    ensures { result ≡ first_marked marks.now page }
 {
     let mut k = page;
     while k < 4096 {
@@ -154,7 +154,7 @@ pub fn first_marked(marks: &[bool; 4096], page: u32) -> Marked
 
 // How many pages are marked.
 pub fn count_marked(marks: &[bool; 4096]) -> u32
-    ensures { result ≡ countMarked marks.now }
+    ensures { result ≡ count_marked marks.now }
 {
     let mut n: u32 = 0;
     let mut k: usize = 0;

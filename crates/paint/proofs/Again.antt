@@ -11,7 +11,7 @@ use lib.ListN.{get_or}
 use lib.Seq.{ext_get_or}
 use borrow.Author.Tests.{eqb-true, not-false}
 use Rattle.surface.specs.declared.Surface.{Surface}
-use Rattle.surface.specs.Place.{readPx, one, differs}
+use Rattle.surface.specs.Place.{read_px, one, differs}
 use Rattle.surface.specs.Pixels.{Px}
 use Rattle.surface.proofs.Lists.{In}
 use Rattle.surface.proofs.Pixels.{same_read}
@@ -44,7 +44,7 @@ module _ (s : Surface) (colour : 0 < s.bytes) (ts : List Touch) (m : List ℕ) (
   pub unchanged-same : Bytes m → after.tally.changed ≡ n.changed → after.mem ≡ m
   unchanged-same bytes e =
       let z : summed (changing s m after.mem) (pixels ts) ≡ 0 = omega (arith, changed-between s colour ts m n d c) in
-      let alike : (p : Px) → In p (pixels ts) → readPx m s p.x p.y ≡ readPx after.mem s p.x p.y =
+      let alike : (p : Px) → In p (pixels ts) → read_px m s p.x p.y ≡ read_px after.mem s p.x p.y =
       (λ p i. eqb-true _ _ (not-false _ (one-zero (differs s p.x p.y m after.mem) (summed-zero (changing s m after.mem) (pixels ts) z p i)))) in
       ext_get_or 0 after.mem m (paint-length s ts (tallied m n)) (λ a l. ⊎_elim
       (λ r. let k = of-byte s colour r.0 a r.2 in

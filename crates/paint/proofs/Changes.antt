@@ -13,7 +13,7 @@ use lib.Dec.{eqb}
 use lib.ListN.{length, get_or}
 use borrow.Author.Tests.{eq-eqb}
 use Rattle.surface.specs.declared.Surface.{Surface}
-use Rattle.surface.specs.Place.{readPx, one, differs, rowPixels}
+use Rattle.surface.specs.Place.{read_px, one, differs, row_pixels}
 use Rattle.surface.specs.Pixels.{Px}
 use Rattle.surface.proofs.OnLaws.{one-most}
 use Rattle.surface.proofs.Lists.{In}
@@ -27,7 +27,7 @@ use Rattle.paint.proofs.Frame.{pixels, frame}
 
 -- the pixels are the surface's columns
 abbrev pub Columns : Surface → List Px → Type 0
-Columns s ps = (p : Px) → In p ps → p.x < rowPixels s
+Columns s ps = (p : Px) → In p ps → p.x < row_pixels s
 
 -- ---- sums over pixels
 pub summed_same : (f g : Px → ℕ) (ps : List Px) → ((p : Px) → In p ps → f p ≡ g p) → summed f ps ≡ summed g ps
@@ -47,7 +47,7 @@ summed-append f (p ∷ ps) qs = omega (arith, summed-append f ps qs)
 
 -- ---- one store
 pub same_differs : (s : Surface) (m : List ℕ) (p : Px) → changing s m m p ≡ 0
-same_differs s m p = rw (eq-eqb (readPx m s p.x p.y) (readPx m s p.x p.y) refl)
+same_differs s m p = rw (eq-eqb (read_px m s p.x p.y) (read_px m s p.x p.y) refl)
 
 dab-changes : (s : Surface) (p : Px) (o : Option ℕ) (st : State)
     → (dab s p o st).tally.changed ≡ st.tally.changed + changing s st.mem (dab s p o st).mem p

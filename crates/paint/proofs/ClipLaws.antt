@@ -8,7 +8,7 @@ use borrow.Author.Tests.{leb-true, ltb-true, le-leb, lt-ltb}
 use Rattle.surface.proofs.OnLaws.{and_left, and_right}
 use Rattle.surface.specs.Pixels.{origin}
 use Rattle.paint.specs.declared.Clip.{Clip}
-use Rattle.paint.specs.Clip.{inClip}
+use Rattle.paint.specs.Clip.{in_clip}
 
 pub record Covered (c : Clip) (x y : ℕ) : Type 0 where
   pub left : origin + c.left ≤ x
@@ -16,8 +16,8 @@ pub record Covered (c : Clip) (x y : ℕ) : Type 0 where
   pub top : origin + c.top ≤ y
   pub bottom : y < origin + c.bottom
 
-pub in-clip : (c : Clip) (x y : ℕ) → inClip c x y ≡ true → Covered c x y
-unfolding inClip
+pub in-clip : (c : Clip) (x y : ℕ) → in_clip c x y ≡ true → Covered c x y
+unfolding in_clip
 in-clip c x y e =
     let a = leb (origin + c.left) x in
     let b = ltb x (origin + c.right) in
@@ -32,7 +32,7 @@ in-clip c x y e =
       bottom = ltb-true y (origin + c.bottom) (and_right d f down);
     }
 
-pub clip-in : (c : Clip) (x y : ℕ) → Covered c x y → inClip c x y ≡ true
-unfolding inClip
+pub clip-in : (c : Clip) (x y : ℕ) → Covered c x y → in_clip c x y ≡ true
+unfolding in_clip
 clip-in c x y h =
     ap₂ (λ s t. s && t) (ap₂ (λ s t. s && t) (le-leb _ _ h.left) (lt-ltb _ _ h.right)) (ap₂ (λ s t. s && t) (le-leb _ _ h.top) (lt-ltb _ _ h.bottom))

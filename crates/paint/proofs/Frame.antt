@@ -11,7 +11,7 @@ use native.Mathlib.Decide.{ℕ_discrete, dec_lt}
 use lib.ListN.{length, get_or, set}
 use lib.Seq.{get_or-set_same, get_or-set_other, set_out}
 use Rattle.surface.specs.declared.Surface.{Surface}
-use Rattle.surface.specs.Place.{byte_of, writeBytes, writePx, one, differs}
+use Rattle.surface.specs.Place.{byte_of, write_bytes, write_px, one, differs}
 use Rattle.surface.specs.Pixels.{Px}
 use Rattle.surface.proofs.OnLaws.{one-most}
 use Rattle.surface.proofs.Lists.{In, by_cases}
@@ -48,7 +48,7 @@ pixels-of f (p ∷ ps) = ap (λ (qs : List Px). p ∷ qs) (pixels-of f ps)
 dab-upto : (s : Surface) (p : Px) (o : Option ℕ) (st : State) → Upto st.tally 1 (dab s p o st).tally
 unfolding dab
 dab-upto s p none st = upto-more (upto-none st.tally) (omega arith)
-dab-upto s p (some v) st = upto-noted 1 st.tally (one-most (differs s p.x p.y st.mem (writePx st.mem s p.x p.y v)))
+dab-upto s p (some v) st = upto-noted 1 st.tally (one-most (differs s p.x p.y st.mem (write_px st.mem s p.x p.y v)))
 
 pub paint-upto : (s : Surface) (ts : List Touch) (st : State) → Upto st.tally (length ts) (paint s ts st).tally
 unfolding paint
@@ -65,7 +65,7 @@ dab-after : (s : Surface) (p : Px) (o : Option ℕ) (n : Tally) (st : State) →
 unfolding dab
 dab-after s p none n st = refl
 dab-after s p (some v) n st =
-    let d = one (differs s p.x p.y st.mem (writePx st.mem s p.x p.y v)) in
+    let d = one (differs s p.x p.y st.mem (write_px st.mem s p.x p.y v)) in
     let e : n.count + st.tally.count + 1 ≡ n.count + (st.tally.count + 1) = omega arith in
     let f : n.changed + st.tally.changed + d ≡ n.changed + (st.tally.changed + d) = omega arith in
     rw (e, f)
@@ -92,13 +92,13 @@ count-wrote s (t ∷ ts) m n = by (λ left k. count-wrote s ts left k) (t.gives 
     by : ((left : List ℕ) (k : Tally) → (paint s ts (tallied left k)).tally.count ≡ k.count + length (wrote s ts left)) → (o : Option ℕ)
         → (paint s ts (dab s t.at o (tallied m n))).tally.count ≡ n.count + length (given o t.at (wrote s ts (dab s t.at o (state m 0 0)).mem))
     by rest none = rest m n
-    by rest (some v) = let h = rest (writePx m s t.at.x t.at.y v) (dab s t.at (some v) (tallied m n)).tally in omega (arith, h)
+    by rest (some v) = let h = rest (write_px m s t.at.x t.at.y v) (dab s t.at (some v) (tallied m n)).tally in omega (arith, h)
 
 -- no more are changed than written
 dab-most : (s : Surface) (p : Px) (o : Option ℕ) (st : State) → st.tally.changed ≤ st.tally.count → (dab s p o st).tally.changed ≤ (dab s p o st).tally.count
 unfolding dab
 dab-most s p none st h = h
-dab-most s p (some v) st h = omega (arith, one-most (differs s p.x p.y st.mem (writePx st.mem s p.x p.y v)))
+dab-most s p (some v) st h = omega (arith, one-most (differs s p.x p.y st.mem (write_px st.mem s p.x p.y v)))
 
 pub changed-most : (s : Surface) (ts : List Touch) (st : State) → st.tally.changed ≤ st.tally.count → (paint s ts st).tally.changed ≤ (paint s ts st).tally.count
 unfolding paint
@@ -117,15 +117,15 @@ set-bytes m i v h b a =
     (λ l. rw (set_out m i v (omega arith)) (b a)))
     (λ e. rw (get_or-set_other m i a v 0 e) (b a))
 
-pub write_bytes : (at : ℕ → ℕ) (k n v : ℕ) (m : List ℕ) → Bytes m → Bytes (writeBytes at k n v m)
-unfolding writeBytes
-write_bytes at k zero v m b = b
-write_bytes at k (suc n) v m b = write_bytes at (suc k) n (v / 256) (set m (at k) (v % 256)) (set-bytes m (at k) (v % 256) (omega arith) b)
+pub write-bytes : (at : ℕ → ℕ) (k n v : ℕ) (m : List ℕ) → Bytes m → Bytes (write_bytes at k n v m)
+unfolding write_bytes
+write-bytes at k zero v m b = b
+write-bytes at k (suc n) v m b = write-bytes at (suc k) n (v / 256) (set m (at k) (v % 256)) (set-bytes m (at k) (v % 256) (omega arith) b)
 
 dab-bytes : (s : Surface) (p : Px) (o : Option ℕ) (st : State) → Bytes st.mem → Bytes (dab s p o st).mem
-unfolding dab writePx
+unfolding dab write_px
 dab-bytes s p none st b = b
-dab-bytes s p (some v) st b = write_bytes (byte_of s p.x p.y) 0 s.bytes v st.mem b
+dab-bytes s p (some v) st b = write-bytes (byte_of s p.x p.y) 0 s.bytes v st.mem b
 
 pub paint_bytes : (s : Surface) (ts : List Touch) (st : State) → Bytes st.mem → Bytes (paint s ts st).mem
 unfolding paint

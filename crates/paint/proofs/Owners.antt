@@ -11,7 +11,7 @@ use native.Mathlib.Omega.{arith}
 use native.Mathlib.Decide.{ℕ_discrete}
 use lib.ListN.{length, get_or, set, length-set}
 use Rattle.surface.specs.declared.Surface.{Surface}
-use Rattle.surface.specs.Place.{byte_at, byte_of, writeBytes, readPx, writePx, monoBit, rowPixels, firstByte, byte_count}
+use Rattle.surface.specs.Place.{byte_at, byte_of, write_bytes, read_px, write_px, mono_bit, row_pixels, first_byte, byte_count}
 use Rattle.surface.specs.Pixels.{Px}
 use Rattle.surface.proofs.OnLaws.{colour-first, colour-count, mono-first, some_byte}
 use Rattle.surface.proofs.Pixels.{same_byte, write-leaves, read_same, length-write}
@@ -38,7 +38,7 @@ module _ (s : Surface) (colour : 0 < s.bytes) where
   )
 
   -- one owner
-  pub one-owner : (p q : Px) (a : ℕ) → p.x < rowPixels s → q.x < rowPixels s → IsByte s p a → IsByte s q a → p ≡ q
+  pub one-owner : (p q : Px) (a : ℕ) → p.x < row_pixels s → q.x < row_pixels s → IsByte s p a → IsByte s q a → p ≡ q
   one-owner p q a hp hq b c =
       let f = of-byte p a b in
       let g = of-byte q a c in
@@ -52,18 +52,18 @@ module _ (s : Surface) (colour : 0 < s.bytes) where
   dab-leaves p (some v) st a h =
       write-leaves st.mem s p.x p.y v a (λ k l e. h (subst (IsByte s p) (sym e) (byte-of p k l)))
 
-  pub read-px : (p : Px) (m m' : List ℕ) → ((a : ℕ) → IsByte s p a → get_or m a 0 ≡ get_or m' a 0) → readPx m s p.x p.y ≡ readPx m' s p.x p.y
+  pub read-px : (p : Px) (m m' : List ℕ) → ((a : ℕ) → IsByte s p a → get_or m a 0 ≡ get_or m' a 0) → read_px m s p.x p.y ≡ read_px m' s p.x p.y
   read-px p m m' h = read_same s p.x p.y m m' (λ k l. h (byte_of s p.x p.y k) (byte-of p k l))
 
 pub read-bit : (s : Surface) → s.bytes ≡ 0 → (p : Px) (m m' : List ℕ) → ((a : ℕ) → IsByte s p a → get_or m a 0 ≡ get_or m' a 0)
-    → monoBit m s p.x p.y ≡ monoBit m' s p.x p.y
-unfolding monoBit
+    → mono_bit m s p.x p.y ≡ mono_bit m' s p.x p.y
+unfolding mono_bit
 read-bit s e p m m' h =
     ap (λ (b : ℕ). b / 2 ^ (7 - p.x % 8) % 2)
     (h (byte_at s (p.x / 8) p.y) (record {
       k = 0;
       low = some_byte s;
-      at = ap (λ (n : ℕ). byte_at s n p.y) (sym (mono-first s p.x e) ∙ sym (add-zero (firstByte s p.x)));
+      at = ap (λ (n : ℕ). byte_at s n p.y) (sym (mono-first s p.x e) ∙ sym (add-zero (first_byte s p.x)));
     }))
 
 pub dab-length : (s : Surface) (p : Px) (o : Option ℕ) (st : State) → length (dab s p o st).mem ≡ length st.mem
@@ -82,8 +82,8 @@ set-agree (x ∷ xs) (y ∷ ys) (suc i) v zero e h = h
 set-agree (x ∷ xs) (y ∷ ys) (suc i) v (suc a) e h = set-agree xs ys i v a (omega arith) h
 
 write-agree : (at : ℕ → ℕ) (k n v : ℕ) (m m' : List ℕ) (a : ℕ) → length m ≡ length m' → get_or m a 0 ≡ get_or m' a 0
-    → get_or (writeBytes at k n v m) a 0 ≡ get_or (writeBytes at k n v m') a 0
-unfolding writeBytes
+    → get_or (write_bytes at k n v m) a 0 ≡ get_or (write_bytes at k n v m') a 0
+unfolding write_bytes
 write-agree at k zero v m m' a e h = h
 write-agree at k (suc n) v m m' a e h =
     write-agree at (suc k) n (v / 256) (set m (at k) (v % 256)) (set m' (at k) (v % 256)) a
@@ -91,19 +91,19 @@ write-agree at k (suc n) v m m' a e h =
 
 pub dab-agree : (s : Surface) (p : Px) (o : Option ℕ) (st st' : State) (a : ℕ) → length st.mem ≡ length st'.mem → get_or st.mem a 0 ≡ get_or st'.mem a 0
     → get_or (dab s p o st).mem a 0 ≡ get_or (dab s p o st').mem a 0
-unfolding dab writePx
+unfolding dab write_px
 dab-agree s p none st st' a e h = h
 dab-agree s p (some v) st st' a e h = write-agree (byte_of s p.x p.y) 0 s.bytes v st.mem st'.mem a e h
 
 -- ---- an address is a byte of one of the pixels, or of none
 found_in : (s : Surface) (p : Px) (a n : ℕ) → n ≤ byte_count s
-    → IsByte s p a ⊎ ((k : ℕ) → k < n → a ≡ byte_at s (firstByte s p.x + k) p.y → ⊥)
+    → IsByte s p a ⊎ ((k : ℕ) → k < n → a ≡ byte_at s (first_byte s p.x + k) p.y → ⊥)
 found_in s p a zero l = inr (λ k h e. omega arith)
-found_in s p a (suc n) l = ⊎_elim inl (λ f. by_cases (ℕ_discrete a (byte_at s (firstByte s p.x + n) p.y)) (λ e. inl (record { k = n; low = l; at = e }))
-    (λ g. inr (λ k h e. by_cases (ℕ_discrete k n) (λ w. g (e ∙ ap (λ (i : ℕ). byte_at s (firstByte s p.x + i) p.y) w)) (λ w. f k (omega arith) e)))) (found_in s p a n (omega arith))
+found_in s p a (suc n) l = ⊎_elim inl (λ f. by_cases (ℕ_discrete a (byte_at s (first_byte s p.x + n) p.y)) (λ e. inl (record { k = n; low = l; at = e }))
+    (λ g. inr (λ k h e. by_cases (ℕ_discrete k n) (λ w. g (e ∙ ap (λ (i : ℕ). byte_at s (first_byte s p.x + i) p.y) w)) (λ w. f k (omega arith) e)))) (found_in s p a n (omega arith))
 
 pub owner : (s : Surface) (ps : List Px) (a : ℕ) → ((p : Px) × In p ps × IsByte s p a) ⊎ ((p : Px) → In p ps → IsByte s p a → ⊥)
 owner s [] a = inr (λ p i. absurd (Memᴰ.not-nil i))
 owner s (p ∷ ps) a = ⊎_elim (λ r. inl (r.0, Memᴰ.tail r.1, r.2)) (λ f. ⊎_elim (λ b. inl (p, Memᴰ.head refl, b))
-    (λ g. inr (λ q i b. ⊎_elim (λ e. g b.k b.low (b.at ∙ ap (λ (x : Px). byte_at s (firstByte s x.x + b.k) x.y) e)) (λ j. f q j b) (Memᴰ.cases_cons i)))
+    (λ g. inr (λ q i b. ⊎_elim (λ e. g b.k b.low (b.at ∙ ap (λ (x : Px). byte_at s (first_byte s x.x + b.k) x.y) e)) (λ j. f q j b) (Memᴰ.cases_cons i)))
     (found_in s p a (byte_count s) (le_refl _))) (owner s ps a)

@@ -26,8 +26,8 @@ use Rattle.paint.proofs.Changes.{Columns, changed-from}
 abbrev pub Brush : Type 0
 Brush = List ℕ → List ℕ → Px → Option ℕ
 
-abbrev pub inPlace : Brush → List Px → List Touch
-inPlace brush ps = map (λ p. touch p (λ now. brush now now p)) ps
+abbrev pub in_place : Brush → List Px → List Touch
+in_place brush ps = map (λ p. touch p (λ now. brush now now p)) ps
 
 abbrev pub from : Brush → List ℕ → List Px → List Touch
 from brush m ps = map (λ p. touch p (λ now. brush m now p)) ps
@@ -64,17 +64,17 @@ module _ (s : Surface) (colour : 0 < s.bytes) (brush : Brush) (Reads : Px → �
   -- ---- in place, or from the memory as it was
   in-place-from : (m : List ℕ) (ps : List Px) (st : State) → Pairs (Unread s Reads) ps
       → ((q : Px) → In q ps → (a : ℕ) → Reads q a → get_or st.mem a 0 ≡ get_or m a 0)
-      → paint s (inPlace brush ps) st ≡ paint s (from brush m ps) st
+      → paint s (in_place brush ps) st ≡ paint s (from brush m ps) st
   unfolding paint
   in-place-from m [] st u h = refl
   in-place-from m (p ∷ ps) st u h =
       let e : brush st.mem st.mem p ≡ brush m st.mem p = loc.same p st.mem m st.mem st.mem (h p (Memᴰ.head refl)) (λ a b. refl) in
-      ap (λ (o : Option ℕ). paint s (inPlace brush ps) (dab s p o st)) e
+      ap (λ (o : Option ℕ). paint s (in_place brush ps) (dab s p o st)) e
       ∙ in-place-from m ps (dab s p (brush m st.mem p) st) u.1
       (λ q i a r. dab-leaves s colour p (brush m st.mem p) st a (u.0 q i a r) ∙ h q (Memᴰ.tail i) a r)
 
-  pub in_place : (ps : List Px) (m : List ℕ) (n : Tally) → Pairs (Unread s Reads) ps → paint s (inPlace brush ps) (tallied m n) ≡ paint s (from brush m ps) (tallied m n)
-  in_place ps m n u = in-place-from m ps (tallied m n) u (λ q i a r. refl)
+  pub in-place : (ps : List Px) (m : List ℕ) (n : Tally) → Pairs (Unread s Reads) ps → paint s (in_place brush ps) (tallied m n) ≡ paint s (from brush m ps) (tallied m n)
+  in-place ps m n u = in-place-from m ps (tallied m n) u (λ q i a r. refl)
 
   -- ---- what it comes to
   changed-settled : (m : List ℕ) (ps : List Px) (st : State) → Distinct ps → Columns s ps

@@ -7,12 +7,12 @@ use mathlib.Core.Option.{Option, none, some}
 use Prim.Native.Nat.{ℕ, zero, suc, ◌+◌, ◌-◌, ◌<◌, ◌≤◌}
 use native.Mathlib.Omega.{arith}
 use Rattle.surface.specs.declared.Surface.{Surface}
-use Rattle.surface.specs.Place.{byte_of, writeBytes, writePx, differ, differs, one}
+use Rattle.surface.specs.Place.{byte_of, write_bytes, write_px, differ, differs, one}
 use Rattle.surface.specs.Pixels.{Px, px, across, rect}
 use Rattle.surface.proofs.Run.{InPiece, read-run, write-run}
 use Rattle.paint.specs.declared.Tally.{Tally}
 use Rattle.paint.specs.Tally.{noted}
-use Rattle.paint.specs.Paint.{State, tallied, Touch, touch, dab, dabAt, paint, nth}
+use Rattle.paint.specs.Paint.{State, tallied, Touch, touch, dab, dab_at, paint, nth}
 
 -- ---- what remains after i turns
 abbrev first : Bool → ℕ → ℕ → ℕ
@@ -87,21 +87,21 @@ paint-while s f g Holds (p ∷ ps) h k st holds =
 
 -- ---- a store whose answer goes into the tally: of a pixel, or by address
 module _ (m : List ℕ) (n : Tally) {m' : List ℕ} {r : Tally} {d : Bool} {c : ℕ} where
-  pub dab-stored : (s : Surface) (p : Px) (v : ℕ) → (m' ≡ writePx m s p.x p.y v) × (d ≡ differs s p.x p.y m m') → c ≡ one d → r ≡ noted 1 c n
+  pub dab-stored : (s : Surface) (p : Px) (v : ℕ) → (m' ≡ write_px m s p.x p.y v) × (d ≡ differs s p.x p.y m m') → c ≡ one d → r ≡ noted 1 c n
       → tallied m' r ≡ dab s p (some v) (tallied m n)
   unfolding dab
   dab-stored s p v stored e k = rw (k, e, stored.1, stored.0)
 
-  pub dabAt-stored : (at b v : ℕ) → (m' ≡ writeBytes (λ k. at + k) 0 b v m) × (d ≡ differ (λ k. at + k) b m m') → c ≡ one d → r ≡ noted 1 c n
-      → tallied m' r ≡ dabAt at b (some v) (tallied m n)
-  unfolding dabAt
-  dabAt-stored at b v stored e k = rw (k, e, stored.1, stored.0)
+  pub dab_at-stored : (at b v : ℕ) → (m' ≡ write_bytes (λ k. at + k) 0 b v m) × (d ≡ differ (λ k. at + k) b m m') → c ≡ one d → r ≡ noted 1 c n
+      → tallied m' r ≡ dab_at at b (some v) (tallied m n)
+  unfolding dab_at
+  dab_at-stored at b v stored e k = rw (k, e, stored.1, stored.0)
 
-pub dab-at : (s : Surface) → InPiece s → (p : Px) (a : ℕ) (o : Option ℕ) (st : State) → a ≡ byte_of s p.x p.y 0 → dabAt a s.bytes o st ≡ dab s p o st
-unfolding dabAt dab
+pub dab-at : (s : Surface) → InPiece s → (p : Px) (a : ℕ) (o : Option ℕ) (st : State) → a ≡ byte_of s p.x p.y 0 → dab_at a s.bytes o st ≡ dab s p o st
+unfolding dab_at dab
 dab-at s piece p a none st e = refl
 dab-at s piece p a (some v) st e =
-    rw (write-run s piece p.x p.y a e v st.mem, read-run s piece p.x p.y a e st.mem, read-run s piece p.x p.y a e (writePx st.mem s p.x p.y v))
+    rw (write-run s piece p.x p.y a e v st.mem, read-run s piece p.x p.y a e st.mem, read-run s piece p.x p.y a e (write_px st.mem s p.x p.y v))
 
 -- ---- several pixels of a row at once
 pub across-append : (x m n y : ℕ) → across false x (m + n) y ≡ across false x m y ++ across false (x + m) n y

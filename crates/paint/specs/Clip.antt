@@ -5,9 +5,9 @@ use Rattle.surface.specs.Pixels.{Px, px, origin}
 use Rattle.paint.specs.declared.Clip.{Clip}
 
 -- min included, max excluded
-unfoldable pub inClip : Clip → ℕ → ℕ → Bool
-inClip c x y = (leb (origin + c.left) x && ltb x (origin + c.right)) && (leb (origin + c.top) y && ltb y (origin + c.bottom))
+unfoldable pub in_clip : Clip → ℕ → ℕ → Bool
+in_clip c x y = (leb (origin + c.left) x && ltb x (origin + c.right)) && (leb (origin + c.top) y && ltb y (origin + c.bottom))
 
 -- the pixel at a position inside the clip
-abbrev pub pixelAt : ℕ → ℕ → Px
-pixelAt x y = px (x - origin) (y - origin)
+abbrev pub pixel_at : ℕ → ℕ → Px
+pixel_at x y = px (x - origin) (y - origin)

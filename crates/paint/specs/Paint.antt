@@ -4,7 +4,7 @@
 use Rattle.std.specs.Prelude.{Bool, true, false, cond, List, [], ◌∷◌, ℕ, ◌+◌, ◌-◌}
 use Rattle.std.proofs.Math.Option.{Option, none, some}
 use Rattle.surface.specs.declared.Surface.{Surface}
-use Rattle.surface.specs.Place.{writeBytes, writePx, one, differ, differs}
+use Rattle.surface.specs.Place.{write_bytes, write_px, one, differ, differs}
 use Rattle.surface.specs.Pixels.{Px}
 use Rattle.paint.specs.declared.Tally.{Tally}
 use Rattle.paint.specs.Tally.{tally, noted}
@@ -24,14 +24,14 @@ state m n c = tallied m (tally n c)
 unfoldable pub dab : Surface → Px → Option ℕ → State → State
 dab s p none st = st
 dab s p (some v) st =
-    let m = writePx st.mem s p.x p.y v in
+    let m = write_px st.mem s p.x p.y v in
     tallied m (noted 1 (one (differs s p.x p.y st.mem m)) st.tally)
 
 -- the same of n bytes from an address on
-unfoldable pub dabAt : ℕ → ℕ → Option ℕ → State → State
-dabAt at n none st = st
-dabAt at n (some v) st =
-    let m = writeBytes (λ k. at + k) 0 n v st.mem in
+unfoldable pub dab_at : ℕ → ℕ → Option ℕ → State → State
+dab_at at n none st = st
+dab_at at n (some v) st =
+    let m = write_bytes (λ k. at + k) 0 n v st.mem in
     tallied m (noted 1 (one (differ (λ k. at + k) n st.mem m)) st.tally)
 
 -- a pixel, and what it is given in the memory as it is then

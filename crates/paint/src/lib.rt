@@ -2,15 +2,15 @@
 // knows a register's offset or an answer's number.
 ghost use Rattle.std.specs.Prelude.{◌≡◌, false, cond, ◌+◌, ◌-◌, ◌^◌, ◌<◌, ◌≤◌, length};
 ghost use Rattle.std.proofs.Math.Option.{none, some};
-ghost use Rattle.surface.specs.Place.{readPx};
+ghost use Rattle.surface.specs.Place.{read_px};
 ghost use Rattle.surface.specs.Pixels.{px};
 ghost use Rattle.surface.specs.Asked.{Held, OnColour, OnClose};
-ghost use Rattle.raster.specs.Rop.{ropBits};
+ghost use Rattle.raster.specs.Rop.{rop_bits};
 ghost use Rattle.paint.specs.Tally.{noted};
-ghost use Rattle.paint.specs.Paint.{tallied, dab, dabAt, nth};
-ghost use Rattle.paint.specs.Mix.{colourSource, bitSource, chosen, targetMatch, mixed, direct, patternless};
+ghost use Rattle.paint.specs.Paint.{tallied, dab, dab_at, nth};
+ghost use Rattle.paint.specs.Mix.{colour_source, bit_source, chosen, target_match, mixed, direct, patternless};
 ghost use Rattle.paint.specs.Asked.{Room, Ready, Bits12};
-ghost use Rattle.paint.specs.Clip.{inClip};
+ghost use Rattle.paint.specs.Clip.{in_clip};
 
 use ink::Ink;
 use surface::Surface;
@@ -42,7 +42,7 @@ pub struct Clip {
 // Whether a position, counted from 16384, is inside the clip.
 pub fn covers(c: Clip, x: u32, y: u32) -> bool
     requires { Bits12 c }
-    ensures { result ≡ inClip c x y }
+    ensures { result ≡ in_clip c x y }
 {
     ((16384 + c.left <= x) & (x < 16384 + c.right))
         & ((16384 + c.top <= y) & (y < 16384 + c.bottom))
@@ -60,14 +60,14 @@ pub fn place(down: bool, at: u32, n: u32, i: u32) -> u32
 }
 
 pub fn colour_source(ink: Ink, bytes: u32, v: u32) -> Source
-    ensures { result ≡ colourSource ink bytes v }
+    ensures { result ≡ colour_source ink bytes v }
 {
     let to = ink.target.bytes;
     let value = colour::convert(bytes, to, v);
-    if ink.srcKey {
+    if ink.src_key {
         return Source {
             value: value,
-            key: keys::key_match(bytes, ink.srcMin, ink.srcMax, v),
+            key: keys::key_match(bytes, ink.src_min, ink.src_max, v),
             left: false,
         };
     }
@@ -79,7 +79,7 @@ pub fn colour_source(ink: Ink, bytes: u32, v: u32) -> Source
 }
 
 pub fn bit_source(ink: Ink, bit: u32) -> Source
-    ensures { result ≡ bitSource ink bit }
+    ensures { result ≡ bit_source ink bit }
 {
     if bit == 1 {
         return Source {
@@ -96,33 +96,33 @@ pub fn bit_source(ink: Ink, bit: u32) -> Source
 }
 
 // The raster operation for a pixel whose source, and whose target, match their keys or not.
-fn choose(ink: Ink, bySource: bool, byTarget: bool) -> u32
-    ensures { result ≡ chosen ink bySource byTarget }
+fn choose(ink: Ink, by_source: bool, by_target: bool) -> u32
+    ensures { result ≡ chosen ink by_source by_target }
 {
-    if bySource {
-        if byTarget {
+    if by_source {
+        if by_target {
             return ink.rop3;
         }
         return ink.rop2;
     }
-    if byTarget {
+    if by_target {
         return ink.rop1;
     }
     ink.rop0
 }
 
 fn matches_target(ink: Ink, old: u32) -> bool
-    ensures { result ≡ targetMatch ink old }
+    ensures { result ≡ target_match ink old }
 {
-    if ink.dstKey {
-        return keys::key_match(ink.target.bytes, ink.dstMin, ink.dstMax, old);
+    if ink.dst_key {
+        return keys::key_match(ink.target.bytes, ink.dst_min, ink.dst_max, old);
     }
     false
 }
 
 // What pattern, source and target make.
 pub fn mix(ink: Ink, pattern: u32, s: Source, old: u32) -> u32
-    ensures { result ≡ ropBits 32 (chosen ink s.key (targetMatch ink old)) pattern s.value old }
+    ensures { result ≡ rop_bits 32 (chosen ink s.key (target_match ink old)) pattern s.value old }
 {
     let code = choose(ink, s.key, matches_target(ink, old));
     raster::raster(code, pattern, s.value, old)
@@ -132,7 +132,7 @@ pub fn mix(ink: Ink, pattern: u32, s: Source, old: u32) -> u32
 pub fn is_direct(ink: Ink) -> bool
     ensures { result ≡ direct ink }
 {
-    (ink.rop0 == 0xcc) & !ink.dstKey
+    (ink.rop0 == 0xcc) & !ink.dst_key
 }
 
 // Whether no raster operation of a command looks at the pattern.
@@ -181,7 +181,7 @@ pub fn put_close(mem: &mut [u8], s: Surface, x: u32, y: u32, left: bool, v: u32,
 // The same of a pixel of so many bytes from an address on.
 pub fn put_value_at(mem: &mut [u8], at: usize, bytes: u32, left: bool, v: u32, n: Tally) -> Tally
     requires { Held at bytes (length mem.old) × Room n 1 }
-    ensures { tallied mem.new result ≡ dabAt at bytes (cond left none (some v)) (tallied mem.old n) }
+    ensures { tallied mem.new result ≡ dab_at at bytes (cond left none (some v)) (tallied mem.old n) }
 {
     if left {
         return n;
@@ -201,7 +201,7 @@ pub fn put_source(
     n: Tally,
 ) -> Tally
     requires { Ready ink (length mem.old) x y n }
-    ensures { tallied mem.new result ≡ dab ink.target (px x y) (mixed ink pattern s (readPx mem.old ink.target x y)) (tallied mem.old n) }
+    ensures { tallied mem.new result ≡ dab ink.target (px x y) (mixed ink pattern s (read_px mem.old ink.target x y)) (tallied mem.old n) }
 {
     let target = ink.target;
     let old = surface::get_pixel(mem, target, x, y);

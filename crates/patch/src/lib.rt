@@ -2,7 +2,7 @@
 ghost use Rattle.std.specs.Prelude.{◌≡◌, length};
 ghost use Rattle.surface.specs.Pixels.{px, across, rect};
 ghost use Rattle.paint.specs.Paint.{state, tallied, paint};
-ghost use Rattle.sweep.specs.Copy.{sourceBy, in_turn};
+ghost use Rattle.sweep.specs.Copy.{source_by, in_turn};
 ghost use Rattle.sweep.specs.Asked.{HasSource, RowReady, CanPaint};
 ghost use Rattle.patch.specs.Row.{in_row};
 
@@ -12,7 +12,7 @@ use sweep::Task;
 // The source of pixel (x, y); `bit` is the bit of a mono pattern there.
 fn source_at(mem: &[u8], t: Task, bit: u32, x: u32, y: u32) -> Source
     requires { HasSource t (length mem.now) x y }
-    ensures { result ≡ sourceBy t bit mem.now (px x y) }
+    ensures { result ≡ source_by t bit mem.now (px x y) }
 {
     let ink = t.ink;
     if !t.copies {
@@ -62,11 +62,11 @@ pub fn paint_rows(
     pattern: [u8; 256],
     w: u32,
     h: u32,
-    toLeft: bool,
-    toTop: bool,
+    to_left: bool,
+    to_top: bool,
 ) -> Tally
     requires { CanPaint t w h (length mem.old) }
-    ensures { tallied mem.new result ≡ paint t.ink.target (in_turn t pattern (rect toLeft toTop t.x t.y w h)) (state mem.old 0 0) }
+    ensures { tallied mem.new result ≡ paint t.ink.target (in_turn t pattern (rect to_left to_top t.x t.y w h)) (state mem.old 0 0) }
 {
     let ink = t.ink;
     let mut n = Tally {
@@ -75,11 +75,11 @@ pub fn paint_rows(
     };
     let mut j = 0;
     while j < h {
-        let y = paint::place(toTop, t.y, h, j);
+        let y = paint::place(to_top, t.y, h, j);
         let row = ink::pattern_row(ink, y);
         let bits = ink::pattern_byte(pattern, row);
         let values = ink::row_values(ink, pattern, row);
-        n = paint_across(mem, t, values, bits, w, y, toLeft, n);
+        n = paint_across(mem, t, values, bits, w, y, to_left, n);
         j += 1;
     }
     n

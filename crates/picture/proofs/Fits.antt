@@ -3,20 +3,20 @@
 use Rattle.std.proofs.Common.{◌≡◌, ℕ, zero, suc, ◌+◌, ◌-◌, ◌*◌, ◌/◌, ◌%◌, ◌^◌, ◌<◌, ◌≤◌, Bool, true, false, cond, ◌&&◌, eqb, ltb, List, [], ◌∷◌, ◌++◌, length, take, set, sym, refl, ap, ◌∙◌, append_assoc, append-nil, add-zero, mul_comm, mul-le-mul, le-mul_of_pos_right, add-one, arith, length-append, length-set, take-suc-set, lt-ltb}
 use native.Mathlib.Nat.{pow-le-pow_right}
 use Rattle.surface.specs.declared.Surface.{Surface}
-use Rattle.surface.specs.Place.{readPx}
+use Rattle.surface.specs.Place.{read_px}
 use Rattle.surface.specs.Asked.{Colour}
 use Rattle.surface.specs.Pixels.{Px, rect}
-use Rattle.spans.specs.Span.{allOn}
-use Rattle.surface.proofs.Rows.{byteAt-area}
-use Rattle.surface.proofs.OnLaws.{colour-first, lastByte, last-in-row, on-column, on-last}
+use Rattle.spans.specs.Span.{all_on}
+use Rattle.surface.proofs.Rows.{byte_at-area}
+use Rattle.surface.proofs.OnLaws.{colour-first, last_byte, last-in-row, on-column, on-last}
 use Rattle.surface.proofs.Rects.{rect-length}
 use Rattle.spans.proofs.Corner.{rect-corner}
 use Rattle.registers.specs.declared.Regs.{Regs}
 use Rattle.engine.specs.Step.{regs}
 use Rattle.basics.specs.Each.{each}
 use Rattle.ppm.specs.Text.{Page, page, put, said, digit, digits, decimal, numeral}
-use Rattle.ppm.specs.Picture.{shade, line, lines, header, noPicture, left, top, right, bottom, target, pixels, shows, picture}
-use Rattle.picture.specs.Player.{Sheet, refusal, shortWrite, printed}
+use Rattle.ppm.specs.Picture.{shade, line, lines, header, no_picture, left, top, right, bottom, target, pixels, shows, picture}
+use Rattle.picture.specs.Player.{Sheet, refusal, short_write, printed}
 use Rattle.ppm.proofs.PictureLaws.{shown, rect-shown}
 
 -- ---- numbers
@@ -82,8 +82,8 @@ lines-short : (s : Surface) (m : List ℕ) (ps : List Px) → length (lines s m 
 unfolding lines
 lines-short s m [] = omega arith
 lines-short s m (p ∷ ps) =
-    let l = line (shade s.bytes (readPx m s p.x p.y)) in
-    omega (arith, length-append l (lines s m ps), line-short (shade s.bytes (readPx m s p.x p.y)), lines-short s m ps)
+    let l = line (shade s.bytes (read_px m s p.x p.y)) in
+    omega (arith, length-append l (lines s m ps), line-short (shade s.bytes (read_px m s p.x p.y)), lines-short s m ps)
 
 header-short : (w h : ℕ) → w < 2 ^ 12 → h < 2 ^ 12 → length (header w h) ≤ 17
 unfolding header
@@ -104,23 +104,23 @@ refusal-short n k =
     omega (arith, length-append (numeral n 0x20) ((0x61 ∷ 0x74 ∷ 0x20 ∷ []) ++ numeral k 10), numeral-length n 0x20, numeral-length k 10, decimal-short n, decimal-short k)
 
 -- ---- a rectangle that is on the surface has no more pixels than the memory has bytes
-pixels-few : (s : Surface) (len x y w h : ℕ) → Colour s → 0 < w → 0 < h → allOn s len (rect false false x y w h) ≡ true → h * w ≤ len
+pixels-few : (s : Surface) (len x y w h : ℕ) → Colour s → 0 < w → 0 < h → all_on s len (rect false false x y w h) ≡ true → h * w ≤ len
 pixels-few s len x y w h colour pw ph e =
     let at = x + (w - 1) in
     let on = sym (rect-corner false false s len x y w h pw ph) ∙ e in
     let last = on-last s len at (y + (h - 1)) on in
     let row = last-in-row s at (on-column s len at (y + (h - 1)) on) in
-    let column : at ≤ lastByte s at = omega (arith, colour-first s at colour.some, le-mul_of_pos_right at colour.some) in
-    let area = byteAt-area s (lastByte s at) (y + (h - 1)) row in
-    let inside : h * w ≤ (y + (h - 1) + 1) * (lastByte s at + 1) = mul-le-mul (omega arith) (omega arith) in
-    omega (arith, mul_comm (lastByte s at + 1) (y + (h - 1) + 1))
+    let column : at ≤ last_byte s at = omega (arith, colour-first s at colour.some, le-mul_of_pos_right at colour.some) in
+    let area = byte_at-area s (last_byte s at) (y + (h - 1)) row in
+    let inside : h * w ≤ (y + (h - 1) + 1) * (last_byte s at + 1) = mul-le-mul (omega arith) (omega arith) in
+    omega (arith, mul_comm (last_byte s at + 1) (y + (h - 1) + 1))
 
 picture-short : (r : Regs) (m : List ℕ) → length m ≤ 65536 → length (picture r m) ≤ 786449
 unfolding picture
 picture-short r m small = by-test (shows r (length m)) refl
   where
     by-test : (t : Bool) → shows r (length m) ≡ t
-        → length (cond t (header (right r - left r) (bottom r - top r) ++ lines (target r) m (pixels r)) noPicture) ≤ 786449
+        → length (cond t (header (right r - left r) (bottom r - top r) ++ lines (target r) m (pixels r)) no_picture) ≤ 786449
     by-test true e =
         let k = shown r (length m) e in
         let w = right r - left r in
@@ -134,7 +134,7 @@ unfolding printed
 printed-short s small = by-test (eqb s.player.refused 0) (eqb s.player.held 0)
   where
     by-test : (t u : Bool)
-        → length (cond t (cond u (picture (regs s.player.engine) s.memory) shortWrite) (refusal s.player.refused s.player.played)) ≤ 786449
+        → length (cond t (cond u (picture (regs s.player.engine) s.memory) short_write) (refusal s.player.refused s.player.played)) ≤ 786449
     by-test true true = picture-short (regs s.player.engine) s.memory small
     by-test true false = omega arith
     by-test false u = omega (arith, refusal-short s.player.refused s.player.played)

@@ -7,15 +7,15 @@ use Rattle.basics.proofs.One.{settled}
 use Rattle.surface.proofs.OnLaws.{and_left}
 use Rattle.basics.specs.Each.{each}
 use Rattle.ppm.specs.Text.{page, said, digit, digits, decimal}
-use Rattle.picture.specs.Player.{freshPlayer, shifted, wrote, arrived, taken, fed, printed, start, sheetOf}
-use Rattle.picture.specs.Promises.{OneOpen, OneTake, OneFeed, OneText, AnyPieces, WholeText, WholeSheet, valueFrom, ReadBack, word, between, PairPlayed}
+use Rattle.picture.specs.Player.{fresh_player, shifted, wrote, arrived, taken, fed, printed, start, sheet_of}
+use Rattle.picture.specs.Promises.{OneOpen, OneTake, OneFeed, OneText, AnyPieces, WholeText, WholeSheet, value_from, ReadBack, word, between, PairPlayed}
 use Rattle.basics.proofs.EachLaws.{each_append}
 use Rattle.picture.proofs.PlayerLaws.{fed-long, start-long}
 use Rattle.picture.proofs.Fits.{printed-short, said-whole}
 
 -- a contract that says what the outcome equals allows one
 pub one-open : OneOpen
-one-open len x y = settled (freshPlayer len) x y
+one-open len x y = settled (fresh_player len) x y
 
 pub one-take : OneTake
 one-take b s x y = settled (taken b s) x y
@@ -35,26 +35,26 @@ whole-text s out small room =
     rw none at (said-whole (printed s) (page out 0) (omega (arith, printed-short s small)))
 
 pub whole-sheet : WholeSheet
-unfolding sheetOf
+unfolding sheet_of
 whole-sheet input out room = let long = fed-long input start ∙ start-long in whole-text (fed input start) out (omega arith) room
 
 -- ---- numbers
 abbrev Reads : ℕ → ℕ → Type 0
-Reads k n = valueFrom (n / 10 ^ k) (digits k n) ≡ n
+Reads k n = value_from (n / 10 ^ k) (digits k n) ≡ n
 
 reads : (k n : ℕ) → Reads k n
 unfolding digits digit
 reads zero n = omega arith
 reads (suc k) n = by-test (ltb n (10 ^ k) && ltb 1 (10 ^ k)) refl (reads k n)
   where
-    by-test : (t : Bool) → (ltb n (10 ^ k) && ltb 1 (10 ^ k)) ≡ t → Reads k n → valueFrom (n / 10 ^ suc k) (cond t [] ((48 + n / 10 ^ k % 10) ∷ []) ++ digits k n) ≡ n
+    by-test : (t : Bool) → (ltb n (10 ^ k) && ltb 1 (10 ^ k)) ≡ t → Reads k n → value_from (n / 10 ^ suc k) (cond t [] ((48 + n / 10 ^ k % 10) ∷ []) ++ digits k n) ≡ n
     by-test true e r =
         let small = ltb-true n (10 ^ k) (and_left (ltb n (10 ^ k)) (ltb 1 (10 ^ k)) e) in
-        ap (λ (v : ℕ). valueFrom v (digits k n)) (div-eq_of_lt {n = n} {m = 10 ^ suc k} (omega (arith, pow-suc 10 k)) ∙ sym (div-eq_of_lt {n = n} {m = 10 ^ k} small)) ∙ r
+        ap (λ (v : ℕ). value_from v (digits k n)) (div-eq_of_lt {n = n} {m = 10 ^ suc k} (omega (arith, pow-suc 10 k)) ∙ sym (div-eq_of_lt {n = n} {m = 10 ^ k} small)) ∙ r
     by-test false e r =
         let place = n / 10 ^ k in
         let above : n / 10 ^ suc k ≡ place / 10 = ap (λ (v : ℕ). n / v) (pow-suc 10 k) ∙ sym (div-div-eq-div-mul n (10 ^ k) 10) in
-        ap (λ (v : ℕ). valueFrom v (digits k n)) (omega (arith, above)) ∙ r
+        ap (λ (v : ℕ). value_from v (digits k n)) (omega (arith, above)) ∙ r
 
 pub read_back : ReadBack
 unfolding decimal

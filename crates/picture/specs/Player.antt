@@ -1,7 +1,7 @@
 -- A stream of register writes, played byte by byte: eight bytes are an offset and a word, low byte first. And what the program prints of it.
 -- Assumes nothing.
 use Rattle.std.specs.Prelude.{ℕ, ◌+◌, ◌*◌, ◌/◌, ◌%◌, ◌^◌, cond, List, [], ◌∷◌, ◌++◌, replicate, ◌==◌, nat_lt}
-use Rattle.engine.specs.Step.{Step, written, number_of, freshEngine, regs}
+use Rattle.engine.specs.Step.{Step, written, number_of, fresh_engine, regs}
 use Rattle.picture.specs.declared.Player.{Player}
 use Rattle.basics.specs.Each.{each}
 use Rattle.ppm.specs.Text.{numeral}
@@ -16,8 +16,8 @@ abbrev pub sheet : Player → List ℕ → Sheet
 sheet p m = record { player = p; memory = m }
 
 -- nothing played, on a memory of len bytes
-unfoldable pub freshPlayer : ℕ → Player
-freshPlayer len = record { engine = freshEngine len; window = 0; held = 0; played = 0; refused = 0 }
+unfoldable pub fresh_player : ℕ → Player
+fresh_player len = record { engine = fresh_engine len; window = 0; held = 0; played = 0; refused = 0 }
 
 -- ---- one byte
 
@@ -57,19 +57,19 @@ refusal number index =
     (0x72 ∷ 0x65 ∷ 0x66 ∷ 0x75 ∷ 0x73 ∷ 0x65 ∷ 0x64 ∷ 0x20 ∷ []) ++ (numeral number 0x20 ++ ((0x61 ∷ 0x74 ∷ 0x20 ∷ []) ++ numeral index 10))
 
 -- the line `short write`
-abbrev pub shortWrite : List ℕ
-shortWrite = 0x73 ∷ 0x68 ∷ 0x6f ∷ 0x72 ∷ 0x74 ∷ 0x20 ∷ 0x77 ∷ 0x72 ∷ 0x69 ∷ 0x74 ∷ 0x65 ∷ 10 ∷ []
+abbrev pub short_write : List ℕ
+short_write = 0x73 ∷ 0x68 ∷ 0x6f ∷ 0x72 ∷ 0x74 ∷ 0x20 ∷ 0x77 ∷ 0x72 ∷ 0x69 ∷ 0x74 ∷ 0x65 ∷ 10 ∷ []
 
 -- the first fault met, or the picture
 unfoldable pub printed : Sheet → List ℕ
 printed s =
     cond (s.player.refused == 0)
-    (cond (s.player.held == 0) (picture (regs s.player.engine) s.memory) shortWrite)
+    (cond (s.player.held == 0) (picture (regs s.player.engine) s.memory) short_write)
     (refusal s.player.refused s.player.played)
 
 -- the program: what it prints of the bytes of its input, on 65,536 zero bytes
 unfoldable pub start : Sheet
-start = sheet (freshPlayer 65536) (replicate 65536 0)
+start = sheet (fresh_player 65536) (replicate 65536 0)
 
-unfoldable pub sheetOf : List ℕ → List ℕ
-sheetOf input = printed (fed input start)
+unfoldable pub sheet_of : List ℕ → List ℕ
+sheet_of input = printed (fed input start)

@@ -5,11 +5,11 @@ use Rattle.engine.specs.declared.Engine.{Engine}
 use Rattle.engine.specs.Step.{written}
 use Rattle.picture.specs.declared.Player.{Player}
 use Rattle.ppm.specs.Text.{Page, page, said, decimal}
-use Rattle.picture.specs.Player.{Sheet, sheet, freshPlayer, taken, fed, wrote, printed, start, sheetOf}
+use Rattle.picture.specs.Player.{Sheet, sheet, fresh_player, taken, fed, wrote, printed, start, sheet_of}
 
 -- ---- the contracts allow one outcome
 abbrev pub OneOpen : Type 0
-OneOpen = (len : ℕ) (x y : Player) → x ≡ freshPlayer len → y ≡ freshPlayer len → x ≡ y
+OneOpen = (len : ℕ) (x y : Player) → x ≡ fresh_player len → y ≡ fresh_player len → x ≡ y
 
 abbrev pub OneTake : Type 0
 OneTake = (b : ℕ) (s x y : Sheet) → x ≡ taken b s → y ≡ taken b s → x ≡ y
@@ -32,16 +32,16 @@ WholeText = (s : Sheet) (out : List ℕ) → length s.memory ≤ 65536 → 78644
 -- so the program's text is whole there
 abbrev pub WholeSheet : Type 0
 WholeSheet = (input out : List ℕ) → 786449 ≤ length out
-    → ((said (printed (fed input start)) (page out 0)).used ≡ length (sheetOf input))
-    × (take (length (sheetOf input)) (said (printed (fed input start)) (page out 0)).bytes ≡ sheetOf input)
+    → ((said (printed (fed input start)) (page out 0)).used ≡ length (sheet_of input))
+    × (take (length (sheet_of input)) (said (printed (fed input start)) (page out 0)).bytes ≡ sheet_of input)
 
 -- ---- a number's text is read back as the number
-abbrev pub valueFrom : ℕ → List ℕ → ℕ
-valueFrom n [] = n
-valueFrom n (d ∷ t) = valueFrom (n * 10 + (d - 48)) t
+abbrev pub value_from : ℕ → List ℕ → ℕ
+value_from n [] = n
+value_from n (d ∷ t) = value_from (n * 10 + (d - 48)) t
 
 abbrev pub ReadBack : Type 0
-ReadBack = (n : ℕ) → n < 2 ^ 64 → valueFrom 0 (decimal n) ≡ n
+ReadBack = (n : ℕ) → n < 2 ^ 64 → value_from 0 (decimal n) ≡ n
 
 -- ---- eight bytes are one register write of the two words that they spell, low byte first
 abbrev pub word : ℕ → ℕ → ℕ → ℕ → ℕ

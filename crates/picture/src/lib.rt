@@ -2,7 +2,7 @@
 ghost use Rattle.std.specs.Prelude.{◌≡◌, ◌+◌, ◌/◌, ◌%◌, ◌^◌, ◌<◌, ◌≤◌, length};
 ghost use Rattle.engine.specs.Step.{written};
 ghost use Rattle.ppm.specs.Text.{page, said};
-ghost use Rattle.picture.specs.Player.{sheet, freshPlayer, shifted, counted, wrote, arrived, taken, fed, refusal, printed};
+ghost use Rattle.picture.specs.Player.{sheet, fresh_player, shifted, counted, wrote, arrived, taken, fed, refusal, printed};
 
 use engine::Engine;
 
@@ -45,7 +45,7 @@ fn shift(window: u64, byte: u8) -> u64
 impl Player {
     // Nothing played, for a memory of len bytes.
     pub fn open(len: usize) -> Player
-        ensures { result ≡ freshPlayer len }
+        ensures { result ≡ fresh_player len }
     {
         Player {
             engine: Engine::open(len),

@@ -11,8 +11,8 @@ use Rattle.paint.specs.Paint.{tallied}
 use Rattle.paint.specs.Asked.{Room}
 use Rattle.paint.proofs.Tallies.{room-left}
 use Rattle.host.specs.declared.Feed.{Feed}
-use Rattle.host.specs.Host.{lastByteOf, pixel, value_of}
-use Rattle.host.specs.Draw.{hostTouches, drawn}
+use Rattle.host.specs.Host.{last_byte_of, pixel, value_of}
+use Rattle.host.specs.Draw.{host_touches, drawn}
 use Rattle.paint.proofs.Loops.{Left, left-begins}
 use Rattle.host.proofs.Drawing.{draw-takes, draw-ended}
 use Rattle.plain.specs.Plain.{stretch}
@@ -20,7 +20,7 @@ use Rattle.plain.proofs.Stretch.{stretch-append, stretch-length}
 
 -- the pixels of row j from start up to end, those before pixel i drawn
 pub record StretchLeft (ink : Ink) (pattern : List ℕ) (c : Clip) (feed : Feed) (last word j start end : ℕ) (m₀ : List ℕ) (n : Tally) (i : ℕ) (m : List ℕ) (r : Tally) : Type 0 where
-  pub left : Left ink.target (hostTouches ink pattern c feed (stretch feed last word j start (end - start))) m₀ n (i - start) (hostTouches ink pattern c feed (stretch feed last word j i (end - i))) m r
+  pub left : Left ink.target (host_touches ink pattern c feed (stretch feed last word j start (end - start))) m₀ n (i - start) (host_touches ink pattern c feed (stretch feed last word j i (end - i))) m r
   pub low : start ≤ i
 
 module _ {ink : Ink} {pattern : List ℕ} {c : Clip} {feed : Feed} {last word j start end : ℕ} {m₀ : List ℕ} {n : Tally} where
@@ -42,7 +42,7 @@ module _ {ink : Ink} {pattern : List ℕ} {c : Clip} {feed : Feed} {last word j 
           low = omega (arith, now.low);
         }
 
-    pub stretch-goes-on : (v : ℕ) {m' : List ℕ} {r' : Tally} → i < end → v ≡ value_of feed last word (lastByteOf feed i j % 4) i
+    pub stretch-goes-on : (v : ℕ) {m' : List ℕ} {r' : Tally} → i < end → v ≡ value_of feed last word (last_byte_of feed i j % 4) i
         → tallied m' r' ≡ drawn ink pattern c feed (pixel i j v ∷ []) (tallied m r) → StretchLeft ink pattern c feed last word j start end m₀ n (i + 1) m' r'
     unfolding stretch
     stretch-goes-on v more e put = stretch-takes 1 (omega arith) (rw (← e) put)

@@ -13,14 +13,14 @@ use Rattle.paint.specs.Asked.{Room}
 use Rattle.paint.proofs.Tallies.{room-less}
 use Rattle.host.specs.declared.Feed.{Feed}
 use Rattle.host.specs.Asked.{Rows}
-use Rattle.host.specs.Host.{lastColumn, lastByteOf, Pixel, pixel, value_of, whole, run, by_byte, byBytes}
+use Rattle.host.specs.Host.{last_column, last_byte_of, Pixel, pixel, value_of, whole, run, by_byte, by_bytes}
 use Rattle.plain.specs.Plain.{stretch}
 use Rattle.plain.specs.Asked.{Part, Here, Within}
 use Rattle.host.proofs.Places.{whole-width, whole-more, whole-rises, column-in, column-of, column-held}
 
 module _ (f : Feed) (last word : ℕ) where
-  pub past-none : 0 < f.step → (o n : ℕ) → f.height * f.step ≤ o → byBytes f last word o n ≡ []
-  unfolding byBytes by_byte
+  pub past-none : 0 < f.step → (o n : ℕ) → f.height * f.step ≤ o → by_bytes f last word o n ≡ []
+  unfolding by_bytes by_byte
   past-none s o zero l = refl
   past-none s o (suc n) l =
       let past : f.height ≤ o / f.step = (le-div_iff_mul-le {k = f.step} {x = f.height} {y = o} s).1 l in
@@ -31,14 +31,14 @@ module _ (f : Feed) (last word : ℕ) where
   stretch-append j i zero n = rw (add-zero i, zero-add n)
   stretch-append j i (suc m) n =
       let p : i + suc m ≡ i + 1 + m = omega arith in
-      rw (suc-add, p) (ap (λ (t : List Pixel). pixel i j (value_of f last word (lastByteOf f i j % 4) i) ∷ t) (stretch-append j (i + 1) m n))
+      rw (suc-add, p) (ap (λ (t : List Pixel). pixel i j (value_of f last word (last_byte_of f i j % 4) i) ∷ t) (stretch-append j (i + 1) m n))
 
   pub stretch-length : (j i n : ℕ) → length (stretch f last word j i n) ≡ n
   unfolding stretch
   stretch-length j i zero = refl
   stretch-length j i (suc n) = ap suc (stretch-length j (i + 1) n)
 
-  run-stretch : (o j i n : ℕ) → o / f.step ≡ j → ((a : ℕ) → i ≤ a → a < i + n → lastByteOf f a j ≡ o) → run f last word o i n ≡ stretch f last word j i n
+  run-stretch : (o j i n : ℕ) → o / f.step ≡ j → ((a : ℕ) → i ≤ a → a < i + n → last_byte_of f a j ≡ o) → run f last word o i n ≡ stretch f last word j i n
   unfolding run stretch
   run-stretch o j i zero e h = refl
   run-stretch o j i (suc n) e h =
@@ -48,7 +48,7 @@ module _ (f : Feed) (last word : ℕ) where
 
   byte-stretch : (o j c : ℕ) → o ≡ j * f.step + c → c < f.step → j < f.height
       → by_byte f last word o ≡ stretch f last word j (whole f c) (whole f (c + 1) - whole f c)
-  unfolding by_byte lastByteOf
+  unfolding by_byte last_byte_of
   byte-stretch o j c e l h =
       let row : o / f.step ≡ j = ap (λ (n : ℕ). n / f.step) e ∙ digits_div j l in
       let column : o % f.step ≡ c = ap (λ (n : ℕ). n % f.step) e ∙ digits_mod j l in
@@ -58,8 +58,8 @@ module _ (f : Feed) (last word : ℕ) where
       (λ a lo hi. let k = column-of f c a lo (omega (arith, whole-more f c)) in omega (arith, k, e)))
 
   pub bytes-stretch : (m o j c : ℕ) → o ≡ j * f.step + c → c + m ≤ f.step → j < f.height
-      → byBytes f last word o m ≡ stretch f last word j (whole f c) (whole f (c + m) - whole f c)
-  unfolding byBytes stretch
+      → by_bytes f last word o m ≡ stretch f last word j (whole f c) (whole f (c + m) - whole f c)
+  unfolding by_bytes stretch
   bytes-stretch zero o j c e l h = let z : whole f (c + 0) - whole f c ≡ 0 = rw (add-zero c) (omega arith) in rw z
   bytes-stretch (suc m) o j c e l h =
       let next : c + suc m ≡ c + 1 + m = omega arith in
@@ -72,16 +72,16 @@ module _ (f : Feed) (last word : ℕ) where
       ∙ ap (stretch f last word j (whole f c)) all)
 
   pub part_bytes : (t j c m start end : ℕ) → Part f t j c m → start ≡ whole f c → end ≡ whole f (c + m)
-      → stretch f last word j start (end - start) ≡ byBytes f last word (j * f.step + c) m
+      → stretch f last word j start (end - start) ≡ by_bytes f last word (j * f.step + c) m
   part_bytes t j c m start end p a b = rw (a, b) (sym (bytes-stretch m (j * f.step + c) j c refl p.held p.row))
 
 -- ---- the last bytes of the pixels
-pub here-small : {f : Feed} {t j c i : ℕ} → Rows f → i < f.width → Here f t j c i → t + lastColumn f i < 2 ^ 18
+pub here-small : {f : Feed} {t j c i : ℕ} → Rows f → i < f.width → Here f t j c i → t + last_column f i < 2 ^ 18
 here-small {f} {i = i} rows inside here = omega (arith, here, column-held f i inside, rows.held, rows.sizes.step)
 
 -- of those that a part finishes
 pub part-within : (f : Feed) (t j c m start end : ℕ) {n : Tally} → Part f t j c m → Room n f.width → start ≡ whole f c → end ≡ whole f (c + m) → Within f t j c start end n
-unfolding lastByteOf
+unfolding last_byte_of
 part-within f t j c m start end p room a b = record {
   row = p.row;
   past = omega (arith, whole-width f (c + m));

@@ -5,11 +5,11 @@ use Rattle.surface.specs.Asked.{Colour, OnColour}
 use Rattle.surface.specs.Pixels.{origin}
 use Rattle.paint.specs.declared.Clip.{Clip}
 use Rattle.paint.specs.declared.Tally.{Tally}
-use Rattle.paint.specs.Clip.{inClip}
+use Rattle.paint.specs.Clip.{in_clip}
 use Rattle.paint.specs.Asked.{Room}
 use Rattle.bits.specs.declared.Plain.{Plain}
 use Rattle.host.specs.declared.Feed.{Feed}
-use Rattle.host.specs.Host.{lastColumn, lastByteOf, words_of}
+use Rattle.host.specs.Host.{last_column, last_byte_of, words_of}
 use Rattle.host.specs.Asked.{Rows}
 
 -- m bytes of row j from byte `column` on are those of a word from its byte t on
@@ -21,9 +21,9 @@ pub record Part (f : Feed) (t j column m : ℕ) : Type 0 where
 
 -- the last byte of pixel i of row j is in a word whose byte t is byte `column` of the row
 pub record Here (f : Feed) (t j column i : ℕ) : Type 0 where
-  pub low : column ≤ lastColumn f i
-  pub high : t + lastColumn f i - column < 4
-  pub byte : t + lastColumn f i - column ≡ lastByteOf f i j % 4
+  pub low : column ≤ last_column f i
+  pub high : t + last_column f i - column < 4
+  pub byte : t + last_column f i - column ≡ last_byte_of f i j % 4
 
 -- that of each pixel of row j from start up to end is, where n tells of the pixels before them
 pub record Within (f : Feed) (t j column start end : ℕ) (n : Tally) : Type 0 where
@@ -43,8 +43,8 @@ pub record Straight (p : Plain) (c : Clip) (f : Feed) (k left w : ℕ) : Type 0 
   pub begins : 4 * k % f.step % f.bytes ≡ 0
   pub whole : f.bytes ≡ 3 → w % 3 ≡ 0
   pub past : 4 * k % f.step / f.bytes + 4 * w / f.bytes ≤ f.width
-  pub first : inClip c (f.x + 4 * k % f.step / f.bytes) (f.y + 4 * k / f.step) ≡ true
-  pub last : inClip c (f.x + 4 * k % f.step / f.bytes + (4 * w / f.bytes - 1)) (f.y + 4 * k / f.step) ≡ true
+  pub first : in_clip c (f.x + 4 * k % f.step / f.bytes) (f.y + 4 * k / f.step) ≡ true
+  pub last : in_clip c (f.x + 4 * k % f.step / f.bytes + (4 * w / f.bytes - 1)) (f.y + 4 * k / f.step) ≡ true
 
 -- n words after `taken` others are all of a mono blit whose rectangle is inside the clip, and the target is in rows
 pub record Whole (p : Plain) (c : Clip) (f : Feed) (taken n : ℕ) : Type 0 where
@@ -53,8 +53,8 @@ pub record Whole (p : Plain) (c : Clip) (f : Feed) (taken n : ℕ) : Type 0 wher
   pub first : taken ≡ 0
   pub some : 0 < f.height
   pub all : n ≡ words_of f
-  pub start : inClip c f.x f.y ≡ true
-  pub end : inClip c (f.x + (f.width - 1)) (f.y + (f.height - 1)) ≡ true
+  pub start : in_clip c f.x f.y ≡ true
+  pub end : in_clip c (f.x + (f.width - 1)) (f.y + (f.height - 1)) ≡ true
 
 -- a mono blit whose rectangle is on the target, which is in rows, in a memory of len bytes; its words are n
 pub record Glyph (p : Plain) (f : Feed) (len n : ℕ) : Type 0 where

@@ -5,15 +5,15 @@ use Rattle.std.specs.Prelude.{◌≡◌, true, false, List, [], ◌∷◌, map, 
 use Rattle.ink.specs.declared.Ink.{Ink}
 use Rattle.paint.specs.Paint.{Touch, touch}
 use Rattle.paint.specs.Mix.{direct}
-use Rattle.paint.specs.Clip.{pixelAt}
+use Rattle.paint.specs.Clip.{pixel_at}
 use Rattle.host.specs.declared.Feed.{Feed}
 use Rattle.bits.specs.declared.Plain.{Plain}
 use Rattle.bits.specs.Bits.{coloured}
-use Rattle.host.specs.Host.{lastByteOf, Pixel, pixel, value_of}
+use Rattle.host.specs.Host.{last_byte_of, Pixel, pixel, value_of}
 
 -- the ink with raster operation CC and no keys
-unfoldable pub plainInk : Plain → Ink
-plainInk p = record {
+unfoldable pub plain_ink : Plain → Ink
+plain_ink p = record {
   target = p.target;
   fore = p.fore;
   back = p.back;
@@ -21,16 +21,16 @@ plainInk p = record {
   rop1 = 0;
   rop2 = 0;
   rop3 = 0;
-  srcKey = false;
-  srcMin = 0;
-  srcMax = 0;
-  dstKey = false;
-  dstMin = 0;
-  dstMax = 0;
+  src_key = false;
+  src_min = 0;
+  src_max = 0;
+  dst_key = false;
+  dst_min = 0;
+  dst_max = 0;
   mono = false;
   forced = false;
-  patX = 0;
-  patY = 0;
+  pat_x = 0;
+  pat_y = 0;
   clear = p.clear;
 }
 
@@ -41,13 +41,13 @@ pub record Plainly (ink : Ink) (p : Plain) : Type 0 where
   pub back : ink.back ≡ p.back
   pub clear : ink.clear ≡ p.clear
   pub gets : direct ink ≡ true
-  pub unkeyed : ink.srcKey ≡ false
+  pub unkeyed : ink.src_key ≡ false
 
 -- n pixels of row j from column i on, whose last bytes all lie in this word
 unfoldable pub stretch : Feed → ℕ → ℕ → ℕ → ℕ → ℕ → List Pixel
 stretch f last word j i zero = []
-stretch f last word j i (suc n) = pixel i j (value_of f last word (lastByteOf f i j % 4) i) ∷ stretch f last word j (i + 1) n
+stretch f last word j i (suc n) = pixel i j (value_of f last word (last_byte_of f i j % 4) i) ∷ stretch f last word j (i + 1) n
 
 -- mono pixels, each given the colour of its bit; none of them is outside the clip
-abbrev pub monoTouches : Plain → Feed → List Pixel → List Touch
-monoTouches p f ps = map (λ q. touch (pixelAt (f.x + q.i) (f.y + q.j)) (λ now. coloured p q.value)) ps
+abbrev pub mono_touches : Plain → Feed → List Pixel → List Touch
+mono_touches p f ps = map (λ q. touch (pixel_at (f.x + q.i) (f.y + q.j)) (λ now. coloured p q.value)) ps

@@ -3,12 +3,12 @@ ghost use Rattle.std.specs.Prelude.{◌≡◌, true, false, [], ◌∷◌, ◌+�
 ghost use Rattle.paint.specs.Paint.{state, tallied, paint};
 ghost use Rattle.paint.specs.Mix.{source};
 ghost use Rattle.paint.specs.Asked.{Bits12, Room};
-ghost use Rattle.host.specs.Host.{lastColumn, pixel, byBytes, by_word, byRun};
-ghost use Rattle.host.specs.Stream.{dataByte, rowFrom, rows};
-ghost use Rattle.host.specs.Draw.{hostSource, drawn};
+ghost use Rattle.host.specs.Host.{last_column, pixel, by_bytes, by_word, by_run};
+ghost use Rattle.host.specs.Stream.{data_byte, row_from, rows};
+ghost use Rattle.host.specs.Draw.{host_source, drawn};
 ghost use Rattle.host.specs.Asked.{Rows, Opened, Waits, WaitsFor};
 ghost use Rattle.pours.specs.Pours.{word_in};
-ghost use Rattle.plain.specs.Plain.{plainInk, stretch, monoTouches};
+ghost use Rattle.plain.specs.Plain.{plain_ink, stretch, mono_touches};
 ghost use Rattle.plain.specs.Asked.{Part, Within, Straight, Whole, Glyph};
 
 use bits::Plain;
@@ -24,7 +24,7 @@ struct Turn {
 
 fn plain_bit(p: Plain, feed: Feed, v: u32) -> Source
     requires { feed.bytes ≡ 0 }
-    ensures { source result.value false result.left ≡ hostSource (plainInk p) feed v }
+    ensures { source result.value false result.left ≡ host_source (plain_ink p) feed v }
 {
     if v == 1 {
         return Source {
@@ -42,7 +42,7 @@ fn plain_bit(p: Plain, feed: Feed, v: u32) -> Source
 
 fn plain_colour(p: Plain, feed: Feed, v: u32) -> Source
     requires { feed.bytes ≡ 0 → ⊥ }
-    ensures { source result.value false result.left ≡ hostSource (plainInk p) feed v }
+    ensures { source result.value false result.left ≡ host_source (plain_ink p) feed v }
 {
     let to = p.target.bytes;
     Source {
@@ -65,8 +65,8 @@ fn plain_pixel(
     left: bool,
     n: Tally,
 ) -> Tally
-    requires { Opened (plainInk p) c feed (length mem.old) × ((i < feed.width) × ((j < feed.height) × (Room n 1 × (source value false left ≡ hostSource (plainInk p) feed v)))) }
-    ensures { tallied mem.new result ≡ drawn (plainInk p) [] c feed (pixel i j v ∷ []) (tallied mem.old n) }
+    requires { Opened (plain_ink p) c feed (length mem.old) × ((i < feed.width) × ((j < feed.height) × (Room n 1 × (source value false left ≡ host_source (plain_ink p) feed v)))) }
+    ensures { tallied mem.new result ≡ drawn (plain_ink p) [] c feed (pixel i j v ∷ []) (tallied mem.old n) }
 {
     let x = feed.x + i;
     let y = feed.y + j;
@@ -79,7 +79,7 @@ fn plain_pixel(
 // The last byte of pixel i in its row.
 fn last_column(feed: Feed, i: u32) -> u32
     requires { (feed.bytes < 5) × (i < 2 ^ 13) }
-    ensures { result ≡ lastColumn feed i }
+    ensures { result ≡ last_column feed i }
 {
     let bytes = feed.bytes;
     if bytes == 0 {
@@ -103,8 +103,8 @@ fn mono_each(
     end: u32,
     n: Tally,
 ) -> Tally
-    requires { Opened (plainInk p) c feed (length mem.old) × (Within feed t j column start end n × (feed.bytes ≡ 0)) }
-    ensures { tallied mem.new result ≡ drawn (plainInk p) [] c feed (stretch feed last word j start (end - start)) (tallied mem.old n) }
+    requires { Opened (plain_ink p) c feed (length mem.old) × (Within feed t j column start end n × (feed.bytes ≡ 0)) }
+    ensures { tallied mem.new result ≡ drawn (plain_ink p) [] c feed (stretch feed last word j start (end - start)) (tallied mem.old n) }
 {
     let mut r = n;
     let mut i = start;
@@ -132,8 +132,8 @@ fn mono_part(
     m: u32,
     n: Tally,
 ) -> Tally
-    requires { Opened (plainInk p) c feed (length mem.old) × (Within feed t j column i (i + m) n × ((feed.bytes ≡ 0) × ((0 < m) × (i % 8 + m ≤ 8)))) }
-    ensures { tallied mem.new result ≡ drawn (plainInk p) [] c feed (stretch feed last word j i m) (tallied mem.old n) }
+    requires { Opened (plain_ink p) c feed (length mem.old) × (Within feed t j column i (i + m) n × ((feed.bytes ≡ 0) × ((0 < m) × (i % 8 + m ≤ 8)))) }
+    ensures { tallied mem.new result ≡ drawn (plain_ink p) [] c feed (stretch feed last word j i m) (tallied mem.old n) }
 {
     let x = feed.x + i;
     let y = feed.y + j;
@@ -162,8 +162,8 @@ fn mono_row(
     end: u32,
     n: Tally,
 ) -> Tally
-    requires { Opened (plainInk p) c feed (length mem.old) × (Within feed t j column start end n × (feed.bytes ≡ 0)) }
-    ensures { tallied mem.new result ≡ drawn (plainInk p) [] c feed (stretch feed last word j start (end - start)) (tallied mem.old n) }
+    requires { Opened (plain_ink p) c feed (length mem.old) × (Within feed t j column start end n × (feed.bytes ≡ 0)) }
+    ensures { tallied mem.new result ≡ drawn (plain_ink p) [] c feed (stretch feed last word j start (end - start)) (tallied mem.old n) }
 {
     let mut r = n;
     let mut i = start;
@@ -190,8 +190,8 @@ fn colour_row(
     end: u32,
     n: Tally,
 ) -> Tally
-    requires { Opened (plainInk p) c feed (length mem.old) × (Within feed t j column start end n × (feed.bytes ≡ 0 → ⊥)) }
-    ensures { tallied mem.new result ≡ drawn (plainInk p) [] c feed (stretch feed last word j start (end - start)) (tallied mem.old n) }
+    requires { Opened (plain_ink p) c feed (length mem.old) × (Within feed t j column start end n × (feed.bytes ≡ 0 → ⊥)) }
+    ensures { tallied mem.new result ≡ drawn (plain_ink p) [] c feed (stretch feed last word j start (end - start)) (tallied mem.old n) }
 {
     let mut r = n;
     let mut i = start;
@@ -218,8 +218,8 @@ fn plain_row(
     m: u32,
     n: Tally,
 ) -> Tally
-    requires { Opened (plainInk p) c feed (length mem.old) × (Part feed t j column m × Room n feed.width) }
-    ensures { tallied mem.new result ≡ drawn (plainInk p) [] c feed (byBytes feed last word (j * feed.step + column) m) (tallied mem.old n) }
+    requires { Opened (plain_ink p) c feed (length mem.old) × (Part feed t j column m × Room n feed.width) }
+    ensures { tallied mem.new result ≡ drawn (plain_ink p) [] c feed (by_bytes feed last word (j * feed.step + column) m) (tallied mem.old n) }
 {
     let start = host::whole_pixels(feed, column);
     let end = host::whole_pixels(feed, column + m);
@@ -240,8 +240,8 @@ pub fn plain_word(
     word: u32,
     n: Tally,
 ) -> Tally
-    requires { Waits (plainInk p) c feed (length mem.old) taken × Room n (2 ^ 15) }
-    ensures { tallied mem.new result ≡ drawn (plainInk p) [] c feed (by_word feed last word taken) (tallied mem.old n) }
+    requires { Waits (plain_ink p) c feed (length mem.old) taken × Room n (2 ^ 15) }
+    ensures { tallied mem.new result ≡ drawn (plain_ink p) [] c feed (by_word feed last word taken) (tallied mem.old n) }
 {
     let step = feed.step;
     let mut j = 4 * taken / step;
@@ -315,8 +315,8 @@ fn take_some(
     words: &[u32],
     n: Tally,
 ) -> Turn
-    requires { WaitsFor (plainInk p) c feed (length mem.old) k (length words.now) × ((0 < length words.now) × Room n (2 ^ 15 * length words.now)) }
-    ensures { (0 < result.taken) × ((result.taken ≤ length words.now) × (tallied mem.new result.n ≡ drawn (plainInk p) [] c feed (byRun feed last (take result.taken words.now) k) (tallied mem.old n))) }
+    requires { WaitsFor (plain_ink p) c feed (length mem.old) k (length words.now) × ((0 < length words.now) × Room n (2 ^ 15 * length words.now)) }
+    ensures { (0 < result.taken) × ((result.taken ≤ length words.now) × (tallied mem.new result.n ≡ drawn (plain_ink p) [] c feed (by_run feed last (take result.taken words.now) k) (tallied mem.old n))) }
 {
     let w = straight_words(p, c, feed, k, words.len() as u32);
     if w == 0 {
@@ -343,8 +343,8 @@ fn by_turns(
     last: u32,
     words: &[u32],
 ) -> Tally
-    requires { WaitsFor (plainInk p) c feed (length mem.old) taken (length words.now) }
-    ensures { tallied mem.new result ≡ drawn (plainInk p) [] c feed (byRun feed last words.now taken) (state mem.old 0 0) }
+    requires { WaitsFor (plain_ink p) c feed (length mem.old) taken (length words.now) }
+    ensures { tallied mem.new result ≡ drawn (plain_ink p) [] c feed (by_run feed last words.now taken) (state mem.old 0 0) }
 {
     let mut n = Tally {
         count: 0,
@@ -364,7 +364,7 @@ fn by_turns(
 // Byte o of the data.
 fn data_byte(words: &[u32], o: u32) -> u32
     requires { o / 4 < length words.now }
-    ensures { result ≡ dataByte (word_in words.now) o }
+    ensures { result ≡ data_byte (word_in words.now) o }
 {
     (words[(o / 4) as usize] >> (8 * (o % 4))) % 256
 }
@@ -380,7 +380,7 @@ fn mono_line(
     tally: Tally,
 ) -> Tally
     requires { Glyph p feed (length mem.old) (length words.now) × ((n ≡ p.target.bytes) × ((j < feed.height) × Room tally feed.width)) }
-    ensures { tallied mem.new result ≡ paint p.target (monoTouches p feed (rowFrom (word_in words.now) feed j 0 feed.width)) (tallied mem.old tally) }
+    ensures { tallied mem.new result ≡ paint p.target (mono_touches p feed (row_from (word_in words.now) feed j 0 feed.width)) (tallied mem.old tally) }
 {
     let from = j * feed.step;
     let y = feed.y + j - 16384;
@@ -398,7 +398,7 @@ fn mono_line(
 // A mono blit from all its words, row by row; n is the target's bytes per pixel.
 fn mono_blit(mem: &mut [u8], p: Plain, n: u32, feed: Feed, words: &[u32]) -> Tally
     requires { Glyph p feed (length mem.old) (length words.now) × (n ≡ p.target.bytes) }
-    ensures { tallied mem.new result ≡ paint p.target (monoTouches p feed (rows (word_in words.now) feed feed.height)) (state mem.old 0 0) }
+    ensures { tallied mem.new result ≡ paint p.target (mono_touches p feed (rows (word_in words.now) feed feed.height)) (state mem.old 0 0) }
 {
     let mut r = Tally {
         count: 0,
@@ -415,7 +415,7 @@ fn mono_blit(mem: &mut [u8], p: Plain, n: u32, feed: Feed, words: &[u32]) -> Tal
 // The same, with a loop for each number of bytes.
 fn mono_blits(mem: &mut [u8], p: Plain, feed: Feed, words: &[u32]) -> Tally
     requires { Glyph p feed (length mem.old) (length words.now) }
-    ensures { tallied mem.new result ≡ paint p.target (monoTouches p feed (rows (word_in words.now) feed feed.height)) (state mem.old 0 0) }
+    ensures { tallied mem.new result ≡ paint p.target (mono_touches p feed (rows (word_in words.now) feed feed.height)) (state mem.old 0 0) }
 {
     let n = p.target.bytes;
     if n == 1 {
@@ -457,8 +457,8 @@ pub fn plain_words(
     last: u32,
     words: &[u32],
 ) -> Tally
-    requires { WaitsFor (plainInk p) c feed (length mem.old) taken (length words.now) }
-    ensures { tallied mem.new result ≡ drawn (plainInk p) [] c feed (byRun feed last words.now taken) (state mem.old 0 0) }
+    requires { WaitsFor (plain_ink p) c feed (length mem.old) taken (length words.now) }
+    ensures { tallied mem.new result ≡ drawn (plain_ink p) [] c feed (by_run feed last words.now taken) (state mem.old 0 0) }
 {
     if is_whole(p, c, feed, taken, words.len()) {
         return mono_blits(mem, p, feed, words);

@@ -8,16 +8,16 @@ use Prim.Native.Nat.{ℕ, ◌+◌, ◌*◌, ◌/◌, ◌%◌, ◌<◌}
 use native.Mathlib.Omega.{arith}
 use lib.ListN.{get_or}
 use Rattle.keys.specs.declared.Range.{Range}
-use Rattle.keys.specs.Key.{keyMatch}
+use Rattle.keys.specs.Key.{key_match}
 use Rattle.keys.specs.Range.{range_of, in_range}
 use Rattle.keys.proofs.RangeLaws.{in-range}
-use Rattle.raster.specs.Rop.{ropBits}
+use Rattle.raster.specs.Rop.{rop_bits}
 use Rattle.raster.specs.Masks.{laid}
 use Rattle.raster.proofs.RopTree.{merged-is}
 use Rattle.ink.specs.declared.Ink.{Ink}
 use Rattle.paint.specs.declared.Source.{Source}
-use Rattle.paint.specs.Mix.{chosen, targetMatch, mixed}
-use Rattle.plan.specs.Plan.{code_of, MasksOf, QuadsFrom, QuadsOf, code_at, quadAt, mergedAt, quadMixed}
+use Rattle.paint.specs.Mix.{chosen, target_match, mixed}
+use Rattle.plan.specs.Plan.{code_of, MasksOf, QuadsFrom, QuadsOf, code_at, quad_at, merged_at, quad_mixed}
 
 module _ (ink : Ink) (values quads : List ℕ) (h : QuadsOf ink values quads) (column : ℕ) (small : column < 8) where
   -- value k of raster operation number c
@@ -30,7 +30,7 @@ module _ (ink : Ink) (values quads : List ℕ) (h : QuadsOf ink values quads) (c
       h.at i (omega arith) ∙ rw (code, bit, quarter, place)
 
   by_code : (c at : ℕ) → c < 4 → at ≡ c * 32 + column * 4 → (s d : ℕ)
-      → mergedAt quads at s d ≡ ropBits 32 (code_of ink c) (get_or values column 0) s d
+      → merged_at quads at s d ≡ rop_bits 32 (code_of ink c) (get_or values column 0) s d
   by_code c at few e s d =
       rw (
         quad c 0 at few (omega arith) (omega arith),
@@ -41,17 +41,17 @@ module _ (ink : Ink) (values quads : List ℕ) (h : QuadsOf ink values quads) (c
       (merged-is (code_of ink c) (get_or values column 0) s d)
 
   merged-chosen : (a b : Bool) (at s d : ℕ) → at ≡ code_at a b + column * 4
-      → mergedAt quads at s d ≡ ropBits 32 (chosen ink a b) (get_or values column 0) s d
+      → merged_at quads at s d ≡ rop_bits 32 (chosen ink a b) (get_or values column 0) s d
   unfolding code_at chosen code_of
   merged-chosen true true at s d e = by_code 3 at (omega arith) (omega (arith, e)) s d
   merged-chosen true false at s d e = by_code 2 at (omega arith) (omega (arith, e)) s d
   merged-chosen false true at s d e = by_code 1 at (omega arith) (omega (arith, e)) s d
   merged-chosen false false at s d e = by_code 0 at (omega arith) (omega (arith, e)) s d
 
-  pub quad-mixed : (s : Source) (old : ℕ) → quadMixed ink quads column s old ≡ mixed ink (get_or values column 0) s old
-  unfolding quadMixed mixed
+  pub quad-mixed : (s : Source) (old : ℕ) → quad_mixed ink quads column s old ≡ mixed ink (get_or values column 0) s old
+  unfolding quad_mixed mixed
   quad-mixed s old =
-      ap {B = Option ℕ} (λ (v : ℕ). cond s.left none (some v)) (merged-chosen s.key (targetMatch ink old) (quadAt ink s.key old column) s.value old refl)
+      ap {B = Option ℕ} (λ (v : ℕ). cond s.left none (some v)) (merged-chosen s.key (target_match ink old) (quad_at ink s.key old column) s.value old refl)
 
 -- the values of a row, from the bits of the codes
 pub quads-are : (ink : Ink) (masks values quads : List ℕ) → MasksOf ink masks → QuadsFrom masks values quads → QuadsOf ink values quads
@@ -67,6 +67,6 @@ quads-are ink masks values quads h q = record {
 }
 
 -- a key test by the key's range
-pub hit : {bytes to : ℕ} {r : Range} (on : Bool) (lo hi v : ℕ) → to ≡ bytes → r ≡ range_of bytes lo hi → (on && in_range to r v) ≡ (on && keyMatch bytes lo hi v)
+pub hit : {bytes to : ℕ} {r : Range} (on : Bool) (lo hi v : ℕ) → to ≡ bytes → r ≡ range_of bytes lo hi → (on && in_range to r v) ≡ (on && key_match bytes lo hi v)
 hit {bytes} {to} on lo hi v e f =
     ap₂ (λ (n : ℕ) (r : Range). on && in_range n r v) e f ∙ ap (λ t. on && t) (in-range bytes lo hi v)

@@ -5,7 +5,7 @@ use Rattle.std.proofs.Math.Option.{Option, none, some}
 use Rattle.raster.specs.Masks.{mask, muxed, laid, merged}
 use Rattle.ink.specs.declared.Ink.{Ink}
 use Rattle.paint.specs.declared.Source.{Source}
-use Rattle.paint.specs.Mix.{targetMatch}
+use Rattle.paint.specs.Mix.{target_match}
 
 -- raster operation number i of a command
 unfoldable pub code_of : Ink → ℕ → ℕ
@@ -25,15 +25,15 @@ pub record QuadsOf (ink : Ink) (values quads : List ℕ) : Type 0 where
 
 -- where the values begin of the raster operation that the two key tests choose
 unfoldable pub code_at : Bool → Bool → ℕ
-code_at bySource byTarget = cond bySource (cond byTarget 96 64) (cond byTarget 32 0)
+code_at by_source by_target = cond by_source (cond by_target 96 64) (cond by_target 32 0)
 
 -- where the four values of a pixel begin, and what they make of its source and of what stands there
-abbrev pub quadAt : Ink → Bool → ℕ → ℕ → ℕ
-quadAt ink key old column = code_at key (targetMatch ink old) + column * 4
+abbrev pub quad_at : Ink → Bool → ℕ → ℕ → ℕ
+quad_at ink key old column = code_at key (target_match ink old) + column * 4
 
-abbrev pub mergedAt : List ℕ → ℕ → ℕ → ℕ → ℕ
-mergedAt quads k s d = merged (get_or quads k 0) (get_or quads (k + 1) 0) (get_or quads (k + 2) 0) (get_or quads (k + 3) 0) s d
+abbrev pub merged_at : List ℕ → ℕ → ℕ → ℕ → ℕ
+merged_at quads k s d = merged (get_or quads k 0) (get_or quads (k + 1) 0) (get_or quads (k + 2) 0) (get_or quads (k + 3) 0) s d
 
 -- what a pixel is given by the values of its row
-unfoldable pub quadMixed : Ink → List ℕ → ℕ → Source → ℕ → Option ℕ
-quadMixed ink quads column s old = cond s.left none (some (mergedAt quads (quadAt ink s.key old column) s.value old))
+unfoldable pub quad_mixed : Ink → List ℕ → ℕ → Source → ℕ → Option ℕ
+quad_mixed ink quads column s old = cond s.left none (some (merged_at quads (quad_at ink s.key old column) s.value old))

@@ -1,8 +1,8 @@
 // What does not change while a rectangle is painted, worked out before its rows: the keys as ranges, and the raster operations of a row of the pattern.
 ghost use Rattle.std.specs.Prelude.{◌≡◌, ◌&&◌, ◌≤◌, ◌<◌};
 ghost use Rattle.keys.specs.Range.{range_of, in_range};
-ghost use Rattle.paint.specs.Mix.{colourSource};
-ghost use Rattle.plan.specs.Plan.{code_of, MasksOf, QuadsFrom, code_at, quadAt};
+ghost use Rattle.paint.specs.Mix.{colour_source};
+ghost use Rattle.plan.specs.Plan.{code_of, MasksOf, QuadsFrom, code_at, quad_at};
 
 use ink::Ink;
 use keys::Range;
@@ -59,27 +59,27 @@ fn is_hit(on: bool, bytes: u32, range: Range, v: u32) -> bool
 
 // The source that the value v of a copied pixel makes.
 pub fn source_of(ink: Ink, range: Range, from: u32, v: u32) -> Source
-    requires { range ≡ range_of from ink.srcMin ink.srcMax }
-    ensures { result ≡ colourSource ink from v }
+    requires { range ≡ range_of from ink.src_min ink.src_max }
+    ensures { result ≡ colour_source ink from v }
 {
     Source {
         value: colour::convert_by_rule(from, ink.target.bytes, v),
-        key: is_hit(ink.srcKey, from, range, v),
+        key: is_hit(ink.src_key, from, range, v),
         left: false,
     }
 }
 
 // Where the values begin of the raster operation that the two key tests choose.
-fn code_at(bySource: bool, byTarget: bool) -> u32
-    ensures { (result ≡ code_at bySource byTarget) × (result ≤ 96) }
+fn code_at(by_source: bool, by_target: bool) -> u32
+    ensures { (result ≡ code_at by_source by_target) × (result ≤ 96) }
 {
-    if bySource {
-        if byTarget {
+    if by_source {
+        if by_target {
             return 96;
         }
         return 64;
     }
-    if byTarget {
+    if by_target {
         return 32;
     }
     0
@@ -87,8 +87,8 @@ fn code_at(bySource: bool, byTarget: bool) -> u32
 
 // Where the four values of a pixel begin: of the raster operation that its keys choose, at its column of the pattern.
 pub fn quad_at(ink: Ink, range: Range, key: bool, old: u32, column: u32) -> u32
-    requires { (range ≡ range_of ink.target.bytes ink.dstMin ink.dstMax) × (column < 8) }
-    ensures { (result ≡ quadAt ink key old column) × (result ≤ 124) }
+    requires { (range ≡ range_of ink.target.bytes ink.dst_min ink.dst_max) × (column < 8) }
+    ensures { (result ≡ quad_at ink key old column) × (result ≤ 124) }
 {
-    code_at(key, is_hit(ink.dstKey, ink.target.bytes, range, old)) + column * 4
+    code_at(key, is_hit(ink.dst_key, ink.target.bytes, range, old)) + column * 4
 }

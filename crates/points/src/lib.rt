@@ -1,15 +1,15 @@
 // A line drawn point by point.
 ghost use Rattle.std.specs.Prelude.{◌≡◌, [], ◌∷◌, ◌+◌, ◌-◌, ◌<◌, length};
-ghost use Rattle.surface.specs.Place.{readPx};
+ghost use Rattle.surface.specs.Place.{read_px};
 ghost use Rattle.surface.specs.Pixels.{px};
 ghost use Rattle.surface.specs.Asked.{OnClose};
 ghost use Rattle.paint.specs.Paint.{state, tallied, dab, paint};
-ghost use Rattle.ink.specs.Pattern.{patternValue};
-ghost use Rattle.paint.specs.Mix.{bitSource, mixed};
+ghost use Rattle.ink.specs.Pattern.{pattern_value};
+ghost use Rattle.paint.specs.Mix.{bit_source, mixed};
 ghost use Rattle.paint.specs.Asked.{Room};
-ghost use Rattle.line.specs.Line.{pointCount, points};
-ghost use Rattle.line.specs.Stipple.{after, styleAfter};
-ghost use Rattle.line.specs.Draw.{lineTouches};
+ghost use Rattle.line.specs.Line.{point_count, points};
+ghost use Rattle.line.specs.Stipple.{after, style_after};
+ghost use Rattle.line.specs.Draw.{line_touches};
 ghost use Rattle.line.specs.Asked.{Drawable, DrawablePoint};
 
 use ink::Ink;
@@ -34,7 +34,7 @@ fn put_point(
     n: Tally,
 ) -> Tally
     requires { OnClose ink.target (length mem.old) x y × Room n 1 }
-    ensures { tallied mem.new result ≡ dab ink.target (px x y) (mixed ink (patternValue ink pattern.now x y) (bitSource ink bit) (readPx mem.old ink.target x y)) (tallied mem.old n) }
+    ensures { tallied mem.new result ≡ dab ink.target (px x y) (mixed ink (pattern_value ink pattern.now x y) (bit_source ink bit) (read_px mem.old ink.target x y)) (tallied mem.old n) }
 {
     let source = paint::bit_source(ink, bit);
     let s = ink.target;
@@ -58,7 +58,7 @@ fn paint_point(
     done: LineDone,
 ) -> LineDone
     requires { DrawablePoint ink.target (length mem.old) c p done.tally }
-    ensures { (tallied mem.new result.tally ≡ paint ink.target (lineTouches ink pattern.now c pen done.style (p ∷ [])) (tallied mem.old done.tally)) × (result.style ≡ after pen done.style) }
+    ensures { (tallied mem.new result.tally ≡ paint ink.target (line_touches ink pattern.now c pen done.style (p ∷ [])) (tallied mem.old done.tally)) × (result.style ≡ after pen done.style) }
 {
     let next = line::style_after(pen, done.style);
     let tally = done.tally;
@@ -88,7 +88,7 @@ pub fn paint_each(
     style: u32,
 ) -> LineDone
     requires { Drawable ink.target (length mem.old) c l }
-    ensures { (tallied mem.new result.tally ≡ paint ink.target (lineTouches ink pattern.now c pen style (points l)) (state mem.old 0 0)) × (result.style ≡ styleAfter pen (pointCount l) style) }
+    ensures { (tallied mem.new result.tally ≡ paint ink.target (line_touches ink pattern.now c pen style (points l)) (state mem.old 0 0)) × (result.style ≡ style_after pen (point_count l) style) }
 {
     let n = line::long_side(l);
     let m = line::short_side(l);

@@ -14,7 +14,7 @@ use mir.Val.{to_z, SFits}
 use mir.Facts.{to_z_pos}
 use Rattle.surface.specs.Pixels.{origin}
 use Rattle.registers.specs.Kept.{kept}
-use Rattle.positions.specs.Position.{signed_of, placed, moved, stepped, steppedXY}
+use Rattle.positions.specs.Position.{signed_of, placed, moved, stepped, stepped_xy}
 
 -- ---- 13 bits in an `i32`
 
@@ -145,19 +145,19 @@ pub stepped-below : (on : Bool) (raw size : ℕ) → stepped on raw size < 8192
 stepped-below true raw size = omega arith
 stepped-below false raw size = omega arith
 
-pub x-apart : (xy size : ℕ) (across down : Bool) → steppedXY xy size across down % 2 ^ 16 ≡ stepped across xy size
-unfolding steppedXY
+pub x-apart : (xy size : ℕ) (across down : Bool) → stepped_xy xy size across down % 2 ^ 16 ≡ stepped across xy size
+unfolding stepped_xy
 x-apart xy size across down = omega (arith, stepped-below across xy size)
 
-pub y-apart : (xy size : ℕ) (across down : Bool) → steppedXY xy size across down / 2 ^ 16 ≡ stepped down (xy / 2 ^ 16) (size / 2 ^ 16)
-unfolding steppedXY
+pub y-apart : (xy size : ℕ) (across down : Bool) → stepped_xy xy size across down / 2 ^ 16 ≡ stepped down (xy / 2 ^ 16) (size / 2 ^ 16)
+unfolding stepped_xy
 y-apart xy size across down = omega (arith, stepped-below across xy size)
 
-pub unstepped : (xy size : ℕ) → steppedXY xy size false false ≡ kept 0x6c xy
-unfolding steppedXY kept
+pub unstepped : (xy size : ℕ) → stepped_xy xy size false false ≡ kept 0x6c xy
+unfolding stepped_xy kept
 unstepped xy size = refl
 
-pub stepped_kept : (xy size : ℕ) (across down : Bool) → kept 0x6c (steppedXY xy size across down) ≡ steppedXY xy size across down
-unfolding steppedXY kept
+pub stepped_kept : (xy size : ℕ) (across down : Bool) → kept 0x6c (stepped_xy xy size across down) ≡ stepped_xy xy size across down
+unfolding stepped_xy kept
 stepped_kept xy size across down =
     omega (arith, stepped-below across xy size, stepped-below down (xy / 2 ^ 16) (size / 2 ^ 16))

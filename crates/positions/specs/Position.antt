@@ -19,5 +19,5 @@ abbrev pub stepped : Bool → ℕ → ℕ → ℕ
 stepped on raw size = cond on (moved raw size) (raw % 8192)
 
 -- the positions x in 12:0 and y in 28:16 of a word, each stepped by the width and the height that a size has at the same place
-unfoldable pub steppedXY : ℕ → ℕ → Bool → Bool → ℕ
-steppedXY xy size across down = stepped across xy size + stepped down (xy / 2 ^ 16) (size / 2 ^ 16) * 2 ^ 16
+unfoldable pub stepped_xy : ℕ → ℕ → Bool → Bool → ℕ
+stepped_xy xy size across down = stepped across xy size + stepped down (xy / 2 ^ 16) (size / 2 ^ 16) * 2 ^ 16

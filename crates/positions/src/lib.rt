@@ -1,6 +1,6 @@
 // Positions of 13 signed bits: read, counted from 16384, and stepped.
 ghost use Rattle.std.specs.Prelude.{◌≡◌, ◌<◌};
-ghost use Rattle.positions.specs.Position.{signed_of, placed, moved, stepped, steppedXY};
+ghost use Rattle.positions.specs.Position.{signed_of, placed, moved, stepped, stepped_xy};
 
 // The low 13 bits as a signed number: turned by half their range, and that half taken away. A test of the sign costs a host word some 3 ns more.
 fn signed13(raw: u32) -> i32
@@ -31,7 +31,7 @@ fn step_if(on: bool, raw: u32, size: u32) -> u32
 
 // Both positions of an XY register, each moved by its half of a size register where its flag is set.
 pub fn step_xy(xy: u32, size: u32, across: bool, down: bool) -> u32
-    ensures { result ≡ steppedXY xy size across down }
+    ensures { result ≡ stepped_xy xy size across down }
 {
     let x = step_if(across, xy, size);
     let y = step_if(down, xy / 0x10000, size / 0x10000);

@@ -1,7 +1,7 @@
 -- What functions of this crate ask for and hand to each other. No promise rests on it.
 -- Assumes nothing.
 use Rattle.std.specs.Prelude.{◌≡◌, List, ℕ, ◌+◌, ◌*◌, ◌%◌, ◌^◌, ◌<◌, ◌≤◌, get_or}
-use Rattle.surface.specs.Place.{readBytes}
+use Rattle.surface.specs.Place.{read_bytes}
 
 -- n words are whole pixels of b bytes, and so many bytes from an address on are in a memory of len bytes
 pub record Pours (at b n len : ℕ) : Type 0 where
@@ -13,5 +13,5 @@ pub record Pours (at b n len : ℕ) : Type 0 where
 
 -- r is the word from an address on, in a memory of bytes
 pub record WordRead (m : List ℕ) (at r : ℕ) : Type 0 where
-  pub word : r ≡ readBytes m (λ k. at + k) 0 4
+  pub word : r ≡ read_bytes m (λ k. at + k) 0 4
   pub bytes : (a : ℕ) → get_or m a 0 < 256

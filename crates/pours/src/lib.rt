@@ -2,7 +2,7 @@
 ghost use Rattle.std.specs.Prelude.{◌≡◌, ◌+◌, ◌*◌, ◌/◌, ◌%◌, ◌≤◌, length};
 ghost use Rattle.surface.specs.Asked.{Held};
 ghost use Rattle.paint.specs.Paint.{state};
-ghost use Rattle.pours.specs.Pours.{word_in, unlike, pouredAt};
+ghost use Rattle.pours.specs.Pours.{word_in, unlike, poured_at};
 ghost use Rattle.pours.specs.Asked.{Pours, WordRead};
 
 // The word in the four bytes from an address on, low byte first.
@@ -46,7 +46,7 @@ fn unlike_threes(x: u32, y: u32, z: u32, a: u32, b: u32, c: u32) -> u32
 // Words as whole pixels of one byte, from an address on; how many of the pixels change.
 fn put_ones(mem: &mut [u8], at: usize, words: &[u32]) -> u32
     requires { Pours at 1 (length words.now) (length mem.old) }
-    ensures { state mem.new (4 * length words.now) result ≡ pouredAt (word_in words.now) 1 0 at (4 * length words.now) (state mem.old 0 0) }
+    ensures { state mem.new (4 * length words.now) result ≡ poured_at (word_in words.now) 1 0 at (4 * length words.now) (state mem.old 0 0) }
 {
     let mut r = 0;
     let mut i = 0;
@@ -64,7 +64,7 @@ fn put_ones(mem: &mut [u8], at: usize, words: &[u32]) -> u32
 // Of two bytes.
 fn put_twos(mem: &mut [u8], at: usize, words: &[u32]) -> u32
     requires { Pours at 2 (length words.now) (length mem.old) }
-    ensures { state mem.new (2 * length words.now) result ≡ pouredAt (word_in words.now) 2 0 at (2 * length words.now) (state mem.old 0 0) }
+    ensures { state mem.new (2 * length words.now) result ≡ poured_at (word_in words.now) 2 0 at (2 * length words.now) (state mem.old 0 0) }
 {
     let mut r = 0;
     let mut i = 0;
@@ -82,7 +82,7 @@ fn put_twos(mem: &mut [u8], at: usize, words: &[u32]) -> u32
 // Of three bytes: four of them are three words.
 fn put_threes(mem: &mut [u8], at: usize, words: &[u32]) -> u32
     requires { Pours at 3 (length words.now) (length mem.old) }
-    ensures { state mem.new (length words.now / 3 * 4) result ≡ pouredAt (word_in words.now) 3 0 at (length words.now / 3 * 4) (state mem.old 0 0) }
+    ensures { state mem.new (length words.now / 3 * 4) result ≡ poured_at (word_in words.now) 3 0 at (length words.now / 3 * 4) (state mem.old 0 0) }
 {
     let mut r = 0;
     let mut i = 0;
@@ -106,7 +106,7 @@ fn put_threes(mem: &mut [u8], at: usize, words: &[u32]) -> u32
 // Of four bytes.
 fn put_fours(mem: &mut [u8], at: usize, words: &[u32]) -> u32
     requires { Pours at 4 (length words.now) (length mem.old) }
-    ensures { state mem.new (length words.now) result ≡ pouredAt (word_in words.now) 4 0 at (length words.now) (state mem.old 0 0) }
+    ensures { state mem.new (length words.now) result ≡ poured_at (word_in words.now) 4 0 at (length words.now) (state mem.old 0 0) }
 {
     let mut r = 0;
     let mut i = 0;
@@ -122,7 +122,7 @@ fn put_fours(mem: &mut [u8], at: usize, words: &[u32]) -> u32
 // Words as whole pixels of so many bytes, from an address on; how many of the pixels change.
 pub fn put_words(mem: &mut [u8], at: usize, bytes: u32, words: &[u32]) -> u32
     requires { Pours at bytes (length words.now) (length mem.old) }
-    ensures { state mem.new (4 * length words.now / bytes) result ≡ pouredAt (word_in words.now) bytes 0 at (4 * length words.now / bytes) (state mem.old 0 0) }
+    ensures { state mem.new (4 * length words.now / bytes) result ≡ poured_at (word_in words.now) bytes 0 at (4 * length words.now / bytes) (state mem.old 0 0) }
 {
     match bytes {
         1 => put_ones(mem, at, words),

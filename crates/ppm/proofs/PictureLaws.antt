@@ -9,47 +9,47 @@ use lib.Dec.{ltb}
 use lib.ListN.{length}
 use borrow.Author.Tests.{ltb-true}
 use Rattle.surface.specs.declared.Surface.{Surface}
-use Rattle.surface.specs.Place.{readPx, onSurface}
+use Rattle.surface.specs.Place.{read_px, on_surface}
 use Rattle.surface.specs.Asked.{OnColour}
 use Rattle.surface.specs.Pixels.{Px, across, rect}
-use Rattle.spans.specs.Span.{allOn}
-use Rattle.formats.specs.Format.{targetNamed}
+use Rattle.spans.specs.Span.{all_on}
+use Rattle.formats.specs.Format.{target_named}
 use Rattle.surface.proofs.OnLaws.{and_left, and_right}
 use Rattle.formats.proofs.FormatLaws.{target-colour}
 use Rattle.registers.specs.declared.Regs.{Regs}
 use Rattle.basics.specs.Each.{each}
 use Rattle.ppm.specs.Text.{Page, put, said}
-use Rattle.ppm.specs.Picture.{shade, line, lines, header, noPicture, left, top, right, bottom, target, pixels, shows, picture}
+use Rattle.ppm.specs.Picture.{shade, line, lines, header, no_picture, left, top, right, bottom, target, pixels, shows, picture}
 use Rattle.ppm.specs.Asked.{RowOn, RectOn}
 use Rattle.basics.proofs.EachLaws.{each_append}
 
 module _ (s : Surface) where
   -- ---- on the surface
-  all_left : (len : ℕ) (ps qs : List Px) → allOn s len (ps ++ qs) ≡ true → allOn s len ps ≡ true
-  unfolding allOn
+  all_left : (len : ℕ) (ps qs : List Px) → all_on s len (ps ++ qs) ≡ true → all_on s len ps ≡ true
+  unfolding all_on
   all_left len [] qs e = refl
   all_left len (p ∷ ps) qs e =
-      let o = onSurface s len p.x p.y in
-      let a = and_left o (allOn s len (ps ++ qs)) e in
-      let b = all_left len ps qs (and_right o (allOn s len (ps ++ qs)) e) in
+      let o = on_surface s len p.x p.y in
+      let a = and_left o (all_on s len (ps ++ qs)) e in
+      let b = all_left len ps qs (and_right o (all_on s len (ps ++ qs)) e) in
       rw (a, b)
 
-  all_right : (len : ℕ) (ps qs : List Px) → allOn s len (ps ++ qs) ≡ true → allOn s len qs ≡ true
-  unfolding allOn
+  all_right : (len : ℕ) (ps qs : List Px) → all_on s len (ps ++ qs) ≡ true → all_on s len qs ≡ true
+  unfolding all_on
   all_right len [] qs e = e
-  all_right len (p ∷ ps) qs e = all_right len ps qs (and_right (onSurface s len p.x p.y) (allOn s len (ps ++ qs)) e)
+  all_right len (p ∷ ps) qs e = all_right len ps qs (and_right (on_surface s len p.x p.y) (all_on s len (ps ++ qs)) e)
 
   pub row_first : (len x w y : ℕ) → 0 < w → RowOn s len x w y → OnColour s len x y
-  unfolding across allOn
+  unfolding across all_on
   row_first len x zero y h on = absurd (omega arith)
-  row_first len x (suc w) y h on = record { colour = on.colour; on = and_left (onSurface s len x y) (allOn s len (across false (x + 1) w y)) on.on }
+  row_first len x (suc w) y h on = record { colour = on.colour; on = and_left (on_surface s len x y) (all_on s len (across false (x + 1) w y)) on.on }
 
   pub row-rest : (len x w y : ℕ) → 0 < w → RowOn s len x w y → RowOn s len (x + 1) (w - 1) y
-  unfolding across allOn
+  unfolding across all_on
   row-rest len x zero y h on = absurd (omega arith)
   row-rest len x (suc w) y h on =
       let e : suc w - 1 ≡ w = omega arith in
-      rw e (record { colour = on.colour; on = and_right (onSurface s len x y) (allOn s len (across false (x + 1) w y)) on.on })
+      rw e (record { colour = on.colour; on = and_right (on_surface s len x y) (all_on s len (across false (x + 1) w y)) on.on })
 
   pub rect-first : (len x y w h : ℕ) → 0 < h → RectOn s len x y w h → RowOn s len x w y
   unfolding rect
@@ -70,13 +70,13 @@ module _ (s : Surface) where
     lines-append [] qs = refl
     lines-append (p ∷ ps) qs = rw (lines-append ps qs, append_assoc)
 
-    pub row-again : (x w y : ℕ) (p q : Page) → 0 < w → q ≡ said (line (shade s.bytes (readPx m s x y))) p
+    pub row-again : (x w y : ℕ) (p q : Page) → 0 < w → q ≡ said (line (shade s.bytes (read_px m s x y))) p
         → said (lines s m (across false (x + 1) (w - 1) y)) q ≡ said (lines s m (across false x w y)) p
     unfolding across lines
     row-again x zero y p q h e = absurd (omega arith)
     row-again x (suc w) y p q h e =
         let f : suc w - 1 ≡ w = omega arith in
-        rw (f, e) (sym (each_append put (line (shade s.bytes (readPx m s x y))) (lines s m (across false (x + 1) w y)) p))
+        rw (f, e) (sym (each_append put (line (shade s.bytes (read_px m s x y))) (lines s m (across false (x + 1) w y)) p))
 
     pub row_ends : (x w y : ℕ) (p : Page) → w ≤ 0 → p ≡ said (lines s m (across false x w y)) p
     unfolding across lines each
@@ -98,18 +98,18 @@ module _ (s : Surface) where
 
 -- ---- what there is where a picture is shown
 pub record Shown (r : Regs) (len : ℕ) : Type 0 where
-  pub named : targetNamed r.dstFormat ≡ true
+  pub named : target_named r.dst_format ≡ true
   pub wide : left r < right r
   pub high : top r < bottom r
-  pub on : allOn (target r) len (pixels r) ≡ true
+  pub on : all_on (target r) len (pixels r) ≡ true
 
 pub shown : (r : Regs) (len : ℕ) → shows r len ≡ true → Shown r len
 unfolding shows
 shown r len e =
-    let a = targetNamed r.dstFormat in
+    let a = target_named r.dst_format in
     let b = ltb (left r) (right r) in
     let c = ltb (top r) (bottom r) in
-    let d = allOn (target r) len (pixels r) in
+    let d = all_on (target r) len (pixels r) in
     let f = and_right a (b && (c && d)) e in
     let g = and_right b (c && d) f in
     record {
@@ -122,7 +122,7 @@ shown r len e =
 pub rect-shown : (r : Regs) (len : ℕ) (s : Surface) → s ≡ target r → shows r len ≡ true → RectOn s len (left r) (top r) (right r - left r) (bottom r - top r)
 rect-shown r len s e h =
     let k = shown r len h in
-    rw e (record { colour = target-colour r.dstBaseAddr r.dstFormat k.named; on = k.on })
+    rw e (record { colour = target-colour r.dst_base_addr r.dst_format k.named; on = k.on })
 
 module _ (r : Regs) (m : List ℕ) (p : Page) where
   pub picture-shown : (s : Surface) {q t : Page} → shows r (length m) ≡ true → s ≡ target r
@@ -132,6 +132,6 @@ module _ (r : Regs) (m : List ℕ) (p : Page) where
       rw h (g ∙ ap (λ (u : Page). said (lines s m (pixels r)) u) f ∙ ap (λ (v : Surface). said (lines v m (pixels r)) (said (header (right r - left r) (bottom r - top r)) p)) e
       ∙ sym (each_append put (header (right r - left r) (bottom r - top r)) (lines (target r) m (pixels r)) p))
 
-  pub picture-none : {t : Page} → shows r (length m) ≡ false → t ≡ said noPicture p → t ≡ said (picture r m) p
+  pub picture-none : {t : Page} → shows r (length m) ≡ false → t ≡ said no_picture p → t ≡ said (picture r m) p
   unfolding picture
   picture-none h e = rw h e

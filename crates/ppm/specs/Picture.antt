@@ -3,10 +3,10 @@
 use Rattle.std.specs.Prelude.{Bool, false, cond, ◌&&◌, List, [], ◌∷◌, ◌++◌, ℕ, ◌-◌, ◌*◌, ◌/◌, ◌%◌, ◌^◌, eqb, ltb, length}
 use Rattle.colour.specs.Convert.{converted}
 use Rattle.surface.specs.declared.Surface.{Surface}
-use Rattle.surface.specs.Place.{readPx}
+use Rattle.surface.specs.Place.{read_px}
 use Rattle.surface.specs.Pixels.{Px, rect}
-use Rattle.spans.specs.Span.{allOn}
-use Rattle.formats.specs.Format.{targetNamed, target_of}
+use Rattle.spans.specs.Span.{all_on}
+use Rattle.formats.specs.Format.{target_named, target_of}
 use Rattle.registers.specs.declared.Regs.{Regs}
 use Rattle.ppm.specs.Text.{numeral}
 
@@ -22,7 +22,7 @@ line rgb = numeral (rgb / 2 ^ 16 % 2 ^ 8) 32 ++ (numeral (rgb / 2 ^ 8 % 2 ^ 8) 3
 
 unfoldable pub lines : Surface → List ℕ → List Px → List ℕ
 lines s m [] = []
-lines s m (p ∷ ps) = line (shade s.bytes (readPx m s p.x p.y)) ++ lines s m ps
+lines s m (p ∷ ps) = line (shade s.bytes (read_px m s p.x p.y)) ++ lines s m ps
 
 -- ---- the picture
 
@@ -31,24 +31,24 @@ unfoldable pub header : ℕ → ℕ → List ℕ
 header w h = (0x50 ∷ 0x33 ∷ 10 ∷ []) ++ (numeral w 32 ++ (numeral h 10 ++ (0x32 ∷ 0x35 ∷ 0x35 ∷ 10 ∷ [])))
 
 -- the line `no picture`
-abbrev pub noPicture : List ℕ
-noPicture = 0x6e ∷ 0x6f ∷ 0x20 ∷ 0x70 ∷ 0x69 ∷ 0x63 ∷ 0x74 ∷ 0x75 ∷ 0x72 ∷ 0x65 ∷ 10 ∷ []
+abbrev pub no_picture : List ℕ
+no_picture = 0x6e ∷ 0x6f ∷ 0x20 ∷ 0x70 ∷ 0x69 ∷ 0x63 ∷ 0x74 ∷ 0x75 ∷ 0x72 ∷ 0x65 ∷ 10 ∷ []
 
 -- clip0: its columns and rows, min included, max excluded; whichever clip the command selects
 abbrev pub left : Regs → ℕ
-left r = r.clip0Min % 2 ^ 12
+left r = r.clip0_min % 2 ^ 12
 
 abbrev pub top : Regs → ℕ
-top r = r.clip0Min / 2 ^ 16 % 2 ^ 12
+top r = r.clip0_min / 2 ^ 16 % 2 ^ 12
 
 abbrev pub right : Regs → ℕ
-right r = r.clip0Max % 2 ^ 12
+right r = r.clip0_max % 2 ^ 12
 
 abbrev pub bottom : Regs → ℕ
-bottom r = r.clip0Max / 2 ^ 16 % 2 ^ 12
+bottom r = r.clip0_max / 2 ^ 16 % 2 ^ 12
 
 abbrev pub target : Regs → Surface
-target r = target_of r.dstBaseAddr r.dstFormat
+target r = target_of r.dst_base_addr r.dst_format
 
 abbrev pub pixels : Regs → List Px
 pixels r = rect false false (left r) (top r) (right r - left r) (bottom r - top r)
@@ -56,10 +56,10 @@ pixels r = rect false false (left r) (top r) (right r - left r) (bottom r - top 
 -- there is a picture: the target is a surface, the rectangle has a pixel, and all its pixels are on the surface
 unfoldable pub shows : Regs → ℕ → Bool
 shows r len =
-    targetNamed r.dstFormat && (ltb (left r) (right r) && (ltb (top r) (bottom r) && allOn (target r) len (pixels r)))
+    target_named r.dst_format && (ltb (left r) (right r) && (ltb (top r) (bottom r) && all_on (target r) len (pixels r)))
 
 unfoldable pub picture : Regs → List ℕ → List ℕ
 picture r m =
     cond (shows r (length m))
     (header (right r - left r) (bottom r - top r) ++ lines (target r) m (pixels r))
-    noPicture
+    no_picture

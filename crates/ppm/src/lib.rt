@@ -1,10 +1,10 @@
 // Text put into a lent buffer, and clip0's rectangle of the target surface as the text of a plain PPM.
 ghost use Rattle.std.specs.Prelude.{◌≡◌, false, ◌+◌, ◌/◌, ◌%◌, ◌^◌, ◌<◌, length};
-ghost use Rattle.surface.specs.Place.{readPx};
+ghost use Rattle.surface.specs.Place.{read_px};
 ghost use Rattle.surface.specs.Asked.{OnColour};
 ghost use Rattle.surface.specs.Pixels.{across, rect};
 ghost use Rattle.ppm.specs.Text.{page, put as Text·put, said, digit, numeral};
-ghost use Rattle.ppm.specs.Picture.{shade as Picture·shade, line, lines, header, noPicture, shows, picture};
+ghost use Rattle.ppm.specs.Picture.{shade as Picture·shade, line, lines, header, no_picture, shows, picture};
 ghost use Rattle.ppm.specs.Asked.{RowOn, RectOn};
 
 use registers::Regs;
@@ -83,7 +83,7 @@ fn say_line(out: &mut [u8], at: usize, rgb: u32) -> usize
 
 fn say_pixel(out: &mut [u8], at: usize, mem: &[u8], s: Surface, x: u32, y: u32) -> usize
     requires { OnColour s (length mem.now) x y }
-    ensures { page out.new result ≡ said (line (Picture·shade s.bytes (readPx mem.now s x y))) (page out.old at) }
+    ensures { page out.new result ≡ said (line (Picture·shade s.bytes (read_px mem.now s x y))) (page out.old at) }
 {
     let v = surface::get_pixel(mem, s, x, y);
     let rgb = shade(s.bytes, v);
@@ -145,7 +145,7 @@ fn say_header(out: &mut [u8], at: usize, w: u32, h: u32) -> usize
 }
 
 fn say_nothing(out: &mut [u8], at: usize) -> usize
-    ensures { page out.new result ≡ said noPicture (page out.old at) }
+    ensures { page out.new result ≡ said no_picture (page out.old at) }
 {
     say(out, at, b"no picture\n")
 }
@@ -154,20 +154,20 @@ fn say_nothing(out: &mut [u8], at: usize) -> usize
 fn has_picture(len: usize, r: Regs) -> bool
     ensures { result ≡ shows r len }
 {
-    if !formats::names_target(r.dstFormat) {
+    if !formats::names_target(r.dst_format) {
         return false;
     }
-    let left = r.clip0Min % 0x1000;
-    let right = r.clip0Max % 0x1000;
+    let left = r.clip0_min % 0x1000;
+    let right = r.clip0_max % 0x1000;
     if right <= left {
         return false;
     }
-    let top = r.clip0Min / 0x1_0000 % 0x1000;
-    let bottom = r.clip0Max / 0x1_0000 % 0x1000;
+    let top = r.clip0_min / 0x1_0000 % 0x1000;
+    let bottom = r.clip0_max / 0x1_0000 % 0x1000;
     if bottom <= top {
         return false;
     }
-    let s = formats::target_of(r.dstBaseAddr, r.dstFormat);
+    let s = formats::target_of(r.dst_base_addr, r.dst_format);
     spans::rect_on(len, s, left, top, right - left, bottom - top)
 }
 
@@ -177,11 +177,11 @@ pub fn say_picture(out: &mut [u8], at: usize, mem: &[u8], r: Regs) -> usize
     if !has_picture(mem.len(), r) {
         return say_nothing(out, at);
     }
-    let left = r.clip0Min % 0x1000;
-    let top = r.clip0Min / 0x1_0000 % 0x1000;
-    let w = r.clip0Max % 0x1000 - left;
-    let h = r.clip0Max / 0x1_0000 % 0x1000 - top;
-    let s = formats::target_of(r.dstBaseAddr, r.dstFormat);
+    let left = r.clip0_min % 0x1000;
+    let top = r.clip0_min / 0x1_0000 % 0x1000;
+    let w = r.clip0_max % 0x1000 - left;
+    let h = r.clip0_max / 0x1_0000 % 0x1000 - top;
+    let s = formats::target_of(r.dst_base_addr, r.dst_format);
     let body = say_header(out, at, w, h);
     say_rows(out, body, mem, s, left, top, w, h)
 }

@@ -9,8 +9,8 @@ use lib.Arith.{lt-one, digits_div, digits_mod}
 use lib.Pow.{pow_pos}
 use borrow.Author.Tests.{eqb-true}
 use lib.Bits.{bit_and, bit_xor, differ, and_shr, and_mod, xor_step, xor_shr, xor_mod, and_zero_r, xor_zero_r}
-use Rattle.raster.specs.Rop.{ropBit, ropBits}
-use Rattle.raster.specs.Masks.{mask, muxed, laid, merged, quadOf, turns, flips, quadMade}
+use Rattle.raster.specs.Rop.{rop_bit, rop_bits}
+use Rattle.raster.specs.Masks.{mask, muxed, laid, merged, quad_of, turns, flips, quad_made}
 use Rattle.surface.proofs.OnLaws.{and_left, and_right}
 use Rattle.colour.proofs.Bits.{Bit, off, on, bit, eight, join}
 
@@ -79,9 +79,9 @@ module _ (code : ℕ) (by : ℕ → ℕ → ℕ → (ℕ → ℕ) → ℕ)
     (half : (p s d : ℕ) (m : ℕ → ℕ) → by p s d m / 2 ≡ by (p / 2) (s / 2) (d / 2) (λ k. m k / 2))
     (odd : (p s d : ℕ) (m : ℕ → ℕ) → by p s d m % 2 ≡ by (p % 2) (s % 2) (d % 2) (λ k. m k % 2))
     (none : (p s d : ℕ) → by p s d (λ k. 0) ≡ 0)
-    (bits : (p s d : ℕ) → Bit p → Bit s → Bit d → by p s d (λ k. code / 2 ^ k % 2) ≡ ropBit code p s d) where
-  masks-are : (n p s d : ℕ) → by p s d (mask n code) ≡ ropBits n code p s d
-  unfolding ropBits
+    (bits : (p s d : ℕ) → Bit p → Bit s → Bit d → by p s d (λ k. code / 2 ^ k % 2) ≡ rop_bit code p s d) where
+  masks-are : (n p s d : ℕ) → by p s d (mask n code) ≡ rop_bits n code p s d
+  unfolding rop_bits
   masks-are zero p s d = ap (by p s d) (λ i k. mask-zero code k i) ∙ none p s d
   masks-are (suc n) p s d =
       sym (div-add-mod' (by p s d (mask (suc n) code)) 2)
@@ -89,34 +89,34 @@ module _ (code : ℕ) (by : ℕ → ℕ → ℕ → (ℕ → ℕ) → ℕ)
       (odd p s d _ ∙ ap (by (p % 2) (s % 2) (d % 2)) (λ i k. mask-odd n code k i) ∙ bits _ _ _ (bit p) (bit s) (bit d))
 
 -- the pattern's choice first
-chosen-bit : (code : ℕ) {p s d : ℕ} → Bit p → Bit s → Bit d → chosen p s d (λ k. code / 2 ^ k % 2) ≡ ropBit code p s d
-unfolding ropBit
+chosen-bit : (code : ℕ) {p s d : ℕ} → Bit p → Bit s → Bit d → chosen p s d (λ k. code / 2 ^ k % 2) ≡ rop_bit code p s d
+unfolding rop_bit
 chosen-bit code =
-    eight (λ p s d. chosen p s d (λ k. code / 2 ^ k % 2) ≡ ropBit code p s d)
+    eight (λ p s d. chosen p s d (λ k. code / 2 ^ k % 2) ≡ rop_bit code p s d)
     (simp choose-off) (simp (choose-on, choose-off)) (simp (choose-on, choose-off)) (simp (choose-on, choose-off))
     (simp (choose-on, choose-off)) (simp (choose-on, choose-off)) (simp (choose-on, choose-off)) (simp choose-on)
 
-pub merged-is : (code p s d : ℕ) → merged (laid 32 code 0 p) (laid 32 code 1 p) (laid 32 code 2 p) (laid 32 code 3 p) s d ≡ ropBits 32 code p s d
+pub merged-is : (code p s d : ℕ) → merged (laid 32 code 0 p) (laid 32 code 1 p) (laid 32 code 2 p) (laid 32 code 3 p) s d ≡ rop_bits 32 code p s d
 unfolding merged laid
 merged-is code = masks-are code chosen (λ p s d m. simp muxed-half) (λ p s d m. simp muxed-odd) (λ p s d. simp muxed-zero) (λ p s d. chosen-bit code) 32
 
 -- the source's choice first
-abbrev sidedBy : ℕ → ℕ → ℕ → (ℕ → ℕ) → ℕ
-sidedBy p s d m =
+abbrev sided_by : ℕ → ℕ → ℕ → (ℕ → ℕ) → ℕ
+sided_by p s d m =
     muxed p
     (muxed d (muxed s (m 7) (m 5)) (muxed s (m 6) (m 4)))
     (muxed d (muxed s (m 3) (m 1)) (muxed s (m 2) (m 0)))
 
-sided-bit : (code : ℕ) {p s d : ℕ} → Bit p → Bit s → Bit d → sidedBy p s d (λ k. code / 2 ^ k % 2) ≡ ropBit code p s d
-unfolding ropBit
+sided-bit : (code : ℕ) {p s d : ℕ} → Bit p → Bit s → Bit d → sided_by p s d (λ k. code / 2 ^ k % 2) ≡ rop_bit code p s d
+unfolding rop_bit
 sided-bit code =
-    eight (λ p s d. sidedBy p s d (λ k. code / 2 ^ k % 2) ≡ ropBit code p s d)
+    eight (λ p s d. sided_by p s d (λ k. code / 2 ^ k % 2) ≡ rop_bit code p s d)
     (simp choose-off) (simp (choose-on, choose-off)) (simp (choose-on, choose-off)) (simp (choose-on, choose-off))
     (simp (choose-on, choose-off)) (simp (choose-on, choose-off)) (simp (choose-on, choose-off)) (simp choose-on)
 
-quad_is : (code p s d : ℕ) → merged (quadOf code s).q0 (quadOf code s).q1 (quadOf code s).q2 (quadOf code s).q3 p d ≡ ropBits 32 code p s d
-unfolding merged quadOf
-quad_is code = masks-are code sidedBy (λ p s d m. simp muxed-half) (λ p s d m. simp muxed-odd) (λ p s d. simp muxed-zero) (λ p s d. sided-bit code) 32
+quad_is : (code p s d : ℕ) → merged (quad_of code s).q0 (quad_of code s).q1 (quad_of code s).q2 (quad_of code s).q3 p d ≡ rop_bits 32 code p s d
+unfolding merged quad_of
+quad_is code = masks-are code sided_by (λ p s d m. simp muxed-half) (λ p s d m. simp muxed-odd) (λ p s d. simp muxed-zero) (λ p s d. sided-bit code) 32
 
 -- ---- an operation that only flips bits of the target
 other : {y z : ℕ} → Bit y → y + z ≡ 1 → differ 1 y ≡ z
@@ -133,8 +133,8 @@ module _ (code : ℕ) (can : flips code ≡ true) where
   two : (turns code && turns (code / 4)) ≡ true
   two = and_left _ (turns (code / 16)) three
 
-  flip-bit : {p s d : ℕ} → Bit p → Bit s → Bit d → differ d (ropBit code p s 0) ≡ ropBit code p s d
-  unfolding ropBit
+  flip-bit : {p s d : ℕ} → Bit p → Bit s → Bit d → differ d (rop_bit code p s 0) ≡ rop_bit code p s d
+  unfolding rop_bit
   flip-bit =
       eight (λ p s d. differ d (code / 2 ^ (4 * p + 2 * s + 0) % 2) ≡ code / 2 ^ (4 * p + 2 * s + d) % 2)
       refl (other (bit (code / 1)) (omega (arith, turned code (and_left _ (turns (code / 4)) two))))
@@ -142,19 +142,19 @@ module _ (code : ℕ) (can : flips code ≡ true) where
       refl (other (bit (code / 16)) (omega (arith, turned (code / 16) (and_right (turns code && turns (code / 4)) _ three))))
       refl (other (bit (code / 64)) (omega (arith, turned (code / 64) (and_right ((turns code && turns (code / 4)) && turns (code / 16)) _ can))))
 
-  rop-bit : (p s d : ℕ) → ropBit code p s d < 2
-  unfolding ropBit
+  rop-bit : (p s d : ℕ) → rop_bit code p s d < 2
+  unfolding rop_bit
   rop-bit p s d = omega arith
 
-  flip_bits : (n p s d : ℕ) → d < 2 ^ n → bit_xor d (ropBits n code p s 0) ≡ ropBits n code p s d
-  unfolding ropBits
+  flip_bits : (n p s d : ℕ) → d < 2 ^ n → bit_xor d (rop_bits n code p s 0) ≡ rop_bits n code p s d
+  unfolding rop_bits
   flip_bits zero p s d h = ap (λ (x : ℕ). bit_xor x 0) (lt-one h)
   flip_bits (suc n) p s d h =
       xor_step d _
       ∙ join (ap (bit_xor (d / 2)) (digits_div _ (rop-bit (p % 2) (s % 2) 0)) ∙ flip_bits n (p / 2) (s / 2) (d / 2) (omega (arith, pow-suc 2 n)))
       (ap (differ (d % 2)) (digits_mod _ (rop-bit (p % 2) (s % 2) 0)) ∙ flip-bit (bit p) (bit s) (bit d))
 
-pub quad-makes : (flip : Bool) (code p s d : ℕ) → (flip ≡ true → flips code ≡ true) → d < 2 ^ 32 → quadMade flip (quadOf code s) p d ≡ ropBits 32 code p s d
+pub quad-makes : (flip : Bool) (code p s d : ℕ) → (flip ≡ true → flips code ≡ true) → d < 2 ^ 32 → quad_made flip (quad_of code s) p d ≡ rop_bits 32 code p s d
 unfolding merged
 quad-makes true code p s d can h =
     ap (bit_xor d) (ap₂ (muxed p) (sym (choose-off _ _)) (sym (choose-off _ _)) ∙ quad_is code p s 0) ∙ flip_bits code (can refl) 32 p s d h

@@ -24,8 +24,8 @@ merged q0 q1 q2 q3 s d = muxed s (muxed d q3 q2) (muxed d q1 q0)
 abbrev pub sided : ℕ → ℕ → ℕ → ℕ
 sided code k s = muxed s (mask 32 code (k + 2)) (mask 32 code k)
 
-unfoldable pub quadOf : ℕ → ℕ → Quad
-quadOf code s = record { q0 = sided code 0 s; q1 = sided code 1 s; q2 = sided code 4 s; q3 = sided code 5 s }
+unfoldable pub quad_of : ℕ → ℕ → Quad
+quad_of code s = record { q0 = sided code 0 s; q1 = sided code 1 s; q2 = sided code 4 s; q3 = sided code 5 s }
 
 -- one of a number's two low bits is 1, and the other 0
 abbrev pub turns : ℕ → Bool
@@ -36,5 +36,5 @@ abbrev pub flips : ℕ → Bool
 flips code = ((turns code && turns (code / 4)) && turns (code / 16)) && turns (code / 64)
 
 -- what it makes of pattern and target; where it only flips, by what it makes of target 0
-abbrev pub quadMade : Bool → Quad → ℕ → ℕ → ℕ
-quadMade flip q p d = cond flip (bit_xor d (muxed p q.q2 q.q0)) (merged q.q0 q.q1 q.q2 q.q3 p d)
+abbrev pub quad_made : Bool → Quad → ℕ → ℕ → ℕ
+quad_made flip q p d = cond flip (bit_xor d (muxed p q.q2 q.q0)) (merged q.q0 q.q1 q.q2 q.q3 p d)

@@ -1,7 +1,7 @@
 // Raster operations, and which of them do not look at the pattern.
 ghost use Rattle.std.specs.Prelude.{◌≡◌, ◌%◌, ◌<◌};
-ghost use Rattle.raster.specs.Rop.{ropBits, patternFree};
-ghost use Rattle.raster.specs.Masks.{mask, muxed, merged, quadOf, turns, flips, quadMade};
+ghost use Rattle.raster.specs.Rop.{rop_bits, pattern_free};
+ghost use Rattle.raster.specs.Masks.{mask, muxed, merged, quad_of, turns, flips, quad_made};
 
 // Of four values, at each bit the one whose number is 2s + d there.
 pub fn merge(q0: u32, q1: u32, q2: u32, q3: u32, s: u32, d: u32) -> u32
@@ -29,7 +29,7 @@ pub fn lay(low: u32, high: u32, p: u32) -> u32
 
 // The raster operation at all 32 bits: of the bits of the code, by pattern, source and target.
 pub fn raster(code: u32, p: u32, s: u32, d: u32) -> u32
-    ensures { result ≡ ropBits 32 code p s d }
+    ensures { result ≡ rop_bits 32 code p s d }
 {
     let q0 = lay(spread(code, 0), spread(code, 4), p);
     let q1 = lay(spread(code, 1), spread(code, 5), p);
@@ -48,7 +48,7 @@ pub struct Quad {
 }
 
 pub fn quad_of(code: u32, s: u32) -> Quad
-    ensures { result ≡ quadOf code s }
+    ensures { result ≡ quad_of code s }
 {
     Quad {
         q0: lay(spread(code, 0), spread(code, 2), s),
@@ -73,7 +73,7 @@ pub fn is_flip(code: u32) -> bool
 
 // What it makes of pattern and target; where it only flips, by what it makes of target 0.
 pub fn by_quad(q: Quad, flip: bool, p: u32, d: u32) -> u32
-    ensures { result ≡ quadMade flip q p d }
+    ensures { result ≡ quad_made flip q p d }
 {
     if flip {
         return d ^ lay(q.q0, q.q2, p);
@@ -83,7 +83,7 @@ pub fn by_quad(q: Quad, flip: bool, p: u32, d: u32) -> u32
 
 // Whether the code gives the same whatever the pattern is.
 pub fn is_pattern_free(code: u32) -> bool
-    ensures { result ≡ patternFree code }
+    ensures { result ≡ pattern_free code }
 {
     code / 16 % 16 == code % 16
 }

@@ -6,19 +6,19 @@ use Prim.Native.Nat.{ℕ, zero, suc, ◌+◌, ◌-◌, ◌<◌, ◌≤◌}
 use native.Mathlib.Omega.{arith}
 use lib.Seq.{ext_get_or}
 use Rattle.basics.specs.Each.{each}
-use Rattle.bank.specs.Bank.{readValue}
+use Rattle.bank.specs.Bank.{read_value}
 use Rattle.engine.specs.declared.Engine.{Engine}
-use Rattle.engine.specs.Step.{readFrom}
-use Rattle.recorded.specs.Recorded.{Started, mixedWord, readsFrom}
+use Rattle.engine.specs.Step.{read_from}
+use Rattle.recorded.specs.Recorded.{Started, mixed_word, reads_from}
 
 module _ (e : Engine) (o : ℕ) where
-  pub reads-again : (n sum : ℕ) → 0 < n → each mixedWord (readsFrom e (o + 4) (n - 1)) (mixedWord (readValue (readFrom e o)) sum) ≡ each mixedWord (readsFrom e o n) sum
-  unfolding readsFrom each
+  pub reads-again : (n sum : ℕ) → 0 < n → each mixed_word (reads_from e (o + 4) (n - 1)) (mixed_word (read_value (read_from e o)) sum) ≡ each mixed_word (reads_from e o n) sum
+  unfolding reads_from each
   reads-again zero sum h = absurd (omega arith)
   reads-again (suc n) sum h = let f : suc n - 1 ≡ n = omega arith in rw f
 
-  pub reads_end : (n sum : ℕ) → n ≤ 0 → sum ≡ each mixedWord (readsFrom e o n) sum
-  unfolding readsFrom each
+  pub reads_end : (n sum : ℕ) → n ≤ 0 → sum ≡ each mixed_word (reads_from e o n) sum
+  unfolding reads_from each
   reads_end zero sum h = refl
   reads_end (suc n) sum h = absurd (omega arith)
 

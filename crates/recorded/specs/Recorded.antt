@@ -4,51 +4,51 @@
 use Rattle.std.specs.Prelude.{◌≡◌, cond, List, [], ◌∷◌, ℕ, zero, suc, ◌+◌, ◌-◌, ◌*◌, ◌/◌, ◌%◌, ◌^◌, ◌<◌, eqb, ltb, length, get_or}
 use Rattle.std.specs.Int.Bits.{bit_xor}
 use Rattle.basics.specs.Each.{each}
-use Rattle.bank.specs.Bank.{readValue}
+use Rattle.bank.specs.Bank.{read_value}
 use Rattle.rooms.specs.declared.Rooms.{Rooms}
 use Rattle.engine.specs.declared.Engine.{Engine}
-use Rattle.engine.specs.Step.{readFrom}
+use Rattle.engine.specs.Step.{read_from}
 
 -- ---- the memory at the start: byte i is 7 i i + 13 i + seed, modulo 256
-abbrev pub startByte : ℕ → ℕ → ℕ
-startByte i seed = (i % 256 * (i % 256) % 256 * 7 + i % 256 * 13 + seed % 256) % 256
+abbrev pub start_byte : ℕ → ℕ → ℕ
+start_byte i seed = (i % 256 * (i % 256) % 256 * 7 + i % 256 * 13 + seed % 256) % 256
 
 pub record Started (m : List ℕ) (len seed : ℕ) : Type 0 where
   pub long : length m ≡ len
-  pub each : (i : ℕ) → i < len → get_or m i 0 ≡ startByte i seed
+  pub each : (i : ℕ) → i < len → get_or m i 0 ≡ start_byte i seed
 
 -- how much of it is lent: all, or all but its last byte
 abbrev pub lent_of : ℕ → ℕ → ℕ
 lent_of len kind = cond (eqb kind 1) (len - 1) len
 
-abbrev pub leastOf : ℕ → ℕ → ℕ
-leastOf a b = cond (ltb a b) a b
+abbrev pub least_of : ℕ → ℕ → ℕ
+least_of a b = cond (ltb a b) a b
 
 -- ---- checksums, FNV-1a in 32 bits: of no bytes, and after one more
-abbrev pub noBytes : ℕ
-noBytes = 2166136261
+abbrev pub no_bytes : ℕ
+no_bytes = 2166136261
 
 abbrev pub mixed : ℕ → ℕ → ℕ
 mixed b sum = bit_xor sum b % 2 ^ 32 * 16777619 % 2 ^ 32
 
 -- after a word's four bytes, low byte first
-abbrev pub mixedWord : ℕ → ℕ → ℕ
-mixedWord w sum = mixed (w / 2 ^ 24 % 2 ^ 8) (mixed (w / 2 ^ 16 % 2 ^ 8) (mixed (w / 2 ^ 8 % 2 ^ 8) (mixed (w % 2 ^ 8) sum)))
+abbrev pub mixed_word : ℕ → ℕ → ℕ
+mixed_word w sum = mixed (w / 2 ^ 24 % 2 ^ 8) (mixed (w / 2 ^ 16 % 2 ^ 8) (mixed (w / 2 ^ 8 % 2 ^ 8) (mixed (w % 2 ^ 8) sum)))
 
-abbrev pub memorySum : List ℕ → ℕ
-memorySum m = each mixed m noBytes
+abbrev pub memory_sum : List ℕ → ℕ
+memory_sum m = each mixed m no_bytes
 
 -- what so many registers from an offset on read back
-unfoldable pub readsFrom : Engine → ℕ → ℕ → List ℕ
-readsFrom e o zero = []
-readsFrom e o (suc n) = readValue (readFrom e o) ∷ readsFrom e (o + 4) n
+unfoldable pub reads_from : Engine → ℕ → ℕ → List ℕ
+reads_from e o zero = []
+reads_from e o (suc n) = read_value (read_from e o) ∷ reads_from e (o + 4) n
 
 -- what is kept of source and target
-abbrev pub roomWords : Rooms → List ℕ
-roomWords k = k.source.pixels ∷ k.source.rows ∷ k.target.pixels ∷ k.target.rows ∷ []
+abbrev pub room_words : Rooms → List ℕ
+room_words k = k.source.pixels ∷ k.source.rows ∷ k.target.pixels ∷ k.target.rows ∷ []
 
 -- of registers 08 to 70, of the pattern, of one byte for a waiting host blit, and of what is kept
-abbrev pub registerSum : Engine → ℕ
-registerSum e =
-    each mixedWord (roomWords e.rooms)
-    (mixed (cond e.blit.waiting 1 0) (each mixedWord (readsFrom e 0x100 64) (each mixedWord (readsFrom e 0x08 27) noBytes)))
+abbrev pub register_sum : Engine → ℕ
+register_sum e =
+    each mixed_word (room_words e.rooms)
+    (mixed (cond e.blit.waiting 1 0) (each mixed_word (reads_from e 0x100 64) (each mixed_word (reads_from e 0x08 27) no_bytes)))

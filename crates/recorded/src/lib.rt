@@ -1,8 +1,8 @@
 // What the programs that play recorded streams share: the memory at the start, how much of it is lent, and checksums.
 ghost use Rattle.std.specs.Prelude.{◌≡◌, ◌+◌, ◌*◌, ◌/◌, ◌%◌, ◌^◌, ◌≤◌, ◌<◌, length};
 ghost use Rattle.basics.specs.Each.{each};
-ghost use Rattle.bank.specs.Bank.{readValue};
-ghost use Rattle.recorded.specs.Recorded.{startByte, Started, lent_of, leastOf, mixed, mixedWord, memorySum, readsFrom, roomWords, registerSum};
+ghost use Rattle.bank.specs.Bank.{read_value};
+ghost use Rattle.recorded.specs.Recorded.{start_byte, Started, lent_of, least_of, mixed, mixed_word, memory_sum, reads_from, room_words, register_sum};
 
 use bank::Reading;
 use engine::Engine;
@@ -10,7 +10,7 @@ use rooms::Rooms;
 
 // Byte i of the memory at the start.
 fn start_byte(i: usize, seed: u32) -> u8
-    ensures { result ≡ startByte i seed }
+    ensures { result ≡ start_byte i seed }
 {
     let k = i % 256;
     ((k * k % 256 * 7 + k * 13 + (seed % 256) as usize) % 256) as u8
@@ -40,7 +40,7 @@ pub fn lent(len: usize, kind: u32) -> usize
 }
 
 pub fn least(a: usize, b: usize) -> usize
-    ensures { (result ≡ leastOf a b) × (result ≤ b) }
+    ensures { (result ≡ least_of a b) × (result ≤ b) }
 {
     if a < b { a } else { b }
 }
@@ -53,7 +53,7 @@ fn mix_byte(sum: u64, word: u32) -> u64
 }
 
 fn mix_word(sum: u64, word: u32) -> u64
-    ensures { result ≡ mixedWord word sum }
+    ensures { result ≡ mixed_word word sum }
 {
     let one = mix_byte(sum, word);
     let two = mix_byte(one, word / 0x100);
@@ -62,7 +62,7 @@ fn mix_word(sum: u64, word: u32) -> u64
 }
 
 fn value(r: Reading) -> u32
-    ensures { result ≡ readValue r }
+    ensures { result ≡ read_value r }
 {
     match r {
         Reading::Value(word) => word,
@@ -73,7 +73,7 @@ fn value(r: Reading) -> u32
 // The checksum after so many words that are read back from an offset on.
 fn mix_reads(e: Engine, sum: u64, offset: u32, words: u32) -> u64
     requires { offset + 4 * words ≤ 0x200 }
-    ensures { result ≡ each mixedWord (readsFrom e offset words) sum }
+    ensures { result ≡ each mixed_word (reads_from e offset words) sum }
 {
     let mut h = sum;
     let mut at = offset;
@@ -88,7 +88,7 @@ fn mix_reads(e: Engine, sum: u64, offset: u32, words: u32) -> u64
 
 // After what is kept of source and target.
 fn mix_rooms(sum: u64, k: Rooms) -> u64
-    ensures { result ≡ each mixedWord (roomWords k) sum }
+    ensures { result ≡ each mixed_word (room_words k) sum }
 {
     let source = k.source;
     let target = k.target;
@@ -99,7 +99,7 @@ fn mix_rooms(sum: u64, k: Rooms) -> u64
 }
 
 pub fn sum_registers(e: Engine) -> u64
-    ensures { result ≡ registerSum e }
+    ensures { result ≡ register_sum e }
 {
     let registers = mix_reads(e, 2166136261, 0x08, 27);
     let pattern = mix_reads(e, registers, 0x100, 64);
@@ -118,7 +118,7 @@ fn wide(x: u8) -> u32
 }
 
 pub fn sum_memory(mem: &[u8]) -> u64
-    ensures { result ≡ memorySum mem.now }
+    ensures { result ≡ memory_sum mem.now }
 {
     let mut h = 2166136261;
     let mut i = 0;

@@ -8,23 +8,23 @@ use native.Mathlib.Nat.{mod-lt, add-mul, div-add-mod'}
 use native.Mathlib.Omega.{arith}
 use lib.ListN.{get_or}
 use Rattle.surface.specs.declared.Surface.{Surface}
-use Rattle.surface.specs.Place.{rowBytes, byte_at, byte_of}
+use Rattle.surface.specs.Place.{row_bytes, byte_at, byte_of}
 use Rattle.surface.specs.Asked.{OnColour}
 use Rattle.surface.specs.Pixels.{Px, px, Inside}
 use Rattle.spans.proofs.Spans.{IsByte}
 use Rattle.paint.proofs.Owners.{byte-of}
 use Rattle.sweep.specs.declared.Task.{Task}
-use Rattle.sweep.specs.Copy.{sourcePlace}
+use Rattle.sweep.specs.Copy.{source_place}
 use Rattle.sweep.proofs.TaskLaws.{can-pixel}
 use Rattle.runs.specs.Runs.{Given}
 use Rattle.rect.proofs.Order.{shared, touching-read}
 use Rattle.rect.proofs.Plain.{PlainCopy, plainly-plain}
 use Rattle.blocks.specs.declared.Way.{Way}
-use Rattle.blocks.specs.Blocks.{Put, origin, originByte}
+use Rattle.blocks.specs.Blocks.{Put, origin, origin_byte}
 use Rattle.blocks.specs.Asked.{Goes}
 use Rattle.blocks.proofs.Blocks.{way}
 use Rattle.blocks.proofs.Pixels.{pixel-of, put-given, byte-held, bytes-wide}
-use Rattle.rect.specs.Fast.{sourceByte}
+use Rattle.rect.specs.Fast.{source_byte}
 use Rattle.rect.specs.Asked.{Apart}
 
 module _ {t : Task} {w h len : ℕ} (apart : Apart t w h len) where
@@ -64,15 +64,15 @@ module _ {t : Task} {w h len : ℕ} (apart : Apart t w h len) where
       let e : p.x ≡ t.x + d = omega arith in
       omega (arith, ap (λ (n : ℕ). n * b) e, add-mul t.x d b, add-mul t.sx d b)
 
-  origin-byte : (p : Px) (k : ℕ) → t.x ≤ p.x → origin bytewise (px (p.x * b + k) p.y) ≡ byte_of t.from (sourcePlace t p).x (sourcePlace t p).y k
-  unfolding byte_of sourcePlace
+  origin-byte : (p : Px) (k : ℕ) → t.x ≤ p.x → origin bytewise (px (p.x * b + k) p.y) ≡ byte_of t.from (source_place t p).x (source_place t p).y k
+  unfolding byte_of source_place
   origin-byte p k l =
       ap (λ (c : ℕ). byte_at t.from c (t.sy + (p.y - t.y)))
       (column-of p k l ∙ ap (λ (n : ℕ). (t.sx + (p.x - t.x)) * n + k) (sym plain.format))
 
-  pub bytes-given : {m m' : List ℕ} → Put target (originByte bytewise m) (t.x * b) t.y (w * b) h m m' → Given target (sourceByte t m) t.x t.y w h m m'
+  pub bytes-given : {m m' : List ℕ} → Put target (origin_byte bytewise m) (t.x * b) t.y (w * b) h m m' → Given target (source_byte t m) t.x t.y w h m m'
   bytes-given {m} {m'} =
-      put-given target some (sourceByte t m) (originByte bytewise m) t.x t.y w h m m' (λ p k i l. ap (λ (a : ℕ). get_or m a 0) (origin-byte p k i.left))
+      put-given target some (source_byte t m) (origin_byte bytewise m) t.x t.y w h m m' (λ p k i l. ap (λ (a : ℕ). get_or m a 0) (origin-byte p k i.left))
 
   -- ---- the bytes can go
   at_source : (q : Px) → Inside (t.x * b) t.y (w * b) h q → Inside (t.sx * b) t.sy (w * b) h (px (t.sx * b + (q.x - t.x * b)) (t.sy + (q.y - t.y)))
@@ -83,8 +83,8 @@ module _ {t : Task} {w h len : ℕ} (apart : Apart t w h len) where
       subst (λ (n : ℕ). (p : Px) → Inside (t.sx * n) t.sy (w * n) h p → byte_at t.from p.x p.y < len) plain.format
       (byte-held t.from source-some t.sx t.sy w h source-on) _ (at_source q i)
 
-  source-wide : t.sx * b + w * b ≤ rowBytes t.from
-  source-wide = subst (λ (n : ℕ). t.sx * n + w * n ≤ rowBytes t.from) plain.format (bytes-wide t.from source-some t.sx t.sy w h source-on apart.wide apart.high)
+  source-wide : t.sx * b + w * b ≤ row_bytes t.from
+  source-wide = subst (λ (n : ℕ). t.sx * n + w * n ≤ row_bytes t.from) plain.format (bytes-wide t.from source-some t.sx t.sy w h source-on apart.wide apart.high)
 
   -- a byte and the pixel that it is of
   abbrev pixel : Px → Px
@@ -97,11 +97,11 @@ module _ {t : Task} {w h len : ℕ} (apart : Apart t w h len) where
   unfolding byte_of
   target-byte q = subst (λ (r : Px). IsByte target (pixel q) (byte_at target r.x r.y)) (whole q) (byte-of target some (pixel q) (q.x % b) (mod-lt q.x some))
 
-  source_byte : (q : Px) → Inside (t.x * b) t.y (w * b) h q → IsByte t.from (sourcePlace t (pixel q)) (origin bytewise q)
-  source_byte q i =
-      subst (λ (r : Px). IsByte t.from (sourcePlace t (pixel q)) (origin bytewise r)) (whole q)
-      (subst (IsByte t.from (sourcePlace t (pixel q))) (sym (origin-byte (pixel q) (q.x % b) (pixel-of b some t.x t.y w h q i).left))
-      (byte-of t.from source-some (sourcePlace t (pixel q)) (q.x % b) (omega (arith, plain.format, mod-lt q.x some))))
+  source-byte : (q : Px) → Inside (t.x * b) t.y (w * b) h q → IsByte t.from (source_place t (pixel q)) (origin bytewise q)
+  source-byte q i =
+      subst (λ (r : Px). IsByte t.from (source_place t (pixel q)) (origin bytewise r)) (whole q)
+      (subst (IsByte t.from (source_place t (pixel q))) (sym (origin-byte (pixel q) (q.x % b) (pixel-of b some t.x t.y w h q i).left))
+      (byte-of t.from source-some (source_place t (pixel q)) (q.x % b) (omega (arith, plain.format, mod-lt q.x some))))
 
   pub bytes-go : Goes bytewise (w * b) h len
   bytes-go = record {
@@ -110,13 +110,13 @@ module _ {t : Task} {w h len : ℕ} (apart : Apart t w h len) where
     wide = bytes-wide target some t.x t.y w h target-on apart.wide apart.high;
     wide' = source-wide;
     high = omega (arith, apart.can.high);
-    high' = omega (arith, apart.can.sourceHigh);
+    high' = omega (arith, apart.can.source_high);
     to = byte-held target some t.x t.y w h target-on;
     from = source-held;
     apart = λ p q i j e.
         let ip = pixel-of b some t.x t.y w h p i in
         let iq = pixel-of b some t.x t.y w h q j in
         let s = shared t w h len apart.can (λ _. apart.orderly) plain.copies (pixel p) (pixel q) ip iq (byte_at target p.x p.y)
-        (subst (IsByte t.from (sourcePlace t (pixel q))) (sym e) (source_byte q j)) (target-byte p) in
+        (subst (IsByte t.from (source_place t (pixel q))) (sym e) (source-byte q j)) (target-byte p) in
         false≢true (sym apart.none ∙ touching-read t w h (pixel p) (pixel q) s.0 ip iq s.1);
   }

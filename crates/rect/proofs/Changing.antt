@@ -9,7 +9,7 @@ use native.Mathlib.Nat.{add-zero, mod-lt}
 use native.Mathlib.Omega.{arith}
 use lib.ListN.{get_or}
 use Rattle.surface.specs.declared.Surface.{Surface}
-use Rattle.surface.specs.Place.{byte_of, rowPixels}
+use Rattle.surface.specs.Place.{byte_of, row_pixels}
 use Rattle.surface.specs.Pixels.{Px, across, rect}
 use Rattle.surface.proofs.Pixels.{same_byte}
 use Rattle.surface.proofs.Lists.{In}
@@ -44,9 +44,9 @@ module _ (f : Px → ℕ) (x w : ℕ) where
       ⊎_elim (λ r. rw (n, r.0, r.1) (row_below top h)) (λ r. rw (n, r.0, r.1) (row-above y h))
 
 -- ---- the row's pixels were as at the start, and the others stay as they are
-module _ (s : Surface) (flat : s.tiled ≡ false) (colour : 0 < s.bytes) (byte : Px → ℕ → ℕ) (x w : ℕ) (columns : (c : ℕ) → c < w → x + c < rowPixels s) where
-  at-column : (i : ℕ) → x ≤ i → i < x + w → i < rowPixels s
-  at-column i low high = subst (λ (n : ℕ). n < rowPixels s) (omega arith) (columns (i - x) (omega arith))
+module _ (s : Surface) (flat : s.tiled ≡ false) (colour : 0 < s.bytes) (byte : Px → ℕ → ℕ) (x w : ℕ) (columns : (c : ℕ) → c < w → x + c < row_pixels s) where
+  at-column : (i : ℕ) → x ≤ i → i < x + w → i < row_pixels s
+  at-column i low high = subst (λ (n : ℕ). n < row_pixels s) (omega arith) (columns (i - x) (omega arith))
 
   run-changes : (y from : ℕ) (m m₁ : List ℕ) → Shifted (byte_of s x y 0) from 0 (w * s.bytes) m m₁
       → unlikes m m s.bytes (byte_of s x y 0) from w ≡ summed (changing s m m₁) (across false x w y)

@@ -7,16 +7,16 @@ use mathlib.Core.Option.{Option, some}
 use Prim.Native.Nat.{ℕ}
 use borrow.Author.Tests.{eqb-true}
 use lib.Dec.{eqb}
-use Rattle.raster.specs.Rop.{ropBits}
+use Rattle.raster.specs.Rop.{rop_bits}
 use Rattle.raster.proofs.RopLaws.{copies}
-use Rattle.surface.specs.Place.{readPx}
+use Rattle.surface.specs.Place.{read_px}
 use Rattle.surface.specs.Pixels.{Px, rect}
 use Rattle.surface.proofs.OnLaws.{and_left, and_right}
 use Rattle.sweep.specs.declared.Task.{Task}
 use Rattle.paint.specs.Paint.{State, state, paint}
-use Rattle.paint.specs.Mix.{mixed, chosen, fillSource}
-use Rattle.ink.specs.Pattern.{patternColumn, patternRow, patternBit, patternIn, patternValue}
-use Rattle.sweep.specs.Copy.{sourceBy, giving, in_turn}
+use Rattle.paint.specs.Mix.{mixed, chosen, fill_source}
+use Rattle.ink.specs.Pattern.{pattern_column, pattern_row, pattern_bit, pattern_in, pattern_value}
+use Rattle.sweep.specs.Copy.{source_by, giving, in_turn}
 use Rattle.sweep.specs.Asked.{CanPaint}
 use Rattle.sweep.proofs.TaskLaws.{can-pixel}
 use Rattle.runs.specs.Runs.{evenly}
@@ -30,21 +30,21 @@ pub solid-fills : (t : Task) → solid t ≡ true → t.copies ≡ false
 solid-fills t e =
     let a = not t.copies in
     let b = eqb t.ink.rop0 0xcc in
-    let c = not t.ink.dstKey in
+    let c = not t.ink.dst_key in
     not-true t.copies (and_left a b (and_left (a && b) c (and_left ((a && b) && c) (not (t.ink.clear && t.ink.mono)) e)))
 
-pub solid-gives : (t : Task) (pattern m now : List ℕ) (p : Px) → solid t ≡ true → giving t pattern m now p ≡ some (ropBits 32 0xcc 0 t.ink.fore 0)
-unfolding giving sourceBy fillSource mixed chosen patternIn
+pub solid-gives : (t : Task) (pattern m now : List ℕ) (p : Px) → solid t ≡ true → giving t pattern m now p ≡ some (rop_bits 32 0xcc 0 t.ink.fore 0)
+unfolding giving source_by fill_source mixed chosen pattern_in
 solid-gives t pattern m now p e =
     let ink = t.ink in
-    let abc = and_left ((not t.copies && eqb ink.rop0 0xcc) && not ink.dstKey) (not (ink.clear && ink.mono)) e in
-    let ab = and_left (not t.copies && eqb ink.rop0 0xcc) (not ink.dstKey) abc in
+    let abc = and_left ((not t.copies && eqb ink.rop0 0xcc) && not ink.dst_key) (not (ink.clear && ink.mono)) e in
+    let ab = and_left (not t.copies && eqb ink.rop0 0xcc) (not ink.dst_key) abc in
     let code = eqb-true ink.rop0 0xcc (and_right (not t.copies) (eqb ink.rop0 0xcc) ab) in
-    let key = not-true ink.dstKey (and_right (not t.copies && eqb ink.rop0 0xcc) (not ink.dstKey) abc) in
-    let opaque = not-true (ink.clear && ink.mono) (and_right ((not t.copies && eqb ink.rop0 0xcc) && not ink.dstKey) (not (ink.clear && ink.mono)) e) in
-    let bit = eqb (patternBit pattern (patternColumn ink p.x) (patternRow ink p.y)) 0 in
+    let key = not-true ink.dst_key (and_right (not t.copies && eqb ink.rop0 0xcc) (not ink.dst_key) abc) in
+    let opaque = not-true (ink.clear && ink.mono) (and_right ((not t.copies && eqb ink.rop0 0xcc) && not ink.dst_key) (not (ink.clear && ink.mono)) e) in
+    let bit = eqb (pattern_bit pattern (pattern_column ink p.x) (pattern_row ink p.y)) 0 in
     rw (solid-fills t e, key, code, never ink.clear ink.mono bit opaque)
-    (ap {B = Option ℕ} some (copies 32 (patternValue ink pattern p.x p.y) ink.fore (readPx now ink.target p.x p.y) ∙ sym (copies 32 0 ink.fore 0)))
+    (ap {B = Option ℕ} some (copies 32 (pattern_value ink pattern p.x p.y) ink.fore (read_px now ink.target p.x p.y) ∙ sym (copies 32 0 ink.fore 0)))
   where
     never : (clear mono bit : Bool) → (clear && mono) ≡ false → (clear && (mono && bit)) ≡ false
     never true true bit e = absurd (true≢false e)
@@ -53,7 +53,7 @@ solid-gives t pattern m now p e =
 
 -- what a fill gives needs no task, and so no source
 pub fill-alone : (t : Task) (pattern m now : List ℕ) (p : Px) → t.copies ≡ false → giving t pattern m now p ≡ filling t.ink pattern now p
-unfolding giving sourceBy filling
+unfolding giving source_by filling
 fill-alone t pattern m now p e = rw e refl
 
 -- the rectangle is on its surface
@@ -64,7 +64,7 @@ module _ (t : Task) (pattern m : List ℕ) (w h : ℕ) where
   abbrev pixels : List Px
   pixels = rect false false t.x t.y w h
 
-  pub solid-made : {v : ℕ} {st : State} → solid t ≡ true → v ≡ ropBits 32 0xcc 0 t.ink.fore 0 → st ≡ paint t.ink.target (evenly v pixels) (state m 0 0)
+  pub solid-made : {v : ℕ} {st : State} → solid t ≡ true → v ≡ rop_bits 32 0xcc 0 t.ink.fore 0 → st ≡ paint t.ink.target (evenly v pixels) (state m 0 0)
       → st ≡ paint t.ink.target (in_turn t pattern pixels) (state m 0 0)
   solid-made e value made =
       made ∙ ap (λ (v : ℕ). paint t.ink.target (evenly v pixels) (state m 0 0)) value

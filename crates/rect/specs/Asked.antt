@@ -5,7 +5,7 @@ use Rattle.surface.specs.Asked.{Colour}
 use Rattle.sweep.specs.declared.Task.{Task}
 use Rattle.runs.specs.Asked.{PixelsOn, Up, Down}
 use Rattle.sweep.specs.Asked.{CanPaint, Orderly}
-use Rattle.rect.specs.Fast.{plainly, touching, late, toRow, fromRow}
+use Rattle.rect.specs.Fast.{plainly, touching, late, to_row, from_row}
 
 -- both surfaces are in rows
 pub record Flat (t : Task) : Type 0 where
@@ -13,23 +13,23 @@ pub record Flat (t : Task) : Type 0 where
   pub from : t.from.tiled ≡ false
 
 -- row y of a rectangle can be moved as a run of its w pixels
-pub record RowMoves (t : Task) (w y len : ℕ) (toLeft : Bool) : Type 0 where
+pub record RowMoves (t : Task) (w y len : ℕ) (to_left : Bool) : Type 0 where
   pub target : Colour t.ink.target
   pub source : Colour t.from
   pub first : t.y ≤ y
   pub small : t.sy + (y - t.y) < 2 ^ 32
-  pub to : PixelsOn (toRow t y) t.from.bytes w len
-  pub from : PixelsOn (fromRow t y) t.from.bytes w len
-  pub up : toLeft ≡ false → Up (toRow t y) (fromRow t y) (w * t.from.bytes)
-  pub down : toLeft ≡ true → Down (toRow t y) (fromRow t y) (w * t.from.bytes)
+  pub to : PixelsOn (to_row t y) t.from.bytes w len
+  pub from : PixelsOn (from_row t y) t.from.bytes w len
+  pub up : to_left ≡ false → Up (to_row t y) (from_row t y) (w * t.from.bytes)
+  pub down : to_left ≡ true → Down (to_row t y) (from_row t y) (w * t.from.bytes)
 
 -- a rectangle can be moved, from the corner that the two flags name
-pub record Moves (t : Task) (w h len : ℕ) (toLeft toTop : Bool) : Type 0 where
+pub record Moves (t : Task) (w h len : ℕ) (to_left to_top : Bool) : Type 0 where
   pub flat : Flat t
   pub plain : plainly t ≡ true
   pub can : CanPaint t w h len
   pub orderly : Orderly t w h
-  pub early : late toLeft toTop t w h ≡ false
+  pub early : late to_left to_top t w h ≡ false
 
 -- a plain copy shares no pixel with its source, and covers some
 pub record Apart (t : Task) (w h len : ℕ) : Type 0 where
@@ -41,6 +41,6 @@ pub record Apart (t : Task) (w h len : ℕ) : Type 0 where
   pub high : 0 < h
 
 -- a fill goes from the upper left corner, and a copy from the one that the two flags name
-pub record Cornered (t : Task) (w h : ℕ) (toLeft toTop : Bool) : Type 0 where
-  pub fills : t.copies ≡ false → (toLeft ≡ false) × (toTop ≡ false)
+pub record Cornered (t : Task) (w h : ℕ) (to_left to_top : Bool) : Type 0 where
+  pub fills : t.copies ≡ false → (to_left ≡ false) × (to_top ≡ false)
   pub copies : t.copies ≡ true → Orderly t w h

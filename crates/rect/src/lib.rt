@@ -4,7 +4,7 @@ ghost use Rattle.surface.specs.Pixels.{rect};
 ghost use Rattle.paint.specs.Paint.{state, tallied, paint, changing, summed};
 ghost use Rattle.sweep.specs.Copy.{in_turn};
 ghost use Rattle.sweep.specs.Asked.{CanPaint, Orderly};
-ghost use Rattle.rect.specs.Fast.{solid, plainly, straight, straightOf, bitwise, monoOf, sourceByte, behind, overlap, touching, late, toRow, fromRow};
+ghost use Rattle.rect.specs.Fast.{solid, plainly, straight, straight_of, bitwise, mono_of, source_byte, behind, overlap, touching, late, to_row, from_row};
 ghost use Rattle.rect.specs.Asked.{RowMoves, Moves, Apart, Cornered};
 ghost use Rattle.runs.specs.Runs.{unlikes, Shifted, Given};
 
@@ -15,25 +15,25 @@ use straight::Straight;
 use sweep::Task;
 
 // Row y of a plain copy, as a run of its w pixels; how many change.
-fn move_row(mem: &mut [u8], t: Task, w: u32, y: u32, toLeft: bool) -> u32
-    requires { RowMoves t w y (length mem.old) toLeft }
-    ensures { Shifted (toRow t y) (fromRow t y) 0 (w * t.from.bytes) mem.old mem.new × (result ≡ unlikes mem.old mem.old t.from.bytes (toRow t y) (fromRow t y) w) }
+fn move_row(mem: &mut [u8], t: Task, w: u32, y: u32, to_left: bool) -> u32
+    requires { RowMoves t w y (length mem.old) to_left }
+    ensures { Shifted (to_row t y) (from_row t y) 0 (w * t.from.bytes) mem.old mem.new × (result ≡ unlikes mem.old mem.old t.from.bytes (to_row t y) (from_row t y) w) }
 {
     let d = surface::byte_of(t.ink.target, t.x, y, 0);
     let s = surface::byte_of(t.from, t.sx, t.sy + (y - t.y), 0);
-    runs::move_pixels(mem, d, s, t.from.bytes, w, toLeft)
+    runs::move_pixels(mem, d, s, t.from.bytes, w, to_left)
 }
 
 // A plain copy, row by row from the corner that the two flags name; how many pixels change.
-fn move_rows(mem: &mut [u8], t: Task, w: u32, h: u32, toLeft: bool, toTop: bool) -> u32
-    requires { Moves t w h (length mem.old) toLeft toTop }
-    ensures { Given t.ink.target (sourceByte t mem.old) t.x t.y w h mem.old mem.new × (result ≡ summed (changing t.ink.target mem.old mem.new) (rect false false t.x t.y w h)) }
+fn move_rows(mem: &mut [u8], t: Task, w: u32, h: u32, to_left: bool, to_top: bool) -> u32
+    requires { Moves t w h (length mem.old) to_left to_top }
+    ensures { Given t.ink.target (source_byte t mem.old) t.x t.y w h mem.old mem.new × (result ≡ summed (changing t.ink.target mem.old mem.new) (rect false false t.x t.y w h)) }
 {
     let mut r = 0;
     let mut j = 0;
     while j < h {
-        let y = paint::place(toTop, t.y, h, j);
-        r += move_row(mem, t, w, y, toLeft);
+        let y = paint::place(to_top, t.y, h, j);
+        r += move_row(mem, t, w, y, to_left);
         j += 1;
     }
     r
@@ -45,8 +45,8 @@ fn is_plain(t: Task) -> bool
 {
     t.copies
         & (t.ink.rop0 == 0xcc)
-        & !t.ink.srcKey
-        & !t.ink.dstKey
+        & !t.ink.src_key
+        & !t.ink.dst_key
         & (t.from.bytes == t.ink.target.bytes)
 }
 
@@ -54,7 +54,7 @@ fn is_plain(t: Task) -> bool
 fn is_solid(t: Task) -> bool
     ensures { result ≡ solid t }
 {
-    !t.copies & (t.ink.rop0 == 0xcc) & !t.ink.dstKey & !(t.ink.clear & t.ink.mono)
+    !t.copies & (t.ink.rop0 == 0xcc) & !t.ink.dst_key & !(t.ink.clear & t.ink.mono)
 }
 
 // Whether a source place comes before the target's, going up, or after it, going down.
@@ -84,11 +84,11 @@ fn is_touching(t: Task, w: u32, h: u32) -> bool
 }
 
 // Whether, from the corner that the two flags name, it reads a pixel after it was overwritten.
-fn is_late(t: Task, w: u32, h: u32, toLeft: bool, toTop: bool) -> bool
-    ensures { result ≡ late toLeft toTop t w h }
+fn is_late(t: Task, w: u32, h: u32, to_left: bool, to_top: bool) -> bool
+    ensures { result ≡ late to_left to_top t w h }
 {
     is_touching(t, w, h)
-        & (is_behind(toTop, t.sy, t.y) | ((t.sy == t.y) & is_behind(toLeft, t.sx, t.x)))
+        & (is_behind(to_top, t.sy, t.y) | ((t.sy == t.y) & is_behind(to_left, t.sx, t.x)))
 }
 
 // Whether a mono copy gives each pixel the colour of its bit.
@@ -99,7 +99,7 @@ fn is_bitwise(t: Task) -> bool
 }
 
 fn mono_of(t: Task) -> Mono
-    ensures { (result ≡ monoOf t) × ((t.ink.fore < 2 ^ 32) × (t.ink.back < 2 ^ 32)) }
+    ensures { (result ≡ mono_of t) × ((t.ink.fore < 2 ^ 32) × (t.ink.back < 2 ^ 32)) }
 {
     let ink = t.ink;
     let target = ink.target;
@@ -126,11 +126,11 @@ pub fn is_straight(t: Task) -> bool
     t.copies
         & !(t.from.bytes == 0)
         & paint::is_direct(t.ink)
-        & (!t.ink.srcKey | (t.ink.rop2 == 0xaa))
+        & (!t.ink.src_key | (t.ink.rop2 == 0xaa))
 }
 
 pub fn straight_of(t: Task) -> Straight
-    ensures { result ≡ straightOf t }
+    ensures { result ≡ straight_of t }
 {
     let ink = t.ink;
     let target = ink.target;
@@ -138,9 +138,9 @@ pub fn straight_of(t: Task) -> Straight
     Straight {
         target: target,
         from: from,
-        key: ink.srcKey,
-        least: ink.srcMin,
-        most: ink.srcMax,
+        key: ink.src_key,
+        least: ink.src_min,
+        most: ink.src_max,
         x: t.x,
         y: t.y,
         sx: t.sx,
@@ -151,7 +151,7 @@ pub fn straight_of(t: Task) -> Straight
 // A plain copy that shares no pixel with its source; how many change.
 fn move_apart(mem: &mut [u8], t: Task, w: u32, h: u32) -> u32
     requires { Apart t w h (length mem.old) }
-    ensures { Given t.ink.target (sourceByte t mem.old) t.x t.y w h mem.old mem.new × (result ≡ summed (changing t.ink.target mem.old mem.new) (rect false false t.x t.y w h)) }
+    ensures { Given t.ink.target (source_byte t mem.old) t.x t.y w h mem.old mem.new × (result ≡ summed (changing t.ink.target mem.old mem.new) (rect false false t.x t.y w h)) }
 {
     let to = t.ink.target;
     let from = t.from;
@@ -176,11 +176,11 @@ fn on_tiles(
     pattern: [u8; 256],
     w: u32,
     h: u32,
-    toLeft: bool,
-    toTop: bool,
+    to_left: bool,
+    to_top: bool,
 ) -> Tally
-    requires { CanPaint t w h (length mem.old) × Cornered t w h toLeft toTop }
-    ensures { tallied mem.new result ≡ paint t.ink.target (in_turn t pattern (rect toLeft toTop t.x t.y w h)) (state mem.old 0 0) }
+    requires { CanPaint t w h (length mem.old) × Cornered t w h to_left to_top }
+    ensures { tallied mem.new result ≡ paint t.ink.target (in_turn t pattern (rect to_left to_top t.x t.y w h)) (state mem.old 0 0) }
 {
     if (0 < w) & (0 < h) {
         if is_plain(t) & !is_touching(t, w, h) {
@@ -195,11 +195,11 @@ fn on_tiles(
             let v = raster::raster(0xcc, 0, t.ink.fore, 0);
             return blocks::solid_blocks(mem, t.ink.target, v, t.x, t.y, w, h);
         }
-        if !t.copies & !t.ink.dstKey {
+        if !t.copies & !t.ink.dst_key {
             return wash::wash_rows(mem, t.ink, pattern, t.x, t.y, w, h);
         }
     }
-    patch::paint_rows(mem, t, pattern, w, h, toLeft, toTop)
+    patch::paint_rows(mem, t, pattern, w, h, to_left, to_top)
 }
 
 // A rectangle filled; the tally of the pixels written.
@@ -214,7 +214,7 @@ pub fn fill_rect(mem: &mut [u8], t: Task, pattern: [u8; 256], w: u32, h: u32) ->
         let v = raster::raster(0xcc, 0, t.ink.fore, 0);
         return runs::solid_rows(mem, t.ink.target, v, t.x, t.y, w, h);
     }
-    if !t.ink.dstKey {
+    if !t.ink.dst_key {
         return wash::wash_rows(mem, t.ink, pattern, t.x, t.y, w, h);
     }
     sweep::paint_rows(mem, t, pattern, w, h, false, false)
@@ -227,20 +227,20 @@ pub fn copy_rect(
     pattern: [u8; 256],
     w: u32,
     h: u32,
-    toLeft: bool,
-    toTop: bool,
+    to_left: bool,
+    to_top: bool,
 ) -> Tally
     requires { CanPaint t w h (length mem.old) × ((t.copies ≡ true) × Orderly t w h) }
-    ensures { tallied mem.new result ≡ paint t.ink.target (in_turn t pattern (rect toLeft toTop t.x t.y w h)) (state mem.old 0 0) }
+    ensures { tallied mem.new result ≡ paint t.ink.target (in_turn t pattern (rect to_left to_top t.x t.y w h)) (state mem.old 0 0) }
 {
     if t.ink.target.tiled | t.from.tiled {
-        return on_tiles(mem, t, pattern, w, h, toLeft, toTop);
+        return on_tiles(mem, t, pattern, w, h, to_left, to_top);
     }
     if is_bitwise(t) {
         return bits::mono_rows(mem, mono_of(t), w, h);
     }
-    if is_plain(t) & !is_late(t, w, h, toLeft, toTop) {
-        let changed = move_rows(mem, t, w, h, toLeft, toTop);
+    if is_plain(t) & !is_late(t, w, h, to_left, to_top) {
+        let changed = move_rows(mem, t, w, h, to_left, to_top);
         let count = w * h;
         return Tally {
             count: count,
@@ -248,7 +248,7 @@ pub fn copy_rect(
         };
     }
     if is_straight(t) {
-        return straight::straight_rows(mem, straight_of(t), w, h, toLeft, toTop);
+        return straight::straight_rows(mem, straight_of(t), w, h, to_left, to_top);
     }
-    sweep::paint_rows(mem, t, pattern, w, h, toLeft, toTop)
+    sweep::paint_rows(mem, t, pattern, w, h, to_left, to_top)
 }

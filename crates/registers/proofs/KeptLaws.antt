@@ -5,7 +5,7 @@ use native.Mathlib.Omega.{arith}
 use mathlib.Core.Bool.{Bool, true, false, cond}
 use mathlib.Core.Path.{◌≡◌, refl}
 use lib.Dec.{eqb}
-use Rattle.registers.specs.Kept.{isClip, isBase, isPair, is_key, low, halves, address, kept}
+use Rattle.registers.specs.Kept.{is_clip, is_base, is_pair, is_key, low, halves, address, kept}
 
 -- what holds of every way to keep bits holds at each offset
 module _ (P : (ℕ → ℕ) → Type 0) where
@@ -16,7 +16,7 @@ module _ (P : (ℕ → ℕ) → Type 0) where
   pub at_offset : P (halves 12 12) → P address → P (halves 14 3) → P (halves 14 8) → P (halves 13 13) → P (low 24) → P (low 4) → P (λ d. d) → (o : ℕ) → P (kept o)
   unfolding kept
   at_offset p q r s t u v w o =
-      either (isClip o) p (either (isBase o) q (either (eqb o 0x14) r (either (eqb o 0x54) s (either (isPair o) t (either (is_key o) u (either (eqb o 0x38) v w))))))
+      either (is_clip o) p (either (is_base o) q (either (eqb o 0x14) r (either (eqb o 0x54) s (either (is_pair o) t (either (is_key o) u (either (eqb o 0x38) v w))))))
 
 pub kept-once : (o d : ℕ) → kept o (kept o d) ≡ kept o d
 kept-once =

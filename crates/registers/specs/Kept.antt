@@ -8,14 +8,14 @@ one_of o [] = false
 one_of o (a ∷ l) = cond (eqb o a) true (one_of o l)
 
 -- the clips; the bases; lineStyle, the XY registers and the sizes; the keys and rop
-abbrev pub isClip : ℕ → Bool
-isClip o = one_of o (0x08 ∷ 0x0c ∷ 0x4c ∷ 0x50 ∷ [])
+abbrev pub is_clip : ℕ → Bool
+is_clip o = one_of o (0x08 ∷ 0x0c ∷ 0x4c ∷ 0x50 ∷ [])
 
-abbrev pub isBase : ℕ → Bool
-isBase o = one_of o (0x10 ∷ 0x34 ∷ [])
+abbrev pub is_base : ℕ → Bool
+is_base o = one_of o (0x10 ∷ 0x34 ∷ [])
 
-abbrev pub isPair : ℕ → Bool
-isPair o = one_of o (0x40 ∷ 0x58 ∷ 0x5c ∷ 0x68 ∷ 0x6c ∷ [])
+abbrev pub is_pair : ℕ → Bool
+is_pair o = one_of o (0x40 ∷ 0x58 ∷ 0x5c ∷ 0x68 ∷ 0x6c ∷ [])
 
 abbrev pub is_key : ℕ → Bool
 is_key o = one_of o (0x18 ∷ 0x1c ∷ 0x20 ∷ 0x24 ∷ 0x30 ∷ [])
@@ -36,11 +36,11 @@ address d = d % 2 ^ 24 + d / 2 ^ 31 % 2 * 2 ^ 31
 -- sizes 12:0 and 28:16; keys and rop 23:0; commandExtra 3:0; the rest 31:0
 unfoldable pub kept : ℕ → ℕ → ℕ
 kept o =
-    cond (isClip o) (halves 12 12) (
-    cond (isBase o) address (
+    cond (is_clip o) (halves 12 12) (
+    cond (is_base o) address (
     cond (eqb o 0x14) (halves 14 3) (
     cond (eqb o 0x54) (halves 14 8) (
-    cond (isPair o) (halves 13 13) (
+    cond (is_pair o) (halves 13 13) (
     cond (is_key o) (low 24) (
     cond (eqb o 0x38) (low 4)
     (λ d. d)))))))

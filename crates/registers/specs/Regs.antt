@@ -4,91 +4,91 @@ use Rattle.std.specs.Prelude.{ℕ, cond, eqb}
 use Rattle.registers.specs.declared.Regs.{Regs}
 
 -- all registers 0
-abbrev pub noRegs : Regs
-noRegs = record {
-  clip0Min = 0;
-  clip0Max = 0;
-  dstBaseAddr = 0;
-  dstFormat = 0;
-  srcColorkeyMin = 0;
-  srcColorkeyMax = 0;
-  dstColorkeyMin = 0;
-  dstColorkeyMax = 0;
-  bresError0 = 0;
-  bresError1 = 0;
+abbrev pub no_regs : Regs
+no_regs = record {
+  clip0_min = 0;
+  clip0_max = 0;
+  dst_base_addr = 0;
+  dst_format = 0;
+  src_colorkey_min = 0;
+  src_colorkey_max = 0;
+  dst_colorkey_min = 0;
+  dst_colorkey_max = 0;
+  bres_error0 = 0;
+  bres_error1 = 0;
   rop = 0;
-  srcBaseAddr = 0;
-  commandExtra = 0;
-  lineStipple = 0;
-  lineStyle = 0;
-  clip1Min = 0;
-  clip1Max = 0;
-  srcFormat = 0;
-  srcSize = 0;
-  srcXY = 0;
-  colorBack = 0;
-  colorFore = 0;
-  dstSize = 0;
-  dstXY = 0;
+  src_base_addr = 0;
+  command_extra = 0;
+  line_stipple = 0;
+  line_style = 0;
+  clip1_min = 0;
+  clip1_max = 0;
+  src_format = 0;
+  src_size = 0;
+  src_xy = 0;
+  color_back = 0;
+  color_fore = 0;
+  dst_size = 0;
+  dst_xy = 0;
   command = 0;
 }
 
 -- the registers after v is put at an offset; the same ones where the offset names none
-unfoldable pub putReg : ℕ → ℕ → Regs → Regs
-putReg o v r = record {
-  clip0Min = cond (eqb o 0x08) v r.clip0Min;
-  clip0Max = cond (eqb o 0x0c) v r.clip0Max;
-  dstBaseAddr = cond (eqb o 0x10) v r.dstBaseAddr;
-  dstFormat = cond (eqb o 0x14) v r.dstFormat;
-  srcColorkeyMin = cond (eqb o 0x18) v r.srcColorkeyMin;
-  srcColorkeyMax = cond (eqb o 0x1c) v r.srcColorkeyMax;
-  dstColorkeyMin = cond (eqb o 0x20) v r.dstColorkeyMin;
-  dstColorkeyMax = cond (eqb o 0x24) v r.dstColorkeyMax;
-  bresError0 = cond (eqb o 0x28) v r.bresError0;
-  bresError1 = cond (eqb o 0x2c) v r.bresError1;
+unfoldable pub put_reg : ℕ → ℕ → Regs → Regs
+put_reg o v r = record {
+  clip0_min = cond (eqb o 0x08) v r.clip0_min;
+  clip0_max = cond (eqb o 0x0c) v r.clip0_max;
+  dst_base_addr = cond (eqb o 0x10) v r.dst_base_addr;
+  dst_format = cond (eqb o 0x14) v r.dst_format;
+  src_colorkey_min = cond (eqb o 0x18) v r.src_colorkey_min;
+  src_colorkey_max = cond (eqb o 0x1c) v r.src_colorkey_max;
+  dst_colorkey_min = cond (eqb o 0x20) v r.dst_colorkey_min;
+  dst_colorkey_max = cond (eqb o 0x24) v r.dst_colorkey_max;
+  bres_error0 = cond (eqb o 0x28) v r.bres_error0;
+  bres_error1 = cond (eqb o 0x2c) v r.bres_error1;
   rop = cond (eqb o 0x30) v r.rop;
-  srcBaseAddr = cond (eqb o 0x34) v r.srcBaseAddr;
-  commandExtra = cond (eqb o 0x38) v r.commandExtra;
-  lineStipple = cond (eqb o 0x3c) v r.lineStipple;
-  lineStyle = cond (eqb o 0x40) v r.lineStyle;
-  clip1Min = cond (eqb o 0x4c) v r.clip1Min;
-  clip1Max = cond (eqb o 0x50) v r.clip1Max;
-  srcFormat = cond (eqb o 0x54) v r.srcFormat;
-  srcSize = cond (eqb o 0x58) v r.srcSize;
-  srcXY = cond (eqb o 0x5c) v r.srcXY;
-  colorBack = cond (eqb o 0x60) v r.colorBack;
-  colorFore = cond (eqb o 0x64) v r.colorFore;
-  dstSize = cond (eqb o 0x68) v r.dstSize;
-  dstXY = cond (eqb o 0x6c) v r.dstXY;
+  src_base_addr = cond (eqb o 0x34) v r.src_base_addr;
+  command_extra = cond (eqb o 0x38) v r.command_extra;
+  line_stipple = cond (eqb o 0x3c) v r.line_stipple;
+  line_style = cond (eqb o 0x40) v r.line_style;
+  clip1_min = cond (eqb o 0x4c) v r.clip1_min;
+  clip1_max = cond (eqb o 0x50) v r.clip1_max;
+  src_format = cond (eqb o 0x54) v r.src_format;
+  src_size = cond (eqb o 0x58) v r.src_size;
+  src_xy = cond (eqb o 0x5c) v r.src_xy;
+  color_back = cond (eqb o 0x60) v r.color_back;
+  color_fore = cond (eqb o 0x64) v r.color_fore;
+  dst_size = cond (eqb o 0x68) v r.dst_size;
+  dst_xy = cond (eqb o 0x6c) v r.dst_xy;
   command = cond (eqb o 0x70) v r.command;
 }
 
 -- the register at an offset, 0 where there is none
-unfoldable pub getReg : ℕ → Regs → ℕ
-getReg o r =
-    cond (eqb o 0x08) r.clip0Min (
-    cond (eqb o 0x0c) r.clip0Max (
-    cond (eqb o 0x10) r.dstBaseAddr (
-    cond (eqb o 0x14) r.dstFormat (
-    cond (eqb o 0x18) r.srcColorkeyMin (
-    cond (eqb o 0x1c) r.srcColorkeyMax (
-    cond (eqb o 0x20) r.dstColorkeyMin (
-    cond (eqb o 0x24) r.dstColorkeyMax (
-    cond (eqb o 0x28) r.bresError0 (
-    cond (eqb o 0x2c) r.bresError1 (
+unfoldable pub get_reg : ℕ → Regs → ℕ
+get_reg o r =
+    cond (eqb o 0x08) r.clip0_min (
+    cond (eqb o 0x0c) r.clip0_max (
+    cond (eqb o 0x10) r.dst_base_addr (
+    cond (eqb o 0x14) r.dst_format (
+    cond (eqb o 0x18) r.src_colorkey_min (
+    cond (eqb o 0x1c) r.src_colorkey_max (
+    cond (eqb o 0x20) r.dst_colorkey_min (
+    cond (eqb o 0x24) r.dst_colorkey_max (
+    cond (eqb o 0x28) r.bres_error0 (
+    cond (eqb o 0x2c) r.bres_error1 (
     cond (eqb o 0x30) r.rop (
-    cond (eqb o 0x34) r.srcBaseAddr (
-    cond (eqb o 0x38) r.commandExtra (
-    cond (eqb o 0x3c) r.lineStipple (
-    cond (eqb o 0x40) r.lineStyle (
-    cond (eqb o 0x4c) r.clip1Min (
-    cond (eqb o 0x50) r.clip1Max (
-    cond (eqb o 0x54) r.srcFormat (
-    cond (eqb o 0x58) r.srcSize (
-    cond (eqb o 0x5c) r.srcXY (
-    cond (eqb o 0x60) r.colorBack (
-    cond (eqb o 0x64) r.colorFore (
-    cond (eqb o 0x68) r.dstSize (
-    cond (eqb o 0x6c) r.dstXY (
+    cond (eqb o 0x34) r.src_base_addr (
+    cond (eqb o 0x38) r.command_extra (
+    cond (eqb o 0x3c) r.line_stipple (
+    cond (eqb o 0x40) r.line_style (
+    cond (eqb o 0x4c) r.clip1_min (
+    cond (eqb o 0x50) r.clip1_max (
+    cond (eqb o 0x54) r.src_format (
+    cond (eqb o 0x58) r.src_size (
+    cond (eqb o 0x5c) r.src_xy (
+    cond (eqb o 0x60) r.color_back (
+    cond (eqb o 0x64) r.color_fore (
+    cond (eqb o 0x68) r.dst_size (
+    cond (eqb o 0x6c) r.dst_xy (
     cond (eqb o 0x70) r.command (
     0)))))))))))))))))))))))))

@@ -11,7 +11,7 @@ use lib.ListN.{get_or}
 use borrow.Author.Tests.{lt-ltb}
 use Rattle.surface.specs.declared.Surface.{Surface}
 use Rattle.spans.specs.declared.Span.{Span}
-use Rattle.surface.specs.Place.{byte_of, rowPixels}
+use Rattle.surface.specs.Place.{byte_of, row_pixels}
 use Rattle.surface.specs.Pixels.{Px, px, rect, origin}
 use Rattle.spans.specs.Span.{span_of, meet}
 use Rattle.surface.proofs.Lists.{In}
@@ -20,13 +20,13 @@ use Rattle.spans.proofs.Corner.{all-each}
 use Rattle.surface.proofs.OnLaws.{on-column}
 use Rattle.spans.proofs.Spans.{IsByte, span-holds}
 use Rattle.paint.proofs.Owners.{byte-of, of-byte, one-owner, owner}
-use Rattle.table.specs.Table.{allOnAt, pixels}
+use Rattle.table.specs.Table.{all_on_at, pixels}
 use Rattle.restore.specs.Rectangles.{Rectangle, positions, Apart}
 use Rattle.restore.proofs.Areas.{Of, Elsewhere, not_negative, pixels-rect, all-on}
 use Rattle.restore.proofs.Copies.{Came}
 
 -- ---- a pixel of a rectangle that is on its surface
-module _ (t : Rectangle) (len : ℕ) (on : allOnAt t.surface len (positions t) ≡ true) where
+module _ (t : Rectangle) (len : ℕ) (on : all_on_at t.surface len (positions t) ≡ true) where
   abbrev area : List Px
   area = rect false false (t.x - origin) (t.y - origin) t.w t.h
 
@@ -41,7 +41,7 @@ module _ (t : Rectangle) (len : ℕ) (on : allOnAt t.surface len (positions t) �
       let n = not_negative t len on (omega arith) (omega arith) in
       omega arith
 
-  pub of-column : (p : Px) → Of t p → p.x < rowPixels t.surface
+  pub of-column : (p : Px) → Of t p → p.x < row_pixels t.surface
   of-column p i = on-column t.surface len p.x p.y (all-each t.surface len area (all-on t len on) p (of-in p i))
 
   pub of-span : (p : Px) (a : ℕ) → Of t p → IsByte t.surface p a
@@ -66,12 +66,12 @@ apart-swap s t apart =
     (λ k. let S = span_of s.surface (pixels (positions s)) in let T = span_of t.surface (pixels (positions t)) in
     inr (and-swap (ltb T.low S.past) (ltb S.low T.past) ∙ k)) apart
 
-pub no_byte : (s t : Rectangle) (len : ℕ) → allOnAt s.surface len (positions s) ≡ true → allOnAt t.surface len (positions t) ≡ true
+pub no_byte : (s t : Rectangle) (len : ℕ) → all_on_at s.surface len (positions s) ≡ true → all_on_at t.surface len (positions t) ≡ true
     → 0 < s.surface.bytes → Apart s t → (p q : Px) (a : ℕ) → Of s p → Of t q → IsByte s.surface p a → IsByte t.surface q a → ⊥
 no_byte s t len ons ont colour apart p q a i j b c =
     ⊎_elim
     (λ k.
-    let column = subst (λ (u : Surface). q.x < rowPixels u) (sym k.0) (of-column t len ont q j) in
+    let column = subst (λ (u : Surface). q.x < row_pixels u) (sym k.0) (of-column t len ont q j) in
     let e = one-owner s.surface colour p q a (of-column s len ons p i) column b (subst (λ (u : Surface). IsByte u q a) (sym k.0) c) in
     let x : q.x ≡ p.x = ap (λ (u : Px). u.x) (sym e) in
     let y : q.y ≡ p.y = ap (λ (u : Px). u.y) (sym e) in
@@ -83,7 +83,7 @@ no_byte s t len ons ont colour apart p q a i j b c =
     apart
 
 -- ---- there and back
-module _ (home aside : Rectangle) (len : ℕ) (on : allOnAt home.surface len (positions home) ≡ true) (on' : allOnAt aside.surface len (positions aside) ≡ true)
+module _ (home aside : Rectangle) (len : ℕ) (on : all_on_at home.surface len (positions home) ≡ true) (on' : all_on_at aside.surface len (positions aside) ≡ true)
     (colour : 0 < home.surface.bytes) (format : home.surface.bytes ≡ aside.surface.bytes) (wide : home.w ≡ aside.w) (high : home.h ≡ aside.h)
     (apart : Apart home aside) where
   pub comes_back : (m m₁ m₂ m₃ : List ℕ) → Came home aside m m₁ → Elsewhere home m₁ m₂ → Came aside home m₂ m₃

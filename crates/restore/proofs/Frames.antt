@@ -25,7 +25,7 @@ use Rattle.acts.proofs.Cases.{by-test}
 use Rattle.engine.proofs.Orders.{launch-host, the_same, nothing-ordered}
 use Rattle.engine.proofs.Commands.{covered_none}
 use Rattle.engine.proofs.Undone.{refused-undone}
-use Rattle.engine.proofs.Frame.{covered-inside, write-left, write_bytes}
+use Rattle.engine.proofs.Frame.{covered-inside, write-left, write-bytes}
 use Rattle.restore.specs.Rectangles.{Rectangle}
 use Rattle.restore.specs.Restore.{Framed, AllFramed}
 use Rattle.restore.proofs.Areas.{Elsewhere, elsewhere-refl, elsewhere-trans}
@@ -74,6 +74,6 @@ writes_kept {t} e m (w ∷ ws) held framed =
     let more = writes_kept (by e m w).engine (by e m w).memory ws next.held framed.1 in
     record {
       elsewhere = elsewhere-trans (write-elsewhere e m w held framed.0) more.elsewhere;
-      bytes = λ b. more.bytes (write_bytes e m w.offset w.word b);
+      bytes = λ b. more.bytes (write-bytes e m w.offset w.word b);
       opened = more.opened ∙ next.opened;
     }

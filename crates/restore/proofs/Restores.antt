@@ -9,12 +9,12 @@ use Rattle.surface.proofs.OnLaws.{and_left}
 use Rattle.formats.proofs.FormatLaws.{target-colour}
 use Rattle.registers.specs.declared.Regs.{Regs}
 use Rattle.command.specs.Decode.{origins}
-use Rattle.table.specs.Table.{targetFine}
+use Rattle.table.specs.Table.{target_fine}
 use Rattle.engine.specs.declared.Engine.{Engine}
 use Rattle.engine.specs.Step.{Step}
 use Rattle.engine.specs.Writes.{Write, Run, by, played}
 use Rattle.engine.proofs.Played.{played-last}
-use Rattle.restore.specs.Rectangles.{Rectangle, sourceRect, targetRect, Apart}
+use Rattle.restore.specs.Rectangles.{Rectangle, source_rect, target_rect, Apart}
 use Rattle.restore.specs.Restore.{Plain, Saves, Restored, Demand}
 use Rattle.restore.proofs.Areas.{outside}
 use Rattle.restore.proofs.Waits.{not-waiting}
@@ -25,10 +25,10 @@ use Rattle.restore.proofs.CopyWrites.{Made, write-made}
 
 module _ {e : Engine} {m : List ℕ} {first : Write} {middle : List Write} {last : Write} {aside back : Regs} (s : Saves e m first middle last aside back) where
   abbrev home : Rectangle
-  home = sourceRect aside
+  home = source_rect aside
 
   abbrev away : Rectangle
-  away = targetRect aside
+  away = target_rect aside
 
   abbrev one : Step
   one = by e m first
@@ -54,16 +54,16 @@ module _ {e : Engine} {m : List ℕ} {first : Write} {middle : List Write} {last
       write-made two.engine two.memory last back (subst⁻¹ (λ (n : ℕ). n ≤ 2 ^ 24) same_length s.limit)
       (same_length ∙ s.opened ∙ sym (between.opened ∙ went.opened)) (between.bytes went.bytes) s.returns
       (subst⁻¹ (λ (n : ℕ). Plain n back) same_length s.again)
-      (subst⁻¹ (λ (t : Rectangle). Apart t (sourceRect back)) s.to (subst⁻¹ (Apart home) s.from s.apart))
+      (subst⁻¹ (λ (t : Rectangle). Apart t (source_rect back)) s.to (subst⁻¹ (Apart home) s.from s.apart))
 
   returned : Came away home two.memory three.memory
   returned =
       subst (λ (t : Rectangle). Came away t two.memory three.memory) s.to
-      (subst (λ (t : Rectangle). Came t (targetRect back) two.memory three.memory) s.from came-back.came)
+      (subst (λ (t : Rectangle). Came t (target_rect back) two.memory three.memory) s.from came-back.came)
 
   some_bytes : 0 < (origins aside).bytes
   some_bytes =
-      let colour = target-colour aside.dstBaseAddr aside.dstFormat (and_left (targetFine aside) _ s.plain.fine) in
+      let colour = target-colour aside.dst_base_addr aside.dst_format (and_left (target_fine aside) _ s.plain.fine) in
       omega (arith, colour.some, s.plain.format)
 
   there_and_back : Restored m aside two.answers (played e m (first ∷ middle ++ (last ∷ [])))
@@ -74,12 +74,12 @@ module _ {e : Engine} {m : List ℕ} {first : Write} {middle : List Write} {last
         first = one.answer;
         last = three.answer;
         answers = refl;
-        firstNumber = went.number;
-        firstCount = went.count;
-        lastNumber = came-back.number;
-        lastCount = came-back.count ∙ ap (λ (t : Rectangle). t.h * t.w) s.from;
+        first_number = went.number;
+        first_count = went.count;
+        last_number = came-back.number;
+        last_count = came-back.count ∙ ap (λ (t : Rectangle). t.h * t.w) s.from;
         long = returned.long ∙ same_length;
-        kept = λ a out. comes_back home away (length m) s.plain.sourceOn s.plain.targetOn some_bytes s.plain.format refl refl s.apart
+        kept = λ a out. comes_back home away (length m) s.plain.source_on s.plain.target_on some_bytes s.plain.format refl refl s.apart
             m one.memory two.memory three.memory went.came between.elsewhere returned a (outside away a out);
       })
 

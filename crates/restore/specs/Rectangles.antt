@@ -18,11 +18,11 @@ pub record Rectangle : Type 0 where
   pub h : ℕ
 
 -- the source's and the target's of a copy whose direction bits are clear
-abbrev pub sourceRect : Regs → Rectangle
-sourceRect r = record { surface = origins r; x = placed r.srcXY; y = placed (r.srcXY / 2 ^ 16); w = width r; h = height r }
+abbrev pub source_rect : Regs → Rectangle
+source_rect r = record { surface = origins r; x = placed r.src_xy; y = placed (r.src_xy / 2 ^ 16); w = width r; h = height r }
 
-abbrev pub targetRect : Regs → Rectangle
-targetRect r = record { surface = target r; x = placed r.dstXY; y = placed (r.dstXY / 2 ^ 16); w = width r; h = height r }
+abbrev pub target_rect : Regs → Rectangle
+target_rect r = record { surface = target r; x = placed r.dst_xy; y = placed (r.dst_xy / 2 ^ 16); w = width r; h = height r }
 
 abbrev pub positions : Rectangle → List Px
 positions t = rect false false t.x t.y t.w t.h
@@ -31,8 +31,8 @@ abbrev pub Has : Rectangle → ℕ → ℕ → Type 0
 Has t x y = Inside t.x t.y t.w t.h (px x y)
 
 -- the addresses of its pixels' bytes
-abbrev pub addressesIn : Rectangle → List ℕ
-addressesIn t = addresses t.surface (pixels (positions t))
+abbrev pub addresses_in : Rectangle → List ℕ
+addresses_in t = addresses t.surface (pixels (positions t))
 
 -- on the same surface, with no pixel in both; or with spans that do not meet
 abbrev pub Apart : Rectangle → Rectangle → Type 0

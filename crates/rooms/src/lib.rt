@@ -1,11 +1,11 @@
 // What is kept of source and target beside the registers: how many pixels a row has, and for how many whole rows memory has room. They are worked out when a
 // register of theirs is written, and shorten the test whether pixels are on a surface; what it says does not hang on them.
 ghost use Rattle.std.specs.Prelude.{◌≡◌, true, false, ◌+◌, ◌-◌, ◌^◌, ◌<◌, ◌≤◌, leb};
-ghost use Rattle.surface.specs.Place.{rowPixels};
+ghost use Rattle.surface.specs.Place.{row_pixels};
 ghost use Rattle.surface.specs.Asked.{Small};
 ghost use Rattle.surface.specs.Pixels.{rect};
-ghost use Rattle.spans.specs.Span.{allOn};
-ghost use Rattle.rooms.specs.Room.{noRoom, noRooms, wholeRows, roomOf, targetRoom, sourceRoom, after, told, depth};
+ghost use Rattle.spans.specs.Span.{all_on};
+ghost use Rattle.rooms.specs.Room.{no_room, no_rooms, whole_rows, room_of, target_room, source_room, after, told, depth};
 
 use registers::Regs;
 use surface::Surface;
@@ -25,13 +25,13 @@ pub struct Rooms {
 }
 
 pub fn no_room() -> Room
-    ensures { result ≡ noRoom }
+    ensures { result ≡ no_room }
 {
     Room { pixels: 0, rows: 0 }
 }
 
 pub fn no_rooms() -> Rooms
-    ensures { result ≡ noRooms }
+    ensures { result ≡ no_rooms }
 {
     Rooms {
         source: no_room(),
@@ -42,7 +42,7 @@ pub fn no_rooms() -> Rooms
 // The whole rows in a memory of len bytes.
 fn whole_rows(len: u32, s: Surface) -> u32
     requires { Small s × (0 < s.stride) × (len ≤ 2 ^ 24) }
-    ensures { result ≡ wholeRows len s }
+    ensures { result ≡ whole_rows len s }
 {
     if len <= s.base {
         return 0;
@@ -57,7 +57,7 @@ fn whole_rows(len: u32, s: Surface) -> u32
 // The room that a surface has, worked out.
 fn work(len: u32, s: Surface) -> Room
     requires { Small s × (len ≤ 2 ^ 24) }
-    ensures { result ≡ roomOf len s }
+    ensures { result ≡ room_of len s }
 {
     if s.stride == 0 {
         return no_room();
@@ -71,7 +71,7 @@ fn work(len: u32, s: Surface) -> Room
 // By a target's words.
 pub fn target_room(len: u32, base: u32, format: u32) -> Room
     requires { len ≤ 2 ^ 24 }
-    ensures { result ≡ targetRoom len base format }
+    ensures { result ≡ target_room len base format }
 {
     if formats::names_target(format) {
         return work(len, formats::target_of(base, format));
@@ -82,7 +82,7 @@ pub fn target_room(len: u32, base: u32, format: u32) -> Room
 // By a source's, its packing left out.
 pub fn source_room(len: u32, base: u32, format: u32) -> Room
     requires { len ≤ 2 ^ 24 }
-    ensures { result ≡ sourceRoom len base format }
+    ensures { result ≡ source_room len base format }
 {
     let open = format % 0x40_0000;
     if formats::names_source(base, open) {
@@ -101,10 +101,10 @@ pub fn follow(len: u32, offset: u32, r: Regs, k: Rooms) -> Rooms
     match offset {
         0x10 | 0x14 => Rooms {
             source: source,
-            target: target_room(len, r.dstBaseAddr, r.dstFormat),
+            target: target_room(len, r.dst_base_addr, r.dst_format),
         },
         0x34 | 0x54 => Rooms {
-            source: source_room(len, r.srcBaseAddr, r.srcFormat),
+            source: source_room(len, r.src_base_addr, r.src_format),
             target: target,
         },
         _ => k,
@@ -128,7 +128,7 @@ pub fn tell(format: u32, k: Rooms) -> Rooms
 // Whether the rows of a surface have n pixels: by a product.
 fn has_pixels(s: Surface, n: u32) -> bool
     requires { Small s }
-    ensures { result ≡ true → n ≤ rowPixels s }
+    ensures { result ≡ true → n ≤ row_pixels s }
 {
     let row = surface::row_bytes(s);
     if s.bytes == 0 {
@@ -161,7 +161,7 @@ fn fits(at: u32, n: u32, most: u32) -> bool
 // last row that is not whole, and where it has not, the last pixel decides.
 pub fn rect_in(len: usize, s: Surface, k: Room, x: u32, y: u32, w: u32, h: u32) -> bool
     requires { Small s }
-    ensures { result ≡ allOn s len (rect false false x y w h) }
+    ensures { result ≡ all_on s len (rect false false x y w h) }
 {
     if fits(x, w, k.pixels) & fits(y, h, k.rows) {
         if has_pixels(s, k.pixels) & has_rows(len, s, k.rows) {

@@ -9,13 +9,13 @@ use native.Mathlib.Omega.{arith}
 use lib.Dec.{eqb}
 use lib.ListN.{get_or}
 use Rattle.surface.specs.declared.Surface.{Surface}
-use Rattle.surface.specs.Place.{byte_of, readBytes, readPx, one}
+use Rattle.surface.specs.Place.{byte_of, read_bytes, read_px, one}
 use Rattle.surface.specs.Pixels.{across}
 use Rattle.surface.proofs.Bytes.{read_as}
 use Rattle.surface.proofs.OnLaws.{one-most}
 use Rattle.surface.proofs.Run.{get-one}
 use Rattle.paint.specs.Paint.{changing, summed}
-use Rattle.runs.specs.Runs.{unlikeAt, unlikes}
+use Rattle.runs.specs.Runs.{unlike_at, unlikes}
 use Rattle.runs.specs.Asked.{PixelsOn, Run}
 
 -- ---- pixels from an address on
@@ -65,7 +65,7 @@ module _ (m m' : List ℕ) (b : ℕ) where
   pub unlikes-most : (d s w : ℕ) → unlikes m m' b d s w ≤ w
   unfolding unlikes
   unlikes-most d s zero = omega arith
-  unlikes-most d s (suc w) = omega (arith, one-most (unlikeAt m m' b d s), unlikes-most (d + b) (s + b) w)
+  unlikes-most d s (suc w) = omega (arith, one-most (unlike_at m m' b d s), unlikes-most (d + b) (s + b) w)
 
 -- ---- a loop that counts: r of the first i pixels are not alike
 pub record Counted (m m' : List ℕ) (b d s w i r : ℕ) : Type 0 where
@@ -93,7 +93,7 @@ module _ {m m' : List ℕ} {b d s w : ℕ} where
         let most = unlikes-most m m' b (d + i * b) (s + i * b) k in
         record { sum = rw (p, q) (omega (arith, h, before, e)); few = omega (arith, now.few, most); within = fits }
 
-    pub counted-turn : {c : ℕ} → i < w → c ≡ one (unlikeAt m m' b (d + i * b) (s + i * b)) → Counted m m' b d s w (i + 1) (r + c)
+    pub counted-turn : {c : ℕ} → i < w → c ≡ one (unlike_at m m' b (d + i * b) (s + i * b)) → Counted m m' b d s w (i + 1) (r + c)
     unfolding unlikes
     counted-turn more e = counted-part 1 (omega arith) (e ∙ omega arith)
 
@@ -101,8 +101,8 @@ module _ {m m' : List ℕ} {b d s w : ℕ} where
     pub counted-byte : {c : ℕ} → b ≡ 1 → i < w → c ≡ one (not (eqb (get_or m (d + i) 0) (get_or m' (s + i) 0))) → Counted m m' b d s w (i + 1) (r + c)
     counted-byte by more e =
         let p : i * b ≡ i = rw by (mul-one i) in
-        let first : get_or m (d + i) 0 ≡ readBytes m (λ k. d + i * b + k) 0 b = rw (p, by) (get-one (d + i) 1 m refl) in
-        let second : get_or m' (s + i) 0 ≡ readBytes m' (λ k. s + i * b + k) 0 b = rw (p, by) (get-one (s + i) 1 m' refl) in
+        let first : get_or m (d + i) 0 ≡ read_bytes m (λ k. d + i * b + k) 0 b = rw (p, by) (get-one (d + i) 1 m refl) in
+        let second : get_or m' (s + i) 0 ≡ read_bytes m' (λ k. s + i * b + k) 0 b = rw (p, by) (get-one (s + i) 1 m' refl) in
         counted-turn more (e ∙ ap₂ (λ (v w : ℕ). one (not (eqb v w))) first second)
 
     -- bytes
@@ -120,13 +120,13 @@ module _ (s : Surface) (y : ℕ) (m m' a a' : List ℕ) where
   pub row-unlike : (x d e w : ℕ) → ((c k : ℕ) → c < w → k < s.bytes → get_or a (d + (c * s.bytes + k)) 0 ≡ get_or m (byte_of s (x + c) y k) 0)
       → ((c k : ℕ) → c < w → k < s.bytes → get_or a' (e + (c * s.bytes + k)) 0 ≡ get_or m' (byte_of s (x + c) y k) 0)
       → unlikes a a' s.bytes d e w ≡ summed (changing s m m') (across false x w y)
-  unfolding summed unlikes across readPx
+  unfolding summed unlikes across read_px
   row-unlike x d e zero f g = refl
   row-unlike x d e (suc w) f g =
       let first : (n : ℕ) → n + 0 ≡ n = (λ n. omega arith) in
-      let old : readBytes a (λ k. d + k) 0 s.bytes ≡ readPx m s x y =
+      let old : read_bytes a (λ k. d + k) 0 s.bytes ≡ read_px m s x y =
       read_as (λ k. d + k) (byte_of s x y) 0 s.bytes a m (λ k l u. let h = f 0 k (omega arith) (omega arith) in let p : d + (0 * s.bytes + k) ≡ d + k = omega arith in rw (p, first x) at h) in
-      let new : readBytes a' (λ k. e + k) 0 s.bytes ≡ readPx m' s x y =
+      let new : read_bytes a' (λ k. e + k) 0 s.bytes ≡ read_px m' s x y =
       read_as (λ k. e + k) (byte_of s x y) 0 s.bytes a' m' (λ k l u. let h = g 0 k (omega arith) (omega arith) in let p : e + (0 * s.bytes + k) ≡ e + k = omega arith in rw (p, first x) at h) in
       let next : (n c k : ℕ) → n + s.bytes + (c * s.bytes + k) ≡ n + ((c + 1) * s.bytes + k) = (λ n c k. omega (arith, add-mul c 1 s.bytes)) in
       let column : (c : ℕ) → x + 1 + c ≡ x + (c + 1) = (λ c. omega arith) in

@@ -11,7 +11,7 @@ use lib.ListN.{length, get_or, set}
 use lib.Seq.{get_or-set_same, lt-length-set}
 use native.Mathlib.Omega.{arith}
 use Rattle.surface.specs.declared.Surface.{Surface}
-use Rattle.surface.specs.Place.{byte_of, writeBytes, writePx}
+use Rattle.surface.specs.Place.{byte_of, write_bytes, write_px}
 use Rattle.surface.specs.Asked.{OnColour}
 use Rattle.surface.specs.Pixels.{Px, rect, Inside}
 use Rattle.surface.proofs.Bytes.{written-other}
@@ -26,17 +26,17 @@ use Rattle.runs.specs.Asked.{RectOn}
 use Rattle.paint.proofs.Owners.{byte-of, of-byte}
 use Rattle.paint.proofs.Settle.{Settled, settled, counted}
 
-abbrev pub byteNumber : ℕ → Px → ℕ → ℕ
-byteNumber v p k = v / 256 ^ k % 256
+abbrev pub byte_number : ℕ → Px → ℕ → ℕ
+byte_number v p k = v / 256 ^ k % 256
 
 written_byte : (at : ℕ → ℕ) (k n v : ℕ) (m : List ℕ) (j : ℕ) → k ≤ j → j < k + n → ((a b : ℕ) → a < k + n → b < k + n → at a ≡ at b → a ≡ b)
-    → ((b : ℕ) → b < k + n → at b < length m) → get_or (writeBytes at k n v m) (at j) 0 ≡ v / 256 ^ (j - k) % 256
-unfolding writeBytes
+    → ((b : ℕ) → b < k + n → at b < length m) → get_or (write_bytes at k n v m) (at j) 0 ≡ v / 256 ^ (j - k) % 256
+unfolding write_bytes
 written_byte at k zero v m j l u differ inside = absurd (omega arith)
 written_byte at k (suc n) v m j l u differ inside =
     let m₁ = set m (at k) (v % 256) in
     by_cases (ℕ_discrete k j)
-    (λ e. subst (λ (i : ℕ). get_or (writeBytes at (suc k) n (v / 256) m₁) (at i) 0 ≡ v / 256 ^ (i - k) % 256) e
+    (λ e. subst (λ (i : ℕ). get_or (write_bytes at (suc k) n (v / 256) m₁) (at i) 0 ≡ v / 256 ^ (i - k) % 256) e
     (written-other at (suc k) n (v / 256) m₁ (at k) (λ i f g w. let q : k ≡ i = differ k i (omega arith) (omega arith) w in omega arith)
     ∙ get_or-set_same m (at k) (v % 256) 0 (inside k (omega arith))
     ∙ let z : k - k ≡ 0 = omega arith in rw z (let o : v / 256 ^ 0 ≡ v = div-one v in rw o refl)))
@@ -65,8 +65,8 @@ module _ (s : Surface) (v x y w h : ℕ) (m : List ℕ) (on : RectOn s (length m
       settled s colour (λ was now p. some v) (λ p a. ⊥) (record { same = λ p a b c d f g. refl }) m (rect false false x y w h) (tally 0 0) (rect-distinct false false x y w h)
       (λ p i. on-column s (length m) p.x p.y (pixel-on p (in-rect false false x y w h p i)).on)
 
-  pub even-given : Given s (byteNumber v) x y w h m whole.mem
-  unfolding dab writePx
+  pub even-given : Given s (byte_number v) x y w h m whole.mem
+  unfolding dab write_px
   even-given = record {
     inside = λ p i k l.
         let column = on-column s (length m) p.x p.y (pixel-on p i).on in

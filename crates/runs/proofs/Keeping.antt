@@ -16,7 +16,7 @@ use Rattle.surface.specs.Asked.{Small, OnColour}
 use Rattle.surface.proofs.Bytes.{product_lt}
 use Rattle.surface.proofs.OnLaws.{colour-byte}
 use Rattle.surface.proofs.Tiles.{tile-run}
-use Rattle.surface.proofs.Rows.{by_layout, byteAt-tiled, byteAt-run}
+use Rattle.surface.proofs.Rows.{by_layout, byte_at-tiled, byte_at-run}
 use Rattle.surface.proofs.Lists.{by_cases}
 use Rattle.runs.specs.Runs.{Kept, RowKept}
 use Rattle.runs.specs.Asked.{RowOn, RowHeld, PixelsOn}
@@ -37,7 +37,7 @@ kept_next {m} {to} {at} {i} {out₀} {out} now room = record {
 -- bytes of a row that reach over no edge of a tile follow each other
 pub piece-follows : (s : Surface) (c y k j : ℕ) → (s.tiled ≡ true → c % 128 + k ≤ 128) → j < k → byte_at s c y + j ≡ byte_at s (c + j) y
 piece-follows s c y k j edge l =
-    by_layout s (λ e. sym (byteAt-run s e c j y)) (λ e. omega (arith, byteAt-tiled s c y e, byteAt-tiled s (c + j) y e, tile-run s.stride c j y (omega (arith, edge e))))
+    by_layout s (λ e. sym (byte_at-run s e c j y)) (λ e. omega (arith, byte_at-tiled s c y e, byte_at-tiled s (c + j) y e, tile-run s.stride c j y (omega (arith, edge e))))
 
 -- a piece more of a row
 pub row_kept : {s : Surface} {m : List ℕ} {x y i : ℕ} {out₀ out out' : List ℕ} (at k : ℕ) → RowKept s m x y i out₀ out → Kept m i at k out out'

@@ -11,7 +11,7 @@ use native.Mathlib.Decide.{ℕ_discrete, dec_lt, dec_le}
 use lib.ListN.{length, get_or, set, length-set}
 use lib.Seq.{get_or-set_same, get_or-set_other, ext_get_or}
 use Rattle.surface.specs.declared.Surface.{Surface}
-use Rattle.surface.specs.Place.{byte_of, rowPixels}
+use Rattle.surface.specs.Place.{byte_of, row_pixels}
 use Rattle.surface.specs.Pixels.{Px, px, Inside}
 use Rattle.surface.proofs.Lists.{by_cases}
 use Rattle.surface.proofs.Pixels.{same_byte}
@@ -105,7 +105,7 @@ given-once {s} {byte} {x} {y} {w} {h} {m} {a} {b} f g =
     f.others i none ∙ sym (g.others i none))
 
 -- one row more, above or below, as a run of bytes that have the row's values
-module _ (s : Surface) (flat : s.tiled ≡ false) (colour : 0 < s.bytes) (byte : Px → ℕ → ℕ) (x w : ℕ) (columns : (c : ℕ) → c < w → x + c < rowPixels s) where
+module _ (s : Surface) (flat : s.tiled ≡ false) (colour : 0 < s.bytes) (byte : Px → ℕ → ℕ) (x w : ℕ) (columns : (c : ℕ) → c < w → x + c < row_pixels s) where
   pub given-row : (top h top' y from : ℕ) (m₀ m m₁ : List ℕ) → ((top' ≡ top) × (y ≡ top + h)) ⊎ ((top' ≡ y) × (top ≡ y + 1))
       → Given s byte x top w h m₀ m → Shifted (byte_of s x y 0) from 0 (w * s.bytes) m m₁
       → ((c k : ℕ) → c < w → k < s.bytes → get_or m (from + (c * s.bytes + k)) 0 ≡ byte (px (x + c) y) k)
@@ -131,5 +131,5 @@ module _ (s : Surface) (flat : s.tiled ≡ false) (colour : 0 < s.bytes) (byte :
       elsewhere : (p : Px) → Inside x top' w (h + 1) p → (k : ℕ) → k < s.bytes → (j : ℕ) → j < w * s.bytes → byte_of s x y 0 + j ≡ byte_of s p.x p.y k → p.y ≡ y
       elsewhere p i k l j r e =
           let c = run-column s colour x y w j r in
-          let column : p.x < rowPixels s = subst (λ (n : ℕ). n < rowPixels s) (omega arith) (columns (p.x - x) (omega arith)) in
+          let column : p.x < row_pixels s = subst (λ (n : ℕ). n < row_pixels s) (omega arith) (columns (p.x - x) (omega arith)) in
           sym (same_byte s (x + j / s.bytes) y (j % s.bytes) p.x p.y k (columns (j / s.bytes) c) column (mod-lt j colour) l (sym (run-place s colour x y flat j) ∙ e)).1

@@ -3,29 +3,29 @@
 use Rattle.std.specs.Prelude.{◌≡◌, Bool, cond, not, List, map, ℕ, zero, suc, ◌+◌, ◌-◌, ◌%◌, ◌<◌, ◌≤◌, eqb, ltb, length, get_or}
 use Rattle.std.proofs.Math.Option.{some}
 use Rattle.surface.specs.declared.Surface.{Surface}
-use Rattle.surface.specs.Place.{byte_at, byte_of, readBytes, one}
+use Rattle.surface.specs.Place.{byte_at, byte_of, read_bytes, one}
 use Rattle.surface.specs.Pixels.{Px, Inside}
-use Rattle.paint.specs.Paint.{State, Touch, touch, dabAt}
+use Rattle.paint.specs.Paint.{State, Touch, touch, dab_at}
 
 -- each pixel is given the value v
 abbrev pub evenly : ℕ → List Px → List Touch
 evenly v ps = map (λ p. touch p (λ now. some v)) ps
 
 -- the same of w pixels of b bytes from an address on
-unfoldable pub evenAt : ℕ → ℕ → ℕ → ℕ → State → State
-evenAt b v at zero st = st
-evenAt b v at (suc w) st = evenAt b v (at + b) w (dabAt at b (some v) st)
+unfoldable pub even_at : ℕ → ℕ → ℕ → ℕ → State → State
+even_at b v at zero st = st
+even_at b v at (suc w) st = even_at b v (at + b) w (dab_at at b (some v) st)
 
 -- ---- pixels that are not alike
 
 -- the b bytes from d on in one memory are not those from s on in another
-abbrev pub unlikeAt : List ℕ → List ℕ → ℕ → ℕ → ℕ → Bool
-unlikeAt m m' b d s = not (eqb (readBytes m (λ k. d + k) 0 b) (readBytes m' (λ k. s + k) 0 b))
+abbrev pub unlike_at : List ℕ → List ℕ → ℕ → ℕ → ℕ → Bool
+unlike_at m m' b d s = not (eqb (read_bytes m (λ k. d + k) 0 b) (read_bytes m' (λ k. s + k) 0 b))
 
 -- how many of w pixels of b bytes are so
 unfoldable pub unlikes : List ℕ → List ℕ → ℕ → ℕ → ℕ → ℕ → ℕ
 unlikes m m' b d s zero = 0
-unlikes m m' b d s (suc w) = one (unlikeAt m m' b d s) + unlikes m m' b (d + b) (s + b) w
+unlikes m m' b d s (suc w) = one (unlike_at m m' b d s) + unlikes m m' b (d + b) (s + b) w
 
 -- ---- bytes that have come from elsewhere
 
@@ -37,8 +37,8 @@ pub record Shifted (d s lo hi : ℕ) (m m' : List ℕ) : Type 0 where
   pub long : length m' ≡ length m
 
 -- how many of n columns or rows, from number `at` on, come before the next edge of a tile
-abbrev pub toEdge : Surface → ℕ → ℕ → ℕ → ℕ
-toEdge s at edge n = cond s.tiled (cond (ltb (edge - at % edge) n) (edge - at % edge) n) n
+abbrev pub to_edge : Surface → ℕ → ℕ → ℕ → ℕ
+to_edge s at edge n = cond s.tiled (cond (ltb (edge - at % edge) n) (edge - at % edge) n) n
 
 -- a buffer whose n bytes from `to` on have become a memory's from `at` on; every other byte is left
 pub record Kept (m : List ℕ) (to at n : ℕ) (old new : List ℕ) : Type 0 where

@@ -4,7 +4,7 @@ ghost use Rattle.surface.specs.Place.{one};
 ghost use Rattle.surface.specs.Asked.{Colour};
 ghost use Rattle.surface.specs.Pixels.{across, rect};
 ghost use Rattle.paint.specs.Paint.{state, tallied, paint};
-ghost use Rattle.runs.specs.Runs.{evenly, evenAt, unlikes, Shifted, Kept, RowKept, toEdge};
+ghost use Rattle.runs.specs.Runs.{evenly, even_at, unlikes, Shifted, Kept, RowKept, to_edge};
 ghost use Rattle.runs.specs.Asked.{RowOn, RectOn, PixelsOn, RowHeld, Run, Up, Down};
 
 use paint::Tally;
@@ -33,7 +33,7 @@ fn one_byte(b: bool) -> u8
 // The w pixels of one byte, at most 128, from an address on, each of value v; how many change.
 fn solid_few(mem: &mut [u8], at: usize, v: u32, w: usize) -> u32
     requires { PixelsOn at 1 w (length mem.old) × (w ≤ 128) }
-    ensures { state mem.new w result ≡ evenAt 1 v at w (state mem.old 0 0) }
+    ensures { state mem.new w result ≡ even_at 1 v at w (state mem.old 0 0) }
 {
     let mut r = 0u8;
     let mut i = 0;
@@ -47,7 +47,7 @@ fn solid_few(mem: &mut [u8], at: usize, v: u32, w: usize) -> u32
 // Any number of them, 128 at a time.
 fn solid_bytes(mem: &mut [u8], at: usize, v: u32, w: usize) -> u32
     requires { PixelsOn at 1 w (length mem.old) }
-    ensures { state mem.new w result ≡ evenAt 1 v at w (state mem.old 0 0) }
+    ensures { state mem.new w result ≡ even_at 1 v at w (state mem.old 0 0) }
 {
     let mut r = 0;
     let mut i = 0;
@@ -61,7 +61,7 @@ fn solid_bytes(mem: &mut [u8], at: usize, v: u32, w: usize) -> u32
 // The w pixels of two or three bytes from an address on, each of value v; how many change.
 fn solid_short(mem: &mut [u8], at: usize, bytes: u32, v: u32, w: usize) -> u32
     requires { PixelsOn at bytes w (length mem.old) }
-    ensures { state mem.new w result ≡ evenAt bytes v at w (state mem.old 0 0) }
+    ensures { state mem.new w result ≡ even_at bytes v at w (state mem.old 0 0) }
 {
     let b = surface::wide(bytes);
     let mut r = 0u16;
@@ -76,7 +76,7 @@ fn solid_short(mem: &mut [u8], at: usize, bytes: u32, v: u32, w: usize) -> u32
 // The same of pixels of four bytes.
 fn solid_words(mem: &mut [u8], at: usize, v: u32, w: usize) -> u32
     requires { PixelsOn at 4 w (length mem.old) }
-    ensures { state mem.new w result ≡ evenAt 4 v at w (state mem.old 0 0) }
+    ensures { state mem.new w result ≡ even_at 4 v at w (state mem.old 0 0) }
 {
     let mut r = 0;
     let mut i = 0;
@@ -90,7 +90,7 @@ fn solid_words(mem: &mut [u8], at: usize, v: u32, w: usize) -> u32
 // The same of pixels of any format, with a loop for each number of bytes.
 fn solid_run(mem: &mut [u8], at: usize, bytes: u32, v: u32, w: u32) -> u32
     requires { PixelsOn at bytes w (length mem.old) }
-    ensures { state mem.new w result ≡ evenAt bytes v at w (state mem.old 0 0) }
+    ensures { state mem.new w result ≡ even_at bytes v at w (state mem.old 0 0) }
 {
     let n = surface::wide(w);
     match bytes {
@@ -214,7 +214,7 @@ pub fn unlike(a: &[u8], d: usize, b: &[u8], s: usize, bytes: u32, w: u32) -> u32
 // How many of n columns or rows, from number `at` on, come before the next edge of a tile.
 pub fn to_edge(s: Surface, at: usize, edge: usize, n: usize) -> usize
     requires { 0 < edge }
-    ensures { (result ≤ n) × (0 < n → 0 < result) × (s.tiled ≡ true → at % edge + result ≤ edge) × (result ≡ toEdge s at edge n) }
+    ensures { (result ≤ n) × (0 < n → 0 < result) × (s.tiled ≡ true → at % edge + result ≤ edge) × (result ≡ to_edge s at edge n) }
 {
     if s.tiled {
         let left = edge - at % edge;

@@ -10,10 +10,10 @@ use lib.Arith.{digits_div, digits_mod}
 use Rattle.surface.proofs.Bytes.{product_lt}
 use Rattle.surface.proofs.Lists.{by_cases}
 use Rattle.scale.specs.declared.Scale.{Scale}
-use Rattle.scale.specs.Scale.{scaled, walkAt, walking, next_of}
+use Rattle.scale.specs.Scale.{scaled, walk_at, walking, next_of}
 use Rattle.scale.specs.Asked.{OnScale, Steps}
 
--- ---- a step: what is divided grows by sourceSize
+-- ---- a step: what is divided grows by source_size
 module _ (i n z : ℕ) where
   next-sum : (i + 1) * n ≡ (i * n / z + n / z) * z + (i * n % z + n % z)
   next-sum = omega (arith, div-add-mod' (i * n) z, div-add-mod' n z, add-mul i 1 n, add-mul (i * n / z) (n / z) z)
@@ -21,17 +21,17 @@ module _ (i n z : ℕ) where
   carried-sum : z ≤ i * n % z + n % z → (i + 1) * n ≡ (i * n / z + n / z + 1) * z + (i * n % z + n % z - z)
   carried-sum h = omega (arith, next-sum, add-mul (i * n / z + n / z) 1 z)
 
-walk_of : (s : Scale) (place at rest : ℕ) → at ≡ scaled s place → rest ≡ (place - s.to) * s.sourceSize % s.size
-    → record { at = at; rest = rest; whole = s.sourceSize / s.size; over = s.sourceSize % s.size; size = s.size } ≡ walkAt s place
-unfolding walkAt
-walk_of s place at rest p q = λ i. record { at = p i; rest = q i; whole = s.sourceSize / s.size; over = s.sourceSize % s.size; size = s.size }
+walk_of : (s : Scale) (place at rest : ℕ) → at ≡ scaled s place → rest ≡ (place - s.to) * s.source_size % s.size
+    → record { at = at; rest = rest; whole = s.source_size / s.size; over = s.source_size % s.size; size = s.size } ≡ walk_at s place
+unfolding walk_at
+walk_of s place at rest p q = λ i. record { at = p i; rest = q i; whole = s.source_size / s.size; over = s.source_size % s.size; size = s.size }
 
 module _ (s : Scale) (place : ℕ) (on : OnScale s place) where
   abbrev i : ℕ
   i = place - s.to
 
   abbrev n : ℕ
-  n = s.sourceSize
+  n = s.source_size
 
   abbrev z : ℕ
   z = s.size
@@ -39,16 +39,16 @@ module _ (s : Scale) (place : ℕ) (on : OnScale s place) where
   later : place + 1 - s.to ≡ i + 1
   later = omega (arith, on.first)
 
-  step-under : i * n % z + n % z < z → walking (walkAt s place) (scaled s place + n / z) (i * n % z + n % z) ≡ walkAt s (place + 1)
-  unfolding walkAt scaled
+  step-under : i * n % z + n % z < z → walking (walk_at s place) (scaled s place + n / z) (i * n % z + n % z) ≡ walk_at s (place + 1)
+  unfolding walk_at scaled
   step-under low =
       let sum = ap (λ (k : ℕ). k * n) later ∙ next-sum i n z in
       let quotient = ap (λ (k : ℕ). k / z) sum ∙ digits_div (i * n / z + n / z) low in
       let rest = ap (λ (k : ℕ). k % z) sum ∙ digits_mod (i * n / z + n / z) low in
       walk_of s (place + 1) _ _ (omega (arith, quotient)) (sym rest)
 
-  step_past : z ≤ i * n % z + n % z → walking (walkAt s place) (scaled s place + n / z + 1) (i * n % z + n % z - z) ≡ walkAt s (place + 1)
-  unfolding walkAt scaled
+  step_past : z ≤ i * n % z + n % z → walking (walk_at s place) (scaled s place + n / z + 1) (i * n % z + n % z - z) ≡ walk_at s (place + 1)
+  unfolding walk_at scaled
   step_past high =
       let low : i * n % z + n % z - z < z = omega (arith, mod-lt (i * n) on.some, mod-lt n on.some) in
       let sum = ap (λ (k : ℕ). k * n) later ∙ carried-sum i n z high in
@@ -57,27 +57,27 @@ module _ (s : Scale) (place : ℕ) (on : OnScale s place) where
       walk_of s (place + 1) _ _ (omega (arith, quotient)) (sym rest)
 
   -- a step of the walk at a place gives the walk at the next one
-  pub next-walk : next_of (walkAt s place) ≡ walkAt s (place + 1)
-  unfolding next_of walkAt
+  pub next-walk : next_of (walk_at s place) ≡ walk_at s (place + 1)
+  unfolding next_of walk_at
   next-walk =
       by_cases (dec_lt (i * n % z + n % z) z) (λ low. rw (lt-ltb (i * n % z + n % z) z low) (step-under low))
       (λ high. let past : z ≤ i * n % z + n % z = omega arith in rw (le-ltb (i * n % z + n % z) z past) (step_past past))
 
   -- ---- sizes
   pub product : i * n < 2 ^ 26
-  product = product_lt 13 13 {a = i} {b = n} (omega (arith, on)) on.sourceSize
+  product = product_lt 13 13 {a = i} {b = n} (omega (arith, on)) on.source_size
 
   at_most : i * n / z ≤ n
   at_most = div-le_of_le-mul z {m = i * n} {n = n} (mul-le-mul_right n (omega (arith, on)))
 
   pub scaled_small : scaled s place < 2 ^ 15
   unfolding scaled
-  scaled_small = omega (arith, at_most, on.from, on.sourceSize)
+  scaled_small = omega (arith, at_most, on.from, on.source_size)
 
-  pub walk_steps : Steps (walkAt s place)
-  unfolding walkAt
+  pub walk_steps : Steps (walk_at s place)
+  unfolding walk_at
   walk_steps = record {
-    at = omega (arith, scaled_small, div-le_self n z, on.sourceSize);
+    at = omega (arith, scaled_small, div-le_self n z, on.source_size);
     rest = omega (arith, mod-lt (i * n) on.some, mod-lt n on.some, on.size);
   }
 
@@ -89,5 +89,5 @@ pub scaled-mono : (s : Scale) {a b : ℕ} → a ≤ b → scaled s a ≤ scaled 
 unfolding scaled
 scaled-mono s {a} {b} h =
     by_cases (dec_lt 0 s.size)
-    (λ some. omega (arith, div-up some (mul-le-mul_right {m = a - s.to} {n = b - s.to} s.sourceSize (omega arith))))
-    (λ none. let z : s.size ≡ 0 = omega arith in rw z (omega (arith, div-zero ((a - s.to) * s.sourceSize), div-zero ((b - s.to) * s.sourceSize))))
+    (λ some. omega (arith, div-up some (mul-le-mul_right {m = a - s.to} {n = b - s.to} s.source_size (omega arith))))
+    (λ none. let z : s.size ≡ 0 = omega arith in rw z (omega (arith, div-zero ((a - s.to) * s.source_size), div-zero ((b - s.to) * s.source_size))))

@@ -4,17 +4,17 @@ use Rattle.std.specs.Prelude.{cond, ℕ, ◌+◌, ◌-◌, ◌*◌, ◌/◌, ◌
 use Rattle.scale.specs.declared.Scale.{Scale}
 use Rattle.scale.specs.declared.Walk.{Walk}
 
--- number i of the target's pixels, counted from its first, takes number floor(i × sourceSize / size) of the source's
+-- number i of the target's pixels, counted from its first, takes number floor(i × source_size / size) of the source's
 unfoldable pub scaled : Scale → ℕ → ℕ
-scaled s place = s.from + (place - s.to) * s.sourceSize / s.size
+scaled s place = s.from + (place - s.to) * s.source_size / s.size
 
 -- what a walk has at a place
-unfoldable pub walkAt : Scale → ℕ → Walk
-walkAt s place = record {
+unfoldable pub walk_at : Scale → ℕ → Walk
+walk_at s place = record {
   at = scaled s place;
-  rest = (place - s.to) * s.sourceSize % s.size;
-  whole = s.sourceSize / s.size;
-  over = s.sourceSize % s.size;
+  rest = (place - s.to) * s.source_size % s.size;
+  whole = s.source_size / s.size;
+  over = s.source_size % s.size;
   size = s.size;
 }
 

@@ -3,7 +3,7 @@
 use Rattle.std.specs.Prelude.{true, List, map, ℕ, ◌+◌}
 use Rattle.std.proofs.Math.Option.{Option}
 use Rattle.surface.specs.Pixels.{Px, px, origin}
-use Rattle.paint.specs.Clip.{pixelAt}
+use Rattle.paint.specs.Clip.{pixel_at}
 use Rattle.paint.specs.Paint.{Touch, touch}
 use Rattle.sweep.specs.declared.Task.{Task}
 use Rattle.sweep.specs.Copy.{giving}
@@ -11,16 +11,16 @@ use Rattle.scale.specs.declared.Stretch.{Stretch}
 use Rattle.scale.specs.Scale.{scaled}
 
 -- the position of the source pixel that pixel p takes, counted from 16384
-unfoldable pub takenAt : Stretch → Px → Px
-takenAt t p = px (scaled t.columns (origin + p.x)) (scaled t.rows (origin + p.y))
+unfoldable pub taken_at : Stretch → Px → Px
+taken_at t p = px (scaled t.columns (origin + p.x)) (scaled t.rows (origin + p.y))
 
 -- the same as a pixel of its surface
 abbrev pub taken : Stretch → Px → Px
-taken t p = pixelAt (takenAt t p).x (takenAt t p).y
+taken t p = pixel_at (taken_at t p).x (taken_at t p).y
 
 -- the screen copy of pixel p alone
-unfoldable pub pixelTask : Stretch → Px → Task
-pixelTask t p = record {
+unfoldable pub pixel_task : Stretch → Px → Task
+pixel_task t p = record {
   ink = t.ink;
   copies = true;
   from = t.from;
@@ -31,16 +31,16 @@ pixelTask t p = record {
 }
 
 -- what pixel p is given, its source read in the memory m, and the pixel itself in the memory now
-abbrev pub stretchGiving : Stretch → List ℕ → List ℕ → List ℕ → Px → Option ℕ
-stretchGiving t pattern m now p = giving (pixelTask t p) pattern m now p
+abbrev pub stretch_giving : Stretch → List ℕ → List ℕ → List ℕ → Px → Option ℕ
+stretch_giving t pattern m now p = giving (pixel_task t p) pattern m now p
 
 -- each pixel from the source as it was before the command, in the memory m
 abbrev pub stretched : Stretch → List ℕ → List ℕ → List Px → List Touch
-stretched t pattern m ps = map (λ p. touch p (λ now. stretchGiving t pattern m now p)) ps
+stretched t pattern m ps = map (λ p. touch p (λ now. stretch_giving t pattern m now p)) ps
 
 -- each pixel from the source as it is when its turn comes
-abbrev pub turnTouch : Stretch → List ℕ → Px → Touch
-turnTouch t pattern p = touch p (λ now. stretchGiving t pattern now now p)
+abbrev pub turn_touch : Stretch → List ℕ → Px → Touch
+turn_touch t pattern p = touch p (λ now. stretch_giving t pattern now now p)
 
-abbrev pub stretchedInTurn : Stretch → List ℕ → List Px → List Touch
-stretchedInTurn t pattern ps = map (turnTouch t pattern) ps
+abbrev pub stretched_in_turn : Stretch → List ℕ → List Px → List Touch
+stretched_in_turn t pattern ps = map (turn_touch t pattern) ps

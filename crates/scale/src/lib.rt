@@ -1,6 +1,6 @@
 // A stretch copy: which source pixel each target pixel takes, worked out at once or by a running remainder.
 ghost use Rattle.std.specs.Prelude.{◌≡◌, ◌^◌, ◌<◌};
-ghost use Rattle.scale.specs.Scale.{scaled, walkAt, next_of};
+ghost use Rattle.scale.specs.Scale.{scaled, walk_at, next_of};
 ghost use Rattle.scale.specs.Asked.{OnScale, Steps};
 
 use ink::Ink;
@@ -12,7 +12,7 @@ pub struct Scale {
     pub to: u32,
     pub size: u32,
     pub from: u32,
-    pub sourceSize: u32,
+    pub source_size: u32,
 }
 
 // A stretch: the ink, the surface it takes from, and its columns and rows.
@@ -39,19 +39,19 @@ pub fn place_of(s: Scale, place: u32) -> u32
     requires { OnScale s place }
     ensures { (result ≡ scaled s place) × (result < 2 ^ 15) }
 {
-    s.from + (place - s.to) * s.sourceSize / s.size
+    s.from + (place - s.to) * s.source_size / s.size
 }
 
 // A walk that begins at a target place.
 pub fn start(s: Scale, place: u32) -> Walk
     requires { OnScale s place }
-    ensures { result ≡ walkAt s place }
+    ensures { result ≡ walk_at s place }
 {
     Walk {
         at: place_of(s, place),
-        rest: (place - s.to) * s.sourceSize % s.size,
-        whole: s.sourceSize / s.size,
-        over: s.sourceSize % s.size,
+        rest: (place - s.to) * s.source_size % s.size,
+        whole: s.source_size / s.size,
+        over: s.source_size % s.size,
         size: s.size,
     }
 }

@@ -16,11 +16,11 @@ use Rattle.surface.specs.Asked.{Colour}
 use Rattle.surface.proofs.Lists.{In}
 use Rattle.surface.proofs.Rects.{in-across, rect-in, in-rect}
 use Rattle.surface.proofs.OnLaws.{colour-first, colour-count}
-use Rattle.surface.proofs.Rows.{by_layout, byteAt-run, byteAt-tile}
+use Rattle.surface.proofs.Rows.{by_layout, byte_at-run, byte_at-tile}
 use Rattle.spans.specs.Span.{addresses}
 use Rattle.spans.proofs.Corner.{all-each, each_all}
 use Rattle.spans.proofs.Spans.{in-addresses}
-use Rattle.pages.specs.Pages.{page_of, markedAt, marking}
+use Rattle.pages.specs.Pages.{page_of, marked_at, marking}
 use Rattle.pages.specs.Asked.{MarkablePixel}
 use Rattle.pages.proofs.MarkLaws.{marking-append, marked-already}
 use Rattle.sift.specs.declared.Sieve.{Sieve}
@@ -91,12 +91,12 @@ module _ (s : Surface) (colour : Colour s) (x y : ℕ) where
       by_layout s
       (λ flat. let room = 4096 - at % 4096 in
       let h' : i < room / s.bytes = subst (λ (n : ℕ). i < n) (sym (run-flat flat refl)) h in
-      ap page_of (byteAt-run s flat (x * s.bytes) (i * s.bytes + k) y) ∙ on-page (i * s.bytes + k) room (within room h') (omega arith))
+      ap page_of (byte_at-run s flat (x * s.bytes) (i * s.bytes + k) y) ∙ on-page (i * s.bytes + k) room (within room h') (omega arith))
       (λ tiled. let room = min (4096 - at % 4096) (128 - x * s.bytes % 128) in
       let h' : i < room / s.bytes = subst (λ (n : ℕ). i < n) (sym (run-tiled tiled refl refl)) h in
       let j = i * s.bytes + k in
       let fits : j < room = within room h' in
-      let there : byte_at s (x * s.bytes + j) (y + 0) ≡ at + (0 * 128 + j) = byteAt-tile s tiled (x * s.bytes) y j 0 (omega arith) (omega arith) in
+      let there : byte_at s (x * s.bytes + j) (y + 0) ≡ at + (0 * 128 + j) = byte_at-tile s tiled (x * s.bytes) y j 0 (omega arith) (omega arith) in
       let here : byte_at s (x * s.bytes + j) y ≡ at + j = ap (byte_at s (x * s.bytes + j)) (sym (add-zero y)) ∙ there ∙ omega arith in
       ap page_of here ∙ on-page j room fits (omega arith))
     where
@@ -165,7 +165,7 @@ module _ (s : Surface) (f : Px → Bool) (marks : List Bool) where
       (sym (marking-append s (chosen f (across false (x + i) n y)) (chosen f (across false (x + i + n) (w - (i + n)) y)) marks))
 
   pub row-none : (x w y i : ℕ) → w ≤ i → marking s (chosen f (across false (x + i) (w - i) y)) marks ≡ marks
-  unfolding chosen across addresses markedAt
+  unfolding chosen across addresses marked_at
   row-none x w y i h = let e : w - i ≡ 0 = omega arith in rw e
 
   pub rows_start : (x y w h : ℕ) → marking s (chosen f (rect false false x (y + 0) w (h - 0))) marks ≡ marking s (chosen f (rect false false x y w h)) marks
@@ -182,5 +182,5 @@ module _ (s : Surface) (f : Px → Bool) (marks : List Bool) where
       (sym (marking-append s (chosen f (across false x w (y + j))) (chosen f (rect false false x (y + j + 1) w (h - (j + 1)))) marks))
 
   pub rows_none : (x y w h j : ℕ) → h ≤ j → marking s (chosen f (rect false false x (y + j) w (h - j))) marks ≡ marks
-  unfolding chosen rect addresses markedAt
+  unfolding chosen rect addresses marked_at
   rows_none x y w h j l = let e : h - j ≡ 0 = omega arith in rw e

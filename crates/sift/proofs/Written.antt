@@ -14,31 +14,31 @@ use Rattle.surface.specs.declared.Surface.{Surface}
 use Rattle.surface.specs.Pixels.{Px}
 use Rattle.surface.proofs.Lists.{In}
 use Rattle.surface.proofs.Rects.{Distinct}
-use Rattle.raster.specs.Rop.{ropBits}
+use Rattle.raster.specs.Rop.{rop_bits}
 use Rattle.ink.specs.declared.Ink.{Ink}
 use Rattle.paint.specs.declared.Source.{Source}
 use Rattle.paint.specs.Paint.{state, Touch, touch, dab, given, wrote}
-use Rattle.paint.specs.Mix.{chosen as chosenRop, targetMatch, mixed}
+use Rattle.paint.specs.Mix.{chosen as chosen_rop, target_match, mixed}
 use Rattle.sift.specs.Sift.{chosen}
 use Rattle.sift.proofs.SiftLaws.{chosen-in}
 
 -- whether something is given
-abbrev pub isGiven : Option ℕ → Bool
-isGiven none = false
-isGiven (some v) = true
+abbrev pub is_given : Option ℕ → Bool
+is_given none = false
+is_given (some v) = true
 
 -- a pixel is given something exactly where its source does not leave it
-pub mixed-given : (ink : Ink) (pattern : ℕ) (s : Source) (old : ℕ) → isGiven (mixed ink pattern s old) ≡ not s.left
+pub mixed-given : (ink : Ink) (pattern : ℕ) (s : Source) (old : ℕ) → is_given (mixed ink pattern s old) ≡ not s.left
 unfolding mixed
-mixed-given ink pattern s old = by s.left (ropBits 32 (chosenRop ink s.key (targetMatch ink old)) pattern s.value old)
+mixed-given ink pattern s old = by s.left (rop_bits 32 (chosen_rop ink s.key (target_match ink old)) pattern s.value old)
   where
-    by : (t : Bool) (v : ℕ) → isGiven (cond t none (some v)) ≡ not t
+    by : (t : Bool) (v : ℕ) → is_given (cond t none (some v)) ≡ not t
     by true v = refl
     by false v = refl
 
 -- ---- pixels that are given something, or nothing, by a test that painting does not change
 module _ (s : Surface) (g : Px → List ℕ → Option ℕ) (f : Px → Bool) (Stays : List ℕ → Type 0) (all : List Px)
-    (tested : (p : Px) (m : List ℕ) → In p all → Stays m → isGiven (g p m) ≡ f p)
+    (tested : (p : Px) (m : List ℕ) → In p all → Stays m → is_given (g p m) ≡ f p)
     (stays : (p : Px) (m : List ℕ) → In p all → Stays m → Stays (dab s p (g p m) (state m 0 0)).mem) where
   abbrev touches : List Px → List Touch
   touches ps = map (λ p. touch p (g p)) ps
@@ -50,7 +50,7 @@ module _ (s : Surface) (g : Px → List ℕ → Option ℕ) (f : Px → Bool) (S
       by (g p m) (f p) (tested p m (i p (Memᴰ.head refl)) h)
       (wrote-chosen ps (dab s p (g p m) (state m 0 0)).mem (λ q j. i q (Memᴰ.tail j)) (stays p m (i p (Memᴰ.head refl)) h))
     where
-      by : (o : Option ℕ) (t : Bool) → isGiven o ≡ t → wrote s (touches ps) (dab s p (g p m) (state m 0 0)).mem ≡ chosen f ps
+      by : (o : Option ℕ) (t : Bool) → is_given o ≡ t → wrote s (touches ps) (dab s p (g p m) (state m 0 0)).mem ≡ chosen f ps
           → given o p (wrote s (touches ps) (dab s p (g p m) (state m 0 0)).mem) ≡ cond t (p ∷ chosen f ps) (chosen f ps)
       by none true e more = absurd (let z : ◌≡◌ {A = ℕ} 0 1 = cc in omega arith)
       by none false e more = more

@@ -4,7 +4,7 @@ ghost use Rattle.surface.specs.Pixels.{px, across, rect};
 ghost use Rattle.surface.specs.Asked.{Colour};
 ghost use Rattle.pages.specs.Pages.{marking};
 ghost use Rattle.sweep.specs.Asked.{HasSource};
-ghost use Rattle.sift.specs.Sift.{chosen, taskAt, left_at, wet, run_of};
+ghost use Rattle.sift.specs.Sift.{chosen, task_at, left_at, wet, run_of};
 ghost use Rattle.sift.specs.Asked.{Scaled, Siftable};
 
 use scale::Scale;
@@ -48,7 +48,7 @@ fn is_left(mem: &[u8], t: Task, pattern: &[u8; 256], x: u32, y: u32) -> bool
 // The work of pixel (x, y).
 fn task_at(v: Sieve, x: u32, y: u32) -> Task
     requires { (x < 2 ^ 13) × (y < 2 ^ 13) × (v.stretched ≡ true → Scaled v x y) }
-    ensures { result ≡ taskAt v (px x y) }
+    ensures { result ≡ task_at v (px x y) }
 {
     let task = v.task;
     if v.stretched {

@@ -8,30 +8,30 @@ use mathlib.Core.List.{List, [], ◌∷◌, map}
 use Prim.Native.Nat.{ℕ, ◌+◌, ◌-◌, ◌<◌, ◌≤◌}
 use native.Mathlib.Omega.{arith}
 use Rattle.surface.specs.declared.Surface.{Surface}
-use Rattle.surface.specs.Place.{onSurface}
+use Rattle.surface.specs.Place.{on_surface}
 use Rattle.surface.specs.Pixels.{Px, px, across, rect}
-use Rattle.spans.specs.Span.{allOn}
+use Rattle.spans.specs.Span.{all_on}
 use Rattle.surface.proofs.OnLaws.{and_left, and_right, same_test, corner}
 use Rattle.surface.proofs.Lists.{In}
 use Rattle.surface.proofs.Rects.{in-rect, rect-in, in-across, across-in}
 
-pub all-each : (s : Surface) (len : ℕ) (ps : List Px) → allOn s len ps ≡ true → (p : Px) → In p ps → onSurface s len p.x p.y ≡ true
-unfolding allOn
+pub all-each : (s : Surface) (len : ℕ) (ps : List Px) → all_on s len ps ≡ true → (p : Px) → In p ps → on_surface s len p.x p.y ≡ true
+unfolding all_on
 all-each s len [] e p i = absurd (Memᴰ.not-nil i)
 all-each s len (q ∷ ps) e p i =
-    ⊎_elim (λ w. ap (λ (r : Px). onSurface s len r.x r.y) w ∙ and_left (onSurface s len q.x q.y) (allOn s len ps) e)
-    (λ j. all-each s len ps (and_right (onSurface s len q.x q.y) (allOn s len ps) e) p j) (Memᴰ.cases_cons i)
+    ⊎_elim (λ w. ap (λ (r : Px). on_surface s len r.x r.y) w ∙ and_left (on_surface s len q.x q.y) (all_on s len ps) e)
+    (λ j. all-each s len ps (and_right (on_surface s len q.x q.y) (all_on s len ps) e) p j) (Memᴰ.cases_cons i)
 
-pub each_all : (s : Surface) (len : ℕ) (ps : List Px) → ((p : Px) → In p ps → onSurface s len p.x p.y ≡ true) → allOn s len ps ≡ true
-unfolding allOn
+pub each_all : (s : Surface) (len : ℕ) (ps : List Px) → ((p : Px) → In p ps → on_surface s len p.x p.y ≡ true) → all_on s len ps ≡ true
+unfolding all_on
 each_all s len [] f = refl
 each_all s len (q ∷ ps) f =
-    ap (λ t. t && allOn s len ps) (f q (Memᴰ.head refl)) ∙ each_all s len ps (λ p i. f p (Memᴰ.tail i))
+    ap (λ t. t && all_on s len ps) (f q (Memᴰ.head refl)) ∙ each_all s len ps (λ p i. f p (Memᴰ.tail i))
 
 -- from whatever corner, the same pixels
-pub any-corner : (s : Surface) (len : ℕ) (l t : Bool) (x y w h : ℕ) → allOn s len (rect l t x y w h) ≡ allOn s len (rect false false x y w h)
+pub any-corner : (s : Surface) (len : ℕ) (l t : Bool) (x y w h : ℕ) → all_on s len (rect l t x y w h) ≡ all_on s len (rect false false x y w h)
 any-corner s len l t x y w h =
-    same_test (allOn s len (rect l t x y w h)) (allOn s len (rect false false x y w h))
+    same_test (all_on s len (rect l t x y w h)) (all_on s len (rect false false x y w h))
     (λ e. each_all s len (rect false false x y w h) (λ p i. all-each s len (rect l t x y w h) e p (rect-in l t x y w h p (in-rect false false x y w h p i))))
     (λ e. each_all s len (rect l t x y w h) (λ p i. all-each s len (rect false false x y w h) e p (rect-in false false x y w h p (in-rect l t x y w h p i))))
 
@@ -50,9 +50,9 @@ pub record Corners (ps : List Px) (x y x' y' : ℕ) : Type 0 where
   pub between : (p : Px) → In p ps → Between x y x' y' p
 
 -- where the last one is on the surface, all are
-pub corners-on : (s : Surface) (len : ℕ) {ps : List Px} {x y x' y' : ℕ} → Corners ps x y x' y' → allOn s len ps ≡ onSurface s len x' y'
+pub corners-on : (s : Surface) (len : ℕ) {ps : List Px} {x y x' y' : ℕ} → Corners ps x y x' y' → all_on s len ps ≡ on_surface s len x' y'
 corners-on s len {ps} {x} {y} {x'} {y'} c =
-    same_test (allOn s len ps) (onSurface s len x' y') (λ e. all-each s len ps e (px x' y') c.last)
+    same_test (all_on s len ps) (on_surface s len x' y') (λ e. all-each s len ps e (px x' y') c.last)
     (λ e. each_all s len ps (λ p i. corner s len p.x p.y x' y' e (c.between p i).right (c.between p i).bottom))
 
 -- a map of columns and one of rows that go up keep the corners
@@ -82,10 +82,10 @@ rect-corners l t x y w h pw ph = record {
 }
 
 pub rect-corner : (l t : Bool) (s : Surface) (len x y w h : ℕ) → 0 < w → 0 < h
-    → allOn s len (rect l t x y w h) ≡ onSurface s len (x + (w - 1)) (y + (h - 1))
+    → all_on s len (rect l t x y w h) ≡ on_surface s len (x + (w - 1)) (y + (h - 1))
 rect-corner l t s len x y w h pw ph = corners-on s len (rect-corners l t x y w h pw ph)
 
-pub across-corner : (l : Bool) (s : Surface) (len x n y : ℕ) → 0 < n → allOn s len (across l x n y) ≡ onSurface s len (x + (n - 1)) y
+pub across-corner : (l : Bool) (s : Surface) (len x n y : ℕ) → 0 < n → all_on s len (across l x n y) ≡ on_surface s len (x + (n - 1)) y
 across-corner l s len x n y p = corners-on s len (record {
   first = across-in l x n y (px x y) (omega arith) (omega arith) refl;
   last = across-in l x n y (px (x + (n - 1)) y) (omega arith) (omega arith) refl;
@@ -93,6 +93,6 @@ across-corner l s len x n y p = corners-on s len (record {
 })
 
 -- a rectangle of no width or no height has no pixel
-pub rect-none : (l t : Bool) (s : Surface) (len x y w h : ℕ) → (0 < w → 0 < h → ⊥) → allOn s len (rect l t x y w h) ≡ true
+pub rect-none : (l t : Bool) (s : Surface) (len x y w h : ℕ) → (0 < w → 0 < h → ⊥) → all_on s len (rect l t x y w h) ≡ true
 rect-none l t s len x y w h none =
     each_all s len (rect l t x y w h) (λ p i. let r = in-rect l t x y w h p i in absurd (none (omega arith) (omega arith)))

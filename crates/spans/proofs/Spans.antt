@@ -11,11 +11,11 @@ use native.Mathlib.Omega.{arith}
 use native.Mathlib.Decide.{dec_le}
 use borrow.Author.Tests.{lt-ltb}
 use Rattle.surface.specs.declared.Surface.{Surface}
-use Rattle.surface.specs.Place.{byte_at, rowPixels, firstByte, byte_count}
+use Rattle.surface.specs.Place.{byte_at, row_pixels, first_byte, byte_count}
 use Rattle.surface.specs.Pixels.{Px, px, rect}
-use Rattle.spans.specs.Span.{addressesOf, addresses, span, lowest, highest, spanned, span_of, meet}
-use Rattle.surface.proofs.Rows.{byteAt-mono}
-use Rattle.surface.proofs.OnLaws.{some_byte, in_row, lastByte, last-in-row, firstByte-mono}
+use Rattle.spans.specs.Span.{addresses_of, addresses, span, lowest, highest, spanned, span_of, meet}
+use Rattle.surface.proofs.Rows.{byte_at-mono}
+use Rattle.surface.proofs.OnLaws.{some_byte, in_row, last_byte, last-in-row, first_byte-mono}
 use Rattle.surface.proofs.Lists.{In, by_cases}
 use Rattle.surface.proofs.Rects.{in-rect}
 use Rattle.spans.proofs.Corner.{Between, Corners, rect-corners}
@@ -61,17 +61,17 @@ spanned-is (a ∷ l) lo hi i j f =
 pub record IsByte (s : Surface) (p : Px) (a : ℕ) : Type 0 where
   pub k : ℕ
   pub low : k < byte_count s
-  pub at : a ≡ byte_at s (firstByte s p.x + k) p.y
+  pub at : a ≡ byte_at s (first_byte s p.x + k) p.y
 
-in_bytes : (s : Surface) (c n y a : ℕ) → Memᴰ a (addressesOf s c n y) → (k : ℕ) × (k < n) × (a ≡ byte_at s (c + k) y)
-unfolding addressesOf
+in_bytes : (s : Surface) (c n y a : ℕ) → Memᴰ a (addresses_of s c n y) → (k : ℕ) × (k < n) × (a ≡ byte_at s (c + k) y)
+unfolding addresses_of
 in_bytes s c zero y a i = absurd (Memᴰ.not-nil i)
 in_bytes s c (suc n) y a i =
     ⊎_elim (λ e. (0, omega arith, e ∙ ap (λ (m : ℕ). byte_at s m y) (omega arith)))
     (λ j. let r = in_bytes s (suc c) n y a j in (suc r.0, omega (arith, r.1), r.2 ∙ ap (λ (m : ℕ). byte_at s m y) (omega arith))) (Memᴰ.cases_cons i)
 
-bytes-in : (s : Surface) (c n y a k : ℕ) → k < n → a ≡ byte_at s (c + k) y → Memᴰ a (addressesOf s c n y)
-unfolding addressesOf
+bytes-in : (s : Surface) (c n y a k : ℕ) → k < n → a ≡ byte_at s (c + k) y → Memᴰ a (addresses_of s c n y)
+unfolding addresses_of
 bytes-in s c zero y a k h e = absurd (omega arith)
 bytes-in s c (suc n) y a zero h e = Memᴰ.head (e ∙ ap (λ (m : ℕ). byte_at s m y) (add-zero c))
 bytes-in s c (suc n) y a (suc k) h e =
@@ -83,18 +83,18 @@ unfolding addresses
 in-addresses s [] a i = absurd (Memᴰ.not-nil i)
 in-addresses s (p ∷ ps) a i =
     ⊎_elim
-    (λ j. let r = in_bytes s (firstByte s p.x) (byte_count s) p.y a j in (p, Memᴰ.head refl, record { k = r.0; low = r.1; at = r.2 }))
+    (λ j. let r = in_bytes s (first_byte s p.x) (byte_count s) p.y a j in (p, Memᴰ.head refl, record { k = r.0; low = r.1; at = r.2 }))
     (λ j. let r = in-addresses s ps a j in (r.0, Memᴰ.tail r.1, r.2))
-    (Memᴰ.append_cases (addressesOf s (firstByte s p.x) (byte_count s) p.y) i)
+    (Memᴰ.append_cases (addresses_of s (first_byte s p.x) (byte_count s) p.y) i)
 
 pub addresses-in : (s : Surface) (ps : List Px) (p : Px) (a : ℕ) → In p ps → IsByte s p a → Memᴰ a (addresses s ps)
 unfolding addresses
 addresses-in s [] p a i b = absurd (Memᴰ.not-nil i)
 addresses-in s (q ∷ ps) p a i b =
     ⊎_elim
-    (λ e. Memᴰ.append_left (addresses s ps) (bytes-in s (firstByte s q.x) (byte_count s) q.y a b.k b.low
-    (b.at ∙ ap (λ (r : Px). byte_at s (firstByte s r.x + b.k) r.y) e)))
-    (λ j. Memᴰ.append_right (addressesOf s (firstByte s q.x) (byte_count s) q.y) (addresses-in s ps p a j b)) (Memᴰ.cases_cons i)
+    (λ e. Memᴰ.append_left (addresses s ps) (bytes-in s (first_byte s q.x) (byte_count s) q.y a b.k b.low
+    (b.at ∙ ap (λ (r : Px). byte_at s (first_byte s r.x + b.k) r.y) e)))
+    (λ j. Memᴰ.append_right (addresses_of s (first_byte s q.x) (byte_count s) q.y) (addresses-in s ps p a j b)) (Memᴰ.cases_cons i)
 
 -- ---- spans
 
@@ -125,26 +125,26 @@ rect-empty l t s x y w h none = no-pixel (rect l t x y w h) (λ p i. let r = in-
     no-pixel (p ∷ ps) f = absurd (f p (Memᴰ.head refl))
 
 -- of pixels with corners: from the first byte of the first to the last byte of the last
-pub corners-span : (s : Surface) {ps : List Px} {x y x' y' : ℕ} → Corners ps x y x' y' → x' < rowPixels s
-    → span_of s ps ≡ span (byte_at s (firstByte s x) y) (byte_at s (lastByte s x') y' + 1)
+pub corners-span : (s : Surface) {ps : List Px} {x y x' y' : ℕ} → Corners ps x y x' y' → x' < row_pixels s
+    → span_of s ps ≡ span (byte_at s (first_byte s x) y) (byte_at s (last_byte s x') y' + 1)
 unfolding span_of
 corners-span s {ps} {x} {y} {x'} {y'} c column =
     let some = some_byte s in
-    spanned-is (addresses s ps) (byte_at s (firstByte s x) y) (byte_at s (lastByte s x') y')
-    (addresses-in s ps (px x y) (byte_at s (firstByte s x) y) c.first
-    (record { k = 0; low = some; at = ap (λ (m : ℕ). byte_at s m y) (sym (add-zero (firstByte s x))) }))
-    (addresses-in s ps (px x' y') (byte_at s (lastByte s x') y') c.last (record { k = byte_count s - 1; low = omega arith; at = refl }))
+    spanned-is (addresses s ps) (byte_at s (first_byte s x) y) (byte_at s (last_byte s x') y')
+    (addresses-in s ps (px x y) (byte_at s (first_byte s x) y) c.first
+    (record { k = 0; low = some; at = ap (λ (m : ℕ). byte_at s m y) (sym (add-zero (first_byte s x))) }))
+    (addresses-in s ps (px x' y') (byte_at s (last_byte s x') y') c.last (record { k = byte_count s - 1; low = omega arith; at = refl }))
     (λ a i. let r = in-addresses s ps a i in held r.0 a (c.between r.0 r.1) r.2)
   where
-    held : (p : Px) (a : ℕ) → Between x y x' y' p → IsByte s p a → (byte_at s (firstByte s x) y ≤ a) × (a ≤ byte_at s (lastByte s x') y')
+    held : (p : Px) (a : ℕ) → Between x y x' y' p → IsByte s p a → (byte_at s (first_byte s x) y ≤ a) × (a ≤ byte_at s (last_byte s x') y')
     held p a i b =
         let inside = in_row s p.x b.k (omega arith) b.low in
-        let left = firstByte-mono s {x = x} {x' = p.x} i.left in
-        let right = firstByte-mono s {x = p.x} {x' = x'} i.right in (
-          subst (λ (n : ℕ). byte_at s (firstByte s x) y ≤ n) (sym b.at) (byteAt-mono s inside (omega arith) i.top),
-          subst (λ (n : ℕ). n ≤ byte_at s (lastByte s x') y') (sym b.at) (byteAt-mono s (last-in-row s x' column) (omega (arith, b.low)) i.bottom),
+        let left = first_byte-mono s {x = x} {x' = p.x} i.left in
+        let right = first_byte-mono s {x = p.x} {x' = x'} i.right in (
+          subst (λ (n : ℕ). byte_at s (first_byte s x) y ≤ n) (sym b.at) (byte_at-mono s inside (omega arith) i.top),
+          subst (λ (n : ℕ). n ≤ byte_at s (last_byte s x') y') (sym b.at) (byte_at-mono s (last-in-row s x' column) (omega (arith, b.low)) i.bottom),
         )
 
-pub rect-span : (l t : Bool) (s : Surface) (x y w h : ℕ) → 0 < w → 0 < h → x + (w - 1) < rowPixels s
-    → span_of s (rect l t x y w h) ≡ span (byte_at s (firstByte s x) y) (byte_at s (lastByte s (x + (w - 1))) (y + (h - 1)) + 1)
+pub rect-span : (l t : Bool) (s : Surface) (x y w h : ℕ) → 0 < w → 0 < h → x + (w - 1) < row_pixels s
+    → span_of s (rect l t x y w h) ≡ span (byte_at s (first_byte s x) y) (byte_at s (last_byte s (x + (w - 1))) (y + (h - 1)) + 1)
 rect-span l t s x y w h pw ph column = corners-span s (rect-corners l t x y w h pw ph) column

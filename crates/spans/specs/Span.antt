@@ -3,22 +3,22 @@
 use Rattle.std.specs.Prelude.{Bool, true, ◌&&◌, List, [], ◌∷◌, ◌++◌, ℕ, zero, suc, ◌+◌, min, max, ltb}
 use Rattle.surface.specs.declared.Surface.{Surface}
 use Rattle.spans.specs.declared.Span.{Span}
-use Rattle.surface.specs.Place.{byte_at, firstByte, byte_count, onSurface}
+use Rattle.surface.specs.Place.{byte_at, first_byte, byte_count, on_surface}
 use Rattle.surface.specs.Pixels.{Px}
 
 -- every pixel of the list is on the surface
-unfoldable pub allOn : Surface → ℕ → List Px → Bool
-allOn s len [] = true
-allOn s len (p ∷ ps) = onSurface s len p.x p.y && allOn s len ps
+unfoldable pub all_on : Surface → ℕ → List Px → Bool
+all_on s len [] = true
+all_on s len (p ∷ ps) = on_surface s len p.x p.y && all_on s len ps
 
 -- the addresses of n bytes of row y, and of all bytes of a list of pixels
-unfoldable pub addressesOf : Surface → ℕ → ℕ → ℕ → List ℕ
-addressesOf s column zero y = []
-addressesOf s column (suc n) y = byte_at s column y ∷ addressesOf s (suc column) n y
+unfoldable pub addresses_of : Surface → ℕ → ℕ → ℕ → List ℕ
+addresses_of s column zero y = []
+addresses_of s column (suc n) y = byte_at s column y ∷ addresses_of s (suc column) n y
 
 unfoldable pub addresses : Surface → List Px → List ℕ
 addresses s [] = []
-addresses s (p ∷ ps) = addressesOf s (firstByte s p.x) (byte_count s) p.y ++ addresses s ps
+addresses s (p ∷ ps) = addresses_of s (first_byte s p.x) (byte_count s) p.y ++ addresses s ps
 
 -- from the lowest address up to, and without, the one past the highest; both 0 where there is none
 abbrev pub span : ℕ → ℕ → Span

@@ -1,9 +1,9 @@
 // Which pixels are on a surface, and the span of a rectangle: from its lowest to its highest byte.
 ghost use Rattle.std.specs.Prelude.{◌≡◌, false, ◌+◌, ◌-◌, ◌^◌, ◌<◌, ◌≤◌};
-ghost use Rattle.surface.specs.Place.{rowPixels, firstByte, byte_count, onSurface};
+ghost use Rattle.surface.specs.Place.{row_pixels, first_byte, byte_count, on_surface};
 ghost use Rattle.surface.specs.Asked.{Small, Colour};
 ghost use Rattle.surface.specs.Pixels.{rect};
-ghost use Rattle.spans.specs.Span.{allOn, span_of, meet};
+ghost use Rattle.spans.specs.Span.{all_on, span_of, meet};
 ghost use Rattle.spans.specs.Asked.{InRow};
 
 use surface::Surface;
@@ -18,7 +18,7 @@ pub struct Span {
 // How many pixels a row has.
 pub fn row_pixels(s: Surface) -> usize
     requires { Small s }
-    ensures { result ≡ rowPixels s }
+    ensures { result ≡ row_pixels s }
 {
     let n = s.bytes;
     if n == 0 {
@@ -30,7 +30,7 @@ pub fn row_pixels(s: Surface) -> usize
 // The first byte of its row that pixel x lies in.
 fn first_byte(s: Surface, x: usize) -> usize
     requires { Small s × (x < 2 ^ 34) }
-    ensures { (result ≡ firstByte s x) × (result < 2 ^ 40) }
+    ensures { (result ≡ first_byte s x) × (result < 2 ^ 40) }
 {
     let n = s.bytes;
     if n == 0 {
@@ -42,7 +42,7 @@ fn first_byte(s: Surface, x: usize) -> usize
 // The last one.
 fn last_byte(s: Surface, x: usize) -> usize
     requires { Small s × (x < 2 ^ 34) }
-    ensures { (result ≡ firstByte s x + (byte_count s - 1)) × (result < 2 ^ 40) }
+    ensures { (result ≡ first_byte s x + (byte_count s - 1)) × (result < 2 ^ 40) }
 {
     let n = s.bytes;
     if n == 0 {
@@ -54,7 +54,7 @@ fn last_byte(s: Surface, x: usize) -> usize
 // Whether pixel (x, y) is on the surface, in a memory of len bytes.
 pub fn on_surface(len: usize, s: Surface, x: usize, y: usize) -> bool
     requires { Small s × ((x < 2 ^ 34) × (y < 2 ^ 34)) }
-    ensures { result ≡ onSurface s len x y }
+    ensures { result ≡ on_surface s len x y }
 {
     if x < row_pixels(s) {
         surface::byte_at(s, last_byte(s, x), y) < len
@@ -66,7 +66,7 @@ pub fn on_surface(len: usize, s: Surface, x: usize, y: usize) -> bool
 // The same of a colour pixel close to the origin: without a division, and no product has more than 32 bits.
 pub fn close_on(len: usize, s: Surface, x: u32, y: u32) -> bool
     requires { Colour s × (x < 2 ^ 13) × (y < 2 ^ 13) }
-    ensures { result ≡ onSurface s len x y }
+    ensures { result ≡ on_surface s len x y }
 {
     let last = x * s.bytes + (s.bytes - 1);
     if surface::wide(last) < surface::row_bytes(s) {
@@ -78,7 +78,7 @@ pub fn close_on(len: usize, s: Surface, x: u32, y: u32) -> bool
 // Whether every pixel of a rectangle is: where the last one is, all are.
 pub fn rect_on(len: usize, s: Surface, x: u32, y: u32, w: u32, h: u32) -> bool
     requires { Small s }
-    ensures { result ≡ allOn s len (rect false false x y w h) }
+    ensures { result ≡ all_on s len (rect false false x y w h) }
 {
     if w == 0 {
         return true;
@@ -97,7 +97,7 @@ pub fn rect_on(len: usize, s: Surface, x: u32, y: u32, w: u32, h: u32) -> bool
 // The same of w by h pixels at the origin of a colour surface, again without a division.
 pub fn box_on(len: usize, s: Surface, w: u32, h: u32) -> bool
     requires { Colour s × (w ≤ 2 ^ 13) × (h ≤ 2 ^ 13) }
-    ensures { result ≡ allOn s len (rect false false 0 0 w h) }
+    ensures { result ≡ all_on s len (rect false false 0 0 w h) }
 {
     if w == 0 {
         return true;

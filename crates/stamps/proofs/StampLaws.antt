@@ -10,7 +10,7 @@ use native.Mathlib.Decide.{dec_lt}
 use lib.ListN.{length, get_or}
 use lib.Seq.{ext_get_or}
 use Rattle.surface.specs.declared.Surface.{Surface}
-use Rattle.surface.specs.Place.{byte_at, firstByte}
+use Rattle.surface.specs.Place.{byte_at, first_byte}
 use Rattle.surface.specs.Pixels.{Px}
 use Rattle.surface.proofs.OnLaws.{some_byte}
 use Rattle.surface.proofs.Lists.{by_cases}
@@ -20,12 +20,12 @@ use Rattle.bank.specs.declared.Bank.{Bank}
 use Rattle.cuts.specs.declared.Cut.{Cut}
 use Rattle.command.specs.Decode.{target}
 use Rattle.pages.specs.declared.Extent.{Extent}
-use Rattle.pages.specs.Pages.{noMarks, marking}
+use Rattle.pages.specs.Pages.{no_marks, marking}
 use Rattle.pages.proofs.ExtentLaws.{extent-holds, extent-whole, extent-past}
-use Rattle.bitmap.specs.Bits.{bitsIn, byte_of, with_bits, withMarks}
+use Rattle.bitmap.specs.Bits.{bits_in, byte_of, with_bits, with_marks}
 use Rattle.bitmap.proofs.BitLaws.{with-bits, with-marks-added, bits-others, marks-others, byte-back}
 use Rattle.acts.specs.declared.Blit.{Blit}
-use Rattle.trail.specs.Trail.{wetBy, boxBy, extentBy}
+use Rattle.trail.specs.Trail.{wet_by, box_by, extent_by}
 use Rattle.trail.specs.Asked.{Went}
 use Rattle.trail.proofs.Wets.{lies}
 use Rattle.stamps.specs.Stamps.{Stamped}
@@ -34,15 +34,15 @@ use Rattle.stamps.specs.Stamps.{Stamped}
 some-address : (s : Surface) (ps : List Px) → 0 < length ps → (a : ℕ) × Memᴰ a (addresses s ps)
 some-address s [] h = absurd (omega arith)
 some-address s (p ∷ ps) h =
-    let a = byte_at s (firstByte s p.x + 0) p.y in
+    let a = byte_at s (first_byte s p.x + 0) p.y in
     (a, addresses-in s (p ∷ ps) p a (Memᴰ.head refl) (record { k = 0; low = some_byte s; at = refl }))
 
 module _ (b : Bank) (k : Blit) (ws m : List ℕ) (count : ℕ) (w : Went b k ws m count) where
   abbrev e : Extent
-  e = extentBy b.regs k.taken (length ws) count
+  e = extent_by b.regs k.taken (length ws) count
 
   abbrev box : Cut
-  box = boxBy b.regs k.taken (length ws)
+  box = box_by b.regs k.taken (length ws)
 
   pub past-most : e.past ≤ 4096
   past-most = extent-past (target b.regs) box.x box.y box.w box.h count
@@ -50,7 +50,7 @@ module _ (b : Bank) (k : Blit) (ws m : List ℕ) (count : ℕ) (w : Went b k ws 
   -- the first of its pages is none after the last
   up : e.first + (e.past - e.first) ≡ e.past
   up =
-      let a = some-address (target b.regs) (wetBy b k ws m) (omega (arith, w.some, w.many)) in
+      let a = some-address (target b.regs) (wet_by b k ws m) (omega (arith, w.some, w.many)) in
       let h = extent-holds (lies b k ws m count w) a.0 a.1 in
       omega (arith, h.0, h.1)
 
@@ -59,27 +59,27 @@ module _ (b : Bank) (k : Blit) (ws m : List ℕ) (count : ℕ) (w : Went b k ws 
 
   module _ (s : List ℕ) (at : ℕ) (held : at + 512 ≤ length s) where
     abbrev Done : List ℕ → Type 0
-    Done t = Stamped s t at (marking (target b.regs) (wetBy b k ws m) (bitsIn s at))
+    Done t = Stamped s t at (marking (target b.regs) (wet_by b k ws m) (bits_in s at))
 
     pub stamped-run : e.whole ≡ true → {t : List ℕ} {f : Extent} → f ≡ e → t ≡ with_bits s at f.first (f.past - f.first) → Done t
     stamped-run whole {t} {f} same put =
         let others = bits-others s at e.first (e.past - e.first) fits in
         subst Done (sym (put ∙ ap (λ (x : Extent). with_bits s at x.first (x.past - x.first)) same))
         (record {
-          bits = with-bits s at e.first (e.past - e.first) held fits ∙ sym (extent-whole (lies b k ws m count w) whole (bitsIn s at));
+          bits = with-bits s at e.first (e.past - e.first) held fits ∙ sym (extent-whole (lies b k ws m count w) whole (bits_in s at));
           long = others.long;
           same = others.same;
           bytes = others.bytes;
         })
 
-    pub stamped-found : {t : List ℕ} {f : Extent} {found clear : List Bool} → f ≡ e → clear ≡ noMarks → found ≡ marking (target b.regs) (wetBy b k ws m) clear
-        → t ≡ withMarks s at found f.first (f.past - f.first) → Done t
+    pub stamped-found : {t : List ℕ} {f : Extent} {found clear : List Bool} → f ≡ e → clear ≡ no_marks → found ≡ marking (target b.regs) (wet_by b k ws m) clear
+        → t ≡ with_marks s at found f.first (f.past - f.first) → Done t
     stamped-found {t} {f} {found} {clear} same none_yet walked put =
         let others = marks-others s at found e.first (e.past - e.first) fits in
-        subst Done (sym (put ∙ ap (λ (x : Extent). withMarks s at found x.first (x.past - x.first)) same))
+        subst Done (sym (put ∙ ap (λ (x : Extent). with_marks s at found x.first (x.past - x.first)) same))
         (record {
-          bits = with-marks-added s at found e.first (e.past - e.first) (addresses (target b.regs) (wetBy b k ws m)) held fits
-              (walked ∙ ap (marking (target b.regs) (wetBy b k ws m)) none_yet)
+          bits = with-marks-added s at found e.first (e.past - e.first) (addresses (target b.regs) (wet_by b k ws m)) held fits
+              (walked ∙ ap (marking (target b.regs) (wet_by b k ws m)) none_yet)
               (λ a i. let h = extent-holds (lies b k ws m count w) a i in (h.0, omega (arith, h.1, up)));
           long = others.long;
           same = others.same;

@@ -2,9 +2,9 @@
 ghost use Rattle.std.specs.Prelude.{◌≡◌, ◌+◌, ◌≤◌, length};
 ghost use Rattle.command.specs.Decode.{target};
 ghost use Rattle.pages.specs.Pages.{marking};
-ghost use Rattle.bitmap.specs.Bits.{bitsIn};
-ghost use Rattle.acts.specs.Deed.{bankOf};
-ghost use Rattle.trail.specs.Trail.{wetBy};
+ghost use Rattle.bitmap.specs.Bits.{bits_in};
+ghost use Rattle.acts.specs.Deed.{bank_of};
+ghost use Rattle.trail.specs.Trail.{wet_by};
 ghost use Rattle.trail.specs.Asked.{Went};
 ghost use Rattle.stamps.specs.Stamps.{Stamped};
 
@@ -23,8 +23,8 @@ pub fn stamp(
     words: &[u32],
     count: u32,
 )
-    requires { Went (bankOf r pattern.now) blit words.now mem.now count × (at + 512 ≤ length s.old) }
-    ensures { Stamped s.old s.new at (marking (target r) (wetBy (bankOf r pattern.now) blit words.now mem.now) (bitsIn s.old at)) }
+    requires { Went (bank_of r pattern.now) blit words.now mem.now count × (at + 512 ≤ length s.old) }
+    ensures { Stamped s.old s.new at (marking (target r) (wet_by (bank_of r pattern.now) blit words.now mem.now) (bits_in s.old at)) }
 {
     let e = trail::extent_of(r, blit.taken, words.len() as u32, count);
     if e.whole {

@@ -10,7 +10,7 @@ use lib.Dec.{eqb}
 use lib.ListN.{length, get_or, set, drop, replicate, length-take, length-drop, length-replicate, get_or-replicate}
 use lib.Seq.{get_or-set_same, get_or-set_other, get_or-take, get_or-drop, ext_get_or}
 use borrow.Author.Tests.{eqb-true, eqb-false}
-use Rattle.state.specs.Layout.{patternAt, patternIn, stateSize}
+use Rattle.state.specs.Layout.{pattern_at, pattern_in, state_size}
 
 -- f holds below i, and at i: it holds below i + 1
 next : (P : ℕ → Type 0) (i : ℕ) → ((k : ℕ) → k < i → P k) → P i → (k : ℕ) → k < i + 1 → P k
@@ -28,18 +28,18 @@ module _ (p : List ℕ) (i v : ℕ) (h : i < length p) (f : ℕ → ℕ) (before
 -- ---- the pattern copied out of a state
 
 pub record Copied (s p : List ℕ) (i : ℕ) : Type 0 where
-  pub each : (k : ℕ) → k < i → get_or p k 0 ≡ get_or s (patternAt + k) 0
+  pub each : (k : ℕ) → k < i → get_or p k 0 ≡ get_or s (pattern_at + k) 0
 
 pub copied_none : (s p : List ℕ) → Copied s p 0
 copied_none s p = record { each = λ k h. absurd (not-suc-le-zero h) }
 
-pub copied_next : (s p : List ℕ) (i : ℕ) → i < length p → Copied s p i → Copied s (set p i (get_or s (patternAt + i) 0)) (i + 1)
-copied_next s p i h c = record { each = stored p i (get_or s (patternAt + i) 0) h (λ k. get_or s (patternAt + k) 0) c.each refl }
+pub copied_next : (s p : List ℕ) (i : ℕ) → i < length p → Copied s p i → Copied s (set p i (get_or s (pattern_at + i) 0)) (i + 1)
+copied_next s p i h c = record { each = stored p i (get_or s (pattern_at + i) 0) h (λ k. get_or s (pattern_at + k) 0) c.each refl }
 
-pub copied_all : (s p : List ℕ) → length s ≡ stateSize → length p ≡ 256 → Copied s p 256 → p ≡ patternIn s
+pub copied_all : (s p : List ℕ) → length s ≡ state_size → length p ≡ 256 → Copied s p 256 → p ≡ pattern_in s
 copied_all s p l m c =
-    ext_get_or 0 p (patternIn s) (simp (length-take, length-drop) (omega arith))
-    (λ k h. c.each k (omega arith) ∙ sym (get_or-take 256 (drop patternAt s) k 0 (omega arith) ∙ get_or-drop patternAt s k 0))
+    ext_get_or 0 p (pattern_in s) (simp (length-take, length-drop) (omega arith))
+    (λ k h. c.each k (omega arith) ∙ sym (get_or-take 256 (drop pattern_at s) k 0 (omega arith) ∙ get_or-drop pattern_at s k 0))
 
 -- ---- a run cleared
 
@@ -52,7 +52,7 @@ cleared-none s = record { each = λ k h. absurd (not-suc-le-zero h) }
 pub cleared-next : (s : List ℕ) (i : ℕ) → i < length s → Cleared s i → Cleared (set s i 0) (i + 1)
 cleared-next s i h c = record { each = stored s i 0 h (λ k. 0) c.each refl }
 
-pub cleared-all : (s : List ℕ) → length s ≡ stateSize → Cleared s stateSize → s ≡ replicate stateSize 0
+pub cleared-all : (s : List ℕ) → length s ≡ state_size → Cleared s state_size → s ≡ replicate state_size 0
 cleared-all s l c =
-    ext_get_or 0 s (replicate stateSize 0) (l ∙ sym (length-replicate {A = ℕ} stateSize 0))
-    (λ k h. c.each k (omega arith) ∙ sym (get_or-replicate stateSize k 0 0 (omega arith)))
+    ext_get_or 0 s (replicate state_size 0) (l ∙ sym (length-replicate {A = ℕ} state_size 0))
+    (λ k h. c.each k (omega arith) ∙ sym (get_or-replicate state_size k 0 0 (omega arith)))

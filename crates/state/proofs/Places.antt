@@ -13,9 +13,9 @@ use borrow.Author.Tests.{lt-ltb, eqb-true, eqb-false}
 use Rattle.registers.specs.Kept.{one_of}
 use Rattle.registers.proofs.Arms.{Each}
 use Rattle.engine.specs.declared.Engine.{Engine}
-use Rattle.basics.specs.Word.{wordAt, withWord}
+use Rattle.basics.specs.Word.{word_at, with_word}
 use Rattle.basics.proofs.WordLaws.{four_bytes}
-use Rattle.state.specs.Layout.{stateSize, patternAt, byte_of, slot, byteIn, run, encoded, withSlots}
+use Rattle.state.specs.Layout.{state_size, pattern_at, byte_of, slot, byte_in, run, encoded, with_slots}
 
 -- ---- four numbers put at four places in a row
 
@@ -72,14 +72,14 @@ module _ (p : List ℕ) (i a b c d : ℕ) where
 
 -- ---- a word put into bytes: its own four, and the others
 
-pub word-own : (s : List ℕ) (i d : ℕ) → i + 4 ≤ length s → (k : ℕ) → k / 4 * 4 ≡ i → get_or (withWord s i d) k 0 ≡ byte_of d (k % 4)
-unfolding withWord byte_of
+pub word-own : (s : List ℕ) (i d : ℕ) → i + 4 ≤ length s → (k : ℕ) → k / 4 * 4 ≡ i → get_or (with_word s i d) k 0 ≡ byte_of d (k % 4)
+unfolding with_word byte_of
 word-own s i d h k e =
     own s i (d % 2 ^ 8) (d / 2 ^ 8 % 2 ^ 8) (d / 2 ^ 16 % 2 ^ 8) (d / 2 ^ 24 % 2 ^ 8) h k e (eqb (k % 4) 0) (eqb (k % 4) 1) (eqb (k % 4) 2) refl refl refl
 
 -- four bytes that are a number's make it
-pub word-from : (s : List ℕ) (i d : ℕ) → d < 2 ^ 32 → ((k : ℕ) → k < 4 → get_or s (i + k) 0 ≡ byte_of d k) → wordAt s i ≡ d
-unfolding wordAt byte_of
+pub word-from : (s : List ℕ) (i d : ℕ) → d < 2 ^ 32 → ((k : ℕ) → k < 4 → get_or s (i + k) 0 ≡ byte_of d k) → word_at s i ≡ d
+unfolding word_at byte_of
 word-from s i d f h =
     let b0 : get_or s i 0 ≡ d % 2 ^ 8 = ap (λ n. get_or s n 0) (sym (add-zero i)) ∙ h 0 (omega arith) in
     let b1 : get_or s (i + 1) 0 ≡ d / 2 ^ 8 % 2 ^ 8 = h 1 (omega arith) in
@@ -87,12 +87,12 @@ word-from s i d f h =
     let b3 : get_or s (i + 3) 0 ≡ d / 2 ^ 24 % 2 ^ 8 = h 3 (omega arith) in
     rw (b0, b1, b2, b3) (four_bytes d f)
 
-pub word-other : (s : List ℕ) (i d : ℕ) → i % 4 ≡ 0 → (k : ℕ) → (k / 4 * 4 ≡ i → ⊥) → get_or (withWord s i d) k 0 ≡ get_or s k 0
-unfolding withWord
+pub word-other : (s : List ℕ) (i d : ℕ) → i % 4 ≡ 0 → (k : ℕ) → (k / 4 * 4 ≡ i → ⊥) → get_or (with_word s i d) k 0 ≡ get_or s k 0
+unfolding with_word
 word-other s i d m k h = other s i (d % 2 ^ 8) (d / 2 ^ 8 % 2 ^ 8) (d / 2 ^ 16 % 2 ^ 8) (d / 2 ^ 24 % 2 ^ 8) m k h
 
-pub word-length : (s : List ℕ) (i d : ℕ) → length (withWord s i d) ≡ length s
-unfolding withWord
+pub word-length : (s : List ℕ) (i d : ℕ) → length (with_word s i d) ≡ length s
+unfolding with_word
 word-length s i d = simp length-set
 
 -- ---- an engine's bytes
@@ -108,36 +108,36 @@ run_at f i (suc n) (suc k) h =
     let e : i + 1 + k ≡ i + suc k = omega arith in
     run_at f (i + 1) n k (le_of_suc-le-suc h) ∙ ap f e
 
-pub encoded-length : (e : Engine) → length (encoded e) ≡ stateSize
+pub encoded-length : (e : Engine) → length (encoded e) ≡ state_size
 unfolding encoded
-encoded-length e = length_run (byteIn e) 0 stateSize
+encoded-length e = length_run (byte_in e) 0 state_size
 
-pub encoded-byte : (e : Engine) (k : ℕ) → k < stateSize → get_or (encoded e) k 0 ≡ byteIn e k
+pub encoded-byte : (e : Engine) (k : ℕ) → k < state_size → get_or (encoded e) k 0 ≡ byte_in e k
 unfolding encoded
-encoded-byte e k h = run_at (byteIn e) 0 stateSize k h ∙ ap (byteIn e) (zero-add k)
+encoded-byte e k h = run_at (byte_in e) 0 state_size k h ∙ ap (byte_in e) (zero-add k)
 
 -- bytes that are an engine's one by one
-pub same_bytes : (s : List ℕ) (e : Engine) → length s ≡ stateSize → ((k : ℕ) → k < stateSize → get_or s k 0 ≡ byteIn e k) → s ≡ encoded e
+pub same_bytes : (s : List ℕ) (e : Engine) → length s ≡ state_size → ((k : ℕ) → k < state_size → get_or s k 0 ≡ byte_in e k) → s ≡ encoded e
 same_bytes s e l h =
     ext_get_or 0 s (encoded e) (l ∙ sym (encoded-length e))
-    (λ k b. let c : k < stateSize = omega arith in h k c ∙ sym (encoded-byte e k c))
+    (λ k b. let c : k < state_size = omega arith in h k c ∙ sym (encoded-byte e k c))
 
 -- ---- words of an engine laid over bytes that hold the rest of it
 
 abbrev pub Word : ℕ → Type 0
-Word o = (o % 4 ≡ 0) × (o < patternAt)
+Word o = (o % 4 ≡ 0) × (o < pattern_at)
 
-byte-of-word : (e : Engine) (o k : ℕ) → Word o → k / 4 * 4 ≡ o → byte_of (slot e o) (k % 4) ≡ byteIn e k
-unfolding byteIn
-byte-of-word e o k w q = let h : k < patternAt = omega arith in rw (lt-ltb k patternAt h, q)
+byte-of-word : (e : Engine) (o k : ℕ) → Word o → k / 4 * 4 ≡ o → byte_of (slot e o) (k % 4) ≡ byte_in e k
+unfolding byte_in
+byte-of-word e o k w q = let h : k < pattern_at = omega arith in rw (lt-ltb k pattern_at h, q)
 
-pub slots-laid : (os : List ℕ) (s : List ℕ) (e : Engine) → length s ≡ stateSize → Each Word os
-    → ((k : ℕ) → k < stateSize → one_of (k / 4 * 4) os ≡ false → get_or s k 0 ≡ byteIn e k) → withSlots s e os ≡ encoded e
+pub slots-laid : (os : List ℕ) (s : List ℕ) (e : Engine) → length s ≡ state_size → Each Word os
+    → ((k : ℕ) → k < state_size → one_of (k / 4 * 4) os ≡ false → get_or s k 0 ≡ byte_in e k) → with_slots s e os ≡ encoded e
 slots-laid [] s e l w h = same_bytes s e l (λ k b. h k b refl)
 slots-laid (o ∷ os) s e l (w, ws) h =
-    slots-laid os (withWord s o (slot e o)) e (word-length s o (slot e o) ∙ l) ws (λ k b f. by-test k b f (eqb (k / 4 * 4) o) refl)
+    slots-laid os (with_word s o (slot e o)) e (word-length s o (slot e o) ∙ l) ws (λ k b f. by-test k b f (eqb (k / 4 * 4) o) refl)
   where
-    by-test : (k : ℕ) → k < stateSize → one_of (k / 4 * 4) os ≡ false → (t : Bool) → eqb (k / 4 * 4) o ≡ t → get_or (withWord s o (slot e o)) k 0 ≡ byteIn e k
+    by-test : (k : ℕ) → k < state_size → one_of (k / 4 * 4) os ≡ false → (t : Bool) → eqb (k / 4 * 4) o ≡ t → get_or (with_word s o (slot e o)) k 0 ≡ byte_in e k
     by-test k b f true q =
         let z = eqb-true (k / 4 * 4) o q in
         word-own s o (slot e o) (omega arith) k z ∙ byte-of-word e o k w z

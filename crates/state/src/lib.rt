@@ -1,6 +1,6 @@
 // The state of an engine as bytes, laid out as specs/Layout.antt says.
 ghost use Rattle.std.specs.Prelude.{◌≡◌, true, ◌^◌, ◌≤◌, length, replicate};
-ghost use Rattle.state.specs.Layout.{stateSize, regs_in, patternIn, openedIn, roomIn, decoded, isState, Bytes, withSlots, commandSlots, followed};
+ghost use Rattle.state.specs.Layout.{state_size, regs_in, pattern_in, opened_in, room_in, decoded, is_state, Bytes, with_slots, command_slots, followed};
 
 use acts::Blit;
 use bank::Bank;
@@ -10,7 +10,7 @@ use rooms::{Room, Rooms};
 
 // Whether open made these bytes: their number, the mark, and a flag that is one.
 pub fn is_state(s: &[u8]) -> bool
-    ensures { (result ≡ isState s.now) × (result ≡ true → Bytes s.now) }
+    ensures { (result ≡ is_state s.now) × (result ≡ true → Bytes s.now) }
 {
     if s.len() != 396 {
         return false;
@@ -19,41 +19,41 @@ pub fn is_state(s: &[u8]) -> bool
 }
 
 fn decode_regs(s: &[u8]) -> Regs
-    requires { length s.now ≡ stateSize }
+    requires { length s.now ≡ state_size }
     ensures { result ≡ regs_in s.now }
 {
     Regs {
-        clip0Min: basics::word_at(s, 0x08),
-        clip0Max: basics::word_at(s, 0x0c),
-        dstBaseAddr: basics::word_at(s, 0x10),
-        dstFormat: basics::word_at(s, 0x14),
-        srcColorkeyMin: basics::word_at(s, 0x18),
-        srcColorkeyMax: basics::word_at(s, 0x1c),
-        dstColorkeyMin: basics::word_at(s, 0x20),
-        dstColorkeyMax: basics::word_at(s, 0x24),
-        bresError0: basics::word_at(s, 0x28),
-        bresError1: basics::word_at(s, 0x2c),
+        clip0_min: basics::word_at(s, 0x08),
+        clip0_max: basics::word_at(s, 0x0c),
+        dst_base_addr: basics::word_at(s, 0x10),
+        dst_format: basics::word_at(s, 0x14),
+        src_colorkey_min: basics::word_at(s, 0x18),
+        src_colorkey_max: basics::word_at(s, 0x1c),
+        dst_colorkey_min: basics::word_at(s, 0x20),
+        dst_colorkey_max: basics::word_at(s, 0x24),
+        bres_error0: basics::word_at(s, 0x28),
+        bres_error1: basics::word_at(s, 0x2c),
         rop: basics::word_at(s, 0x30),
-        srcBaseAddr: basics::word_at(s, 0x34),
-        commandExtra: basics::word_at(s, 0x38),
-        lineStipple: basics::word_at(s, 0x3c),
-        lineStyle: basics::word_at(s, 0x40),
-        clip1Min: basics::word_at(s, 0x4c),
-        clip1Max: basics::word_at(s, 0x50),
-        srcFormat: basics::word_at(s, 0x54),
-        srcSize: basics::word_at(s, 0x58),
-        srcXY: basics::word_at(s, 0x5c),
-        colorBack: basics::word_at(s, 0x60),
-        colorFore: basics::word_at(s, 0x64),
-        dstSize: basics::word_at(s, 0x68),
-        dstXY: basics::word_at(s, 0x6c),
+        src_base_addr: basics::word_at(s, 0x34),
+        command_extra: basics::word_at(s, 0x38),
+        line_stipple: basics::word_at(s, 0x3c),
+        line_style: basics::word_at(s, 0x40),
+        clip1_min: basics::word_at(s, 0x4c),
+        clip1_max: basics::word_at(s, 0x50),
+        src_format: basics::word_at(s, 0x54),
+        src_size: basics::word_at(s, 0x58),
+        src_xy: basics::word_at(s, 0x5c),
+        color_back: basics::word_at(s, 0x60),
+        color_fore: basics::word_at(s, 0x64),
+        dst_size: basics::word_at(s, 0x68),
+        dst_xy: basics::word_at(s, 0x6c),
         command: basics::word_at(s, 0x70),
     }
 }
 
 fn decode_pattern(s: &[u8]) -> [u8; 256]
-    requires { length s.now ≡ stateSize }
-    ensures { result ≡ patternIn s.now }
+    requires { length s.now ≡ state_size }
+    ensures { result ≡ pattern_in s.now }
 {
     let mut p = [0u8; 256];
     let mut i = 0;
@@ -65,15 +65,15 @@ fn decode_pattern(s: &[u8]) -> [u8; 256]
 }
 
 pub fn opened_for(s: &[u8]) -> usize
-    requires { length s.now ≡ stateSize }
-    ensures { result ≡ openedIn s.now }
+    requires { length s.now ≡ state_size }
+    ensures { result ≡ opened_in s.now }
 {
     basics::word_at(s, 0x74) as usize + basics::word_at(s, 0x78) as usize * 0x1_0000_0000
 }
 
 fn decode_room(s: &[u8], at: usize) -> Room
-    requires { (length s.now ≡ stateSize) × (at ≤ 0x84) }
-    ensures { result ≡ roomIn s.now at }
+    requires { (length s.now ≡ state_size) × (at ≤ 0x84) }
+    ensures { result ≡ room_in s.now at }
 {
     Room {
         pixels: basics::word_at(s, at),
@@ -82,7 +82,7 @@ fn decode_room(s: &[u8], at: usize) -> Room
 }
 
 pub fn decode(s: &[u8]) -> Engine
-    requires { length s.now ≡ stateSize }
+    requires { length s.now ≡ state_size }
     ensures { result ≡ decoded s.now }
 {
     let regs = decode_regs(s);
@@ -107,15 +107,15 @@ pub fn decode(s: &[u8]) -> Engine
 
 // What a command can change: four registers and the host blit.
 pub fn save(s: &mut [u8], e: Engine)
-    requires { length s.old ≡ stateSize }
-    ensures { s.new ≡ withSlots s.old e commandSlots }
+    requires { length s.old ≡ state_size }
+    ensures { s.new ≡ with_slots s.old e command_slots }
 {
     let bank = e.bank;
     let regs = bank.regs;
     let blit = e.blit;
-    basics::put_word(s, 0x40, regs.lineStyle);
-    basics::put_word(s, 0x5c, regs.srcXY);
-    basics::put_word(s, 0x6c, regs.dstXY);
+    basics::put_word(s, 0x40, regs.line_style);
+    basics::put_word(s, 0x5c, regs.src_xy);
+    basics::put_word(s, 0x6c, regs.dst_xy);
     basics::put_word(s, 0x70, regs.command);
     let waiting = blit.waiting;
     basics::put_word(s, 4, waiting as u32);
@@ -125,7 +125,7 @@ pub fn save(s: &mut [u8], e: Engine)
 
 // What is kept of the surface that a register belongs to, worked out anew after a store into it.
 pub fn follow(s: &mut [u8], len: u32, offset: u32)
-    requires { (length s.old ≡ stateSize) × (len ≤ 2 ^ 24) }
+    requires { (length s.old ≡ state_size) × (len ≤ 2 ^ 24) }
     ensures { s.new ≡ followed s.old len offset }
 {
     match offset {
@@ -144,8 +144,8 @@ pub fn follow(s: &mut [u8], len: u32, offset: u32)
 }
 
 pub fn clear(s: &mut [u8])
-    requires { length s.old ≡ stateSize }
-    ensures { s.new ≡ replicate stateSize 0 }
+    requires { length s.old ≡ state_size }
+    ensures { s.new ≡ replicate state_size 0 }
 {
     let mut i = 0;
     while i < 396 {

@@ -163,17 +163,17 @@ pub fn straight_rows(
     t: Straight,
     w: u32,
     h: u32,
-    toLeft: bool,
-    toTop: bool,
+    to_left: bool,
+    to_top: bool,
 ) -> Tally
     requires { CanCopy t w h (length mem.old) }
-    ensures { tallied mem.new result ≡ paint t.target (straightly t (rect toLeft toTop t.x t.y w h)) (state mem.old 0 0) }
+    ensures { tallied mem.new result ≡ paint t.target (straightly t (rect to_left to_top t.x t.y w h)) (state mem.old 0 0) }
 {
     let mut changed = 0;
     let mut i = 0;
     while i < h {
-        let j = paint::place(toTop, 0, h, i);
-        changed += straight_row(mem, t, w, j, toLeft);
+        let j = paint::place(to_top, 0, h, i);
+        changed += straight_row(mem, t, w, j, to_left);
         i += 1;
     }
     let count = w * h;

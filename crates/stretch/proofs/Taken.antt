@@ -10,9 +10,9 @@ use Rattle.spans.proofs.Corner.{all-each}
 use Rattle.scale.specs.declared.Scale.{Scale}
 use Rattle.scale.specs.declared.Stretch.{Stretch}
 use Rattle.scale.specs.declared.Walk.{Walk}
-use Rattle.scale.specs.Scale.{scaled, walkAt, next_of}
+use Rattle.scale.specs.Scale.{scaled, walk_at, next_of}
 use Rattle.scale.specs.Asked.{OnScale, Steps, CanStretch}
-use Rattle.scale.specs.Stretch.{takenAt}
+use Rattle.scale.specs.Stretch.{taken_at}
 use Rattle.scale.proofs.ScaleLaws.{next-walk, walk_steps}
 use Rattle.stretch.specs.Asked.{TakesFrom, RowTakes}
 
@@ -23,36 +23,36 @@ on-between first last c l h = record {
   past = omega (arith, last.past);
   some = first.some;
   size = first.size;
-  sourceSize = first.sourceSize;
+  source_size = first.source_size;
   from = first.from;
 }
 
 -- a walk at place number i from a first one can step, and then it is at the next
-module _ {s : Scale} (at n i : ℕ) (first : OnScale s (origin + at)) (last : OnScale s (origin + (at + n))) {walk : Walk} (here : walk ≡ walkAt s (origin + (at + i))) (h : i < n) where
+module _ {s : Scale} (at n i : ℕ) (first : OnScale s (origin + at)) (last : OnScale s (origin + (at + n))) {walk : Walk} (here : walk ≡ walk_at s (origin + (at + i))) (h : i < n) where
   on-way : OnScale s (origin + (at + i))
   on-way = on-between first last (origin + (at + i)) (omega arith) (omega arith)
 
   pub can-step : Steps walk
   can-step = subst⁻¹ Steps here (walk_steps s (origin + (at + i)) on-way)
 
-  pub steps_on : {walk' : Walk} → walk' ≡ next_of walk → walk' ≡ walkAt s (origin + (at + (i + 1)))
+  pub steps_on : {walk' : Walk} → walk' ≡ next_of walk → walk' ≡ walk_at s (origin + (at + (i + 1)))
   steps_on next =
       let e : origin + (at + i) + 1 ≡ origin + (at + (i + 1)) = omega arith in
-      next ∙ ap next_of here ∙ next-walk s (origin + (at + i)) on-way ∙ ap (walkAt s) e
+      next ∙ ap next_of here ∙ next-walk s (origin + (at + i)) on-way ∙ ap (walk_at s) e
 
 -- a walk at the first place is at place number 0 from it
-pub walk_begins : (s : Scale) (at : ℕ) {walk : Walk} → walk ≡ walkAt s (origin + at) → walk ≡ walkAt s (origin + (at + 0))
-walk_begins s at e = let place : origin + at ≡ origin + (at + 0) = omega arith in e ∙ ap (walkAt s) place
+pub walk_begins : (s : Scale) (at : ℕ) {walk : Walk} → walk ≡ walk_at s (origin + at) → walk ≡ walk_at s (origin + (at + 0))
+walk_begins s at e = let place : origin + at ≡ origin + (at + 0) = omega arith in e ∙ ap (walk_at s) place
 
 -- the source place of a walk
-pub walk-place : (s : Scale) (place : ℕ) {walk : Walk} → walk ≡ walkAt s place → walk.at ≡ scaled s place
-unfolding walkAt
+pub walk-place : (s : Scale) (place : ℕ) {walk : Walk} → walk ≡ walk_at s place → walk.at ≡ scaled s place
+unfolding walk_at
 walk-place s place e = ap (λ (k : Walk). k.at) e
 
 -- ---- the rows of a rectangle
 module _ {t : Stretch} {x y w h len : ℕ} (can : CanStretch t x y w h len) where
   pub can-take : (i j : ℕ) → i < w → j < h → TakesFrom t (x + i) (y + j) len
-  unfolding takenAt
+  unfolding taken_at
   can-take i j li lj =
       let inside : Inside x y w h (px (x + i) (y + j)) = omega arith in
       let source = can.source (px (x + i) (y + j)) inside in

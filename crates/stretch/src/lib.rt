@@ -4,15 +4,15 @@ ghost use Rattle.surface.specs.Place.{differ};
 ghost use Rattle.surface.specs.Pixels.{px, across, rect};
 ghost use Rattle.paint.specs.Asked.{Room};
 ghost use Rattle.paint.specs.Paint.{state, tallied, paint};
-ghost use Rattle.sweep.specs.Copy.{sourceFrom};
+ghost use Rattle.sweep.specs.Copy.{source_from};
 ghost use Rattle.sweep.specs.Asked.{SourceKey, TargetKey, Laid};
-ghost use Rattle.scale.specs.Stretch.{stretched, stretchedInTurn};
+ghost use Rattle.scale.specs.Stretch.{stretched, stretched_in_turn};
 ghost use Rattle.scale.specs.Asked.{CanStretch};
 ghost use Rattle.straight.specs.Straight.{copied};
 ghost use Rattle.straight.specs.Asked.{PixelCopies};
-ghost use Rattle.rect.specs.Fast.{straightOf};
+ghost use Rattle.rect.specs.Fast.{straight_of};
 ghost use Rattle.rect.specs.Asked.{Flat};
-ghost use Rattle.stretch.specs.Row.{openTask, in_row, straightly};
+ghost use Rattle.stretch.specs.Row.{open_task, in_row, straightly};
 ghost use Rattle.stretch.specs.Asked.{row_of, RowTakes, ColumnsAt, RunAt, OnSource, Begins};
 
 use keys::Range;
@@ -22,7 +22,7 @@ use sweep::Task;
 
 // The copy of a pixel, with its places left open.
 fn task_of(t: Stretch) -> Task
-    ensures { result ≡ openTask t }
+    ensures { result ≡ open_task t }
 {
     let ink = t.ink;
     let from = t.from;
@@ -47,8 +47,8 @@ fn straight_pixel(
     d: usize,
     s: usize,
 ) -> bool
-    requires { PixelCopies (straightOf (openTask t)) from to d s (length mem.old) × (keyed ≡ t.ink.srcKey) }
-    ensures { (mem.new ≡ copied (straightOf (openTask t)) d s mem.old) × (result ≡ differ (λ k. d + k) to mem.old mem.new) }
+    requires { PixelCopies (straight_of (open_task t)) from to d s (length mem.old) × (keyed ≡ t.ink.src_key) }
+    ensures { (mem.new ≡ copied (straight_of (open_task t)) d s mem.old) × (result ≡ differ (λ k. d + k) to mem.old mem.new) }
 {
     let k = rect::straight_of(task_of(t));
     if keyed {
@@ -72,7 +72,7 @@ fn straight_across(
     y: u32,
     w: u32,
 ) -> u32
-    requires { RowTakes t x y w (length mem.old) × (ColumnsAt t columns x × (RunAt t from to d s x y × (keyed ≡ t.ink.srcKey))) }
+    requires { RowTakes t x y w (length mem.old) × (ColumnsAt t columns x × (RunAt t from to d s x y × (keyed ≡ t.ink.src_key))) }
     ensures { state mem.new w result ≡ paint t.ink.target (straightly t (across false x w y)) (state mem.old 0 0) }
 {
     let mut walk = columns;
@@ -90,14 +90,14 @@ fn straight_across(
 
 // Row y, without a key in loops of their own for one format and for 16 and 32 bits; its source is row sy.
 fn straight_row(mem: &mut [u8], t: Stretch, columns: Walk, sy: u32, x: u32, y: u32, w: u32) -> u32
-    requires { RowTakes t x y w (length mem.old) × (ColumnsAt t columns x × ((sy ≡ row_of t y) × ((0 < t.from.bytes) × Flat (openTask t)))) }
+    requires { RowTakes t x y w (length mem.old) × (ColumnsAt t columns x × ((sy ≡ row_of t y) × ((0 < t.from.bytes) × Flat (open_task t)))) }
     ensures { state mem.new w result ≡ paint t.ink.target (straightly t (across false x w y)) (state mem.old 0 0) }
 {
     let from = t.from.bytes;
     let to = t.ink.target.bytes;
     let d = surface::byte_of(t.ink.target, x, y, 0);
     let s = surface::byte_of(t.from, 0, sy, 0);
-    if t.ink.srcKey {
+    if t.ink.src_key {
         return straight_across(mem, t, columns, true, from, to, d, s, x, y, w);
     }
     let pair = from * 8 + to;
@@ -123,7 +123,7 @@ fn straight_rows(
     w: u32,
     h: u32,
 ) -> Tally
-    requires { Begins t columns rows x y w h (length mem.old) × ((0 < t.from.bytes) × Flat (openTask t)) }
+    requires { Begins t columns rows x y w h (length mem.old) × ((0 < t.from.bytes) × Flat (open_task t)) }
     ensures { tallied mem.new result ≡ paint t.ink.target (straightly t (rect false false x y w h)) (state mem.old 0 0) }
 {
     let mut walk = rows;
@@ -143,8 +143,8 @@ fn straight_rows(
 
 // The source at (sx, sy); `range` is that of the source key.
 fn source_at(mem: &[u8], t: Stretch, range: Range, sx: u32, sy: u32) -> Source
-    requires { OnSource t sx sy (length mem.now) × SourceKey (openTask t) range }
-    ensures { result ≡ sourceFrom t.ink t.from mem.now (px sx sy) }
+    requires { OnSource t sx sy (length mem.now) × SourceKey (open_task t) range }
+    ensures { result ≡ source_from t.ink t.from mem.now (px sx sy) }
 {
     let ink = t.ink;
     let from = t.from;
@@ -169,7 +169,7 @@ fn mixed_across(
     w: u32,
     n: Tally,
 ) -> Tally
-    requires { (RowTakes t x y w (length mem.old) × Room n w) × (ColumnsAt t columns x × ((sy ≡ row_of t y) × (SourceKey (openTask t) source × TargetKey (openTask t) target))) }
+    requires { (RowTakes t x y w (length mem.old) × Room n w) × (ColumnsAt t columns x × ((sy ≡ row_of t y) × (SourceKey (open_task t) source × TargetKey (open_task t) target))) }
     ensures { tallied mem.new result ≡ paint t.ink.target (in_row t quads (across false x w y)) (tallied mem.old n) }
 {
     let ink = t.ink;
@@ -214,8 +214,8 @@ fn mixed_row(
     w: u32,
     n: Tally,
 ) -> Tally
-    requires { (RowTakes t x y w (length mem.old) × Room n w) × (ColumnsAt t columns x × ((sy ≡ row_of t y) × ((SourceKey (openTask t) source × TargetKey (openTask t) target) × Laid (openTask t) masks blank))) }
-    ensures { tallied mem.new result ≡ paint t.ink.target (stretchedInTurn t pattern (across false x w y)) (tallied mem.old n) }
+    requires { (RowTakes t x y w (length mem.old) × Room n w) × (ColumnsAt t columns x × ((sy ≡ row_of t y) × ((SourceKey (open_task t) source × TargetKey (open_task t) target) × Laid (open_task t) masks blank))) }
+    ensures { tallied mem.new result ≡ paint t.ink.target (stretched_in_turn t pattern (across false x w y)) (tallied mem.old n) }
 {
     let ink = t.ink;
     if paint::is_patternless(ink) {
@@ -250,11 +250,11 @@ fn mixed_rows(
     h: u32,
 ) -> Tally
     requires { Begins t columns rows x y w h (length mem.old) }
-    ensures { tallied mem.new result ≡ paint t.ink.target (stretchedInTurn t pattern (rect false false x y w h)) (state mem.old 0 0) }
+    ensures { tallied mem.new result ≡ paint t.ink.target (stretched_in_turn t pattern (rect false false x y w h)) (state mem.old 0 0) }
 {
     let ink = t.ink;
-    let source = keys::range_of(t.from.bytes, ink.srcMin, ink.srcMax);
-    let target = keys::range_of(ink.target.bytes, ink.dstMin, ink.dstMax);
+    let source = keys::range_of(t.from.bytes, ink.src_min, ink.src_max);
+    let target = keys::range_of(ink.target.bytes, ink.dst_min, ink.dst_max);
     let masks = plan::masks_of(ink);
     let blank = plan::quads_of(masks, [0u32; 8]);
     let mut walk = rows;

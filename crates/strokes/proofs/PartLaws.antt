@@ -3,30 +3,30 @@
 use Rattle.std.proofs.Common.{◌≡◌, ℕ, zero, suc, ◌+◌, ◌-◌, ◌*◌, ◌^◌, ◌<◌, ◌≤◌, min, Bool, true, false, cond, not, ltb, leb, List, [], ◌∷◌, sym, refl, ap, ◌∙◌, subst, ap₂, true≢false, arith, ltb-false, ltb-true, leb-false, leb-true}
 use mathlib.Core.Option.{some}
 use native.Mathlib.Decide.{ℕ_discrete}
-use Rattle.surface.specs.Place.{readPx}
+use Rattle.surface.specs.Place.{read_px}
 use Rattle.surface.specs.Pixels.{Px, origin}
 use Rattle.surface.proofs.Lists.{by_cases}
 use Rattle.ink.specs.declared.Ink.{Ink}
-use Rattle.ink.specs.Pattern.{patternValue}
+use Rattle.ink.specs.Pattern.{pattern_value}
 use Rattle.paint.specs.declared.Clip.{Clip}
 use Rattle.paint.specs.Paint.{Touch, touch}
-use Rattle.paint.specs.Mix.{bitSource, placed, direct}
-use Rattle.paint.specs.Clip.{inClip, pixelAt}
+use Rattle.paint.specs.Mix.{bit_source, placed, direct}
+use Rattle.paint.specs.Clip.{in_clip, pixel_at}
 use Rattle.paint.proofs.ClipLaws.{Covered, in-clip, clip-in}
 use Rattle.line.specs.declared.Point.{Point}
 use Rattle.line.specs.declared.Line.{Line}
 use Rattle.line.specs.declared.Pen.{Pen}
 use Rattle.line.specs.declared.Tread.{Tread}
-use Rattle.line.specs.Line.{far, towards, xMajor, longer, shorter, aside, place, pointAt, pointsFrom, pointCount, points}
-use Rattle.line.specs.Tread.{leftOver, trodden}
-use Rattle.line.specs.Stipple.{stippleBit, after}
-use Rattle.line.specs.Draw.{lineTouches}
+use Rattle.line.specs.Line.{far, towards, x_major, longer, shorter, aside, place, point_at, points_from, point_count, points}
+use Rattle.line.specs.Tread.{left_over, trodden}
+use Rattle.line.specs.Stipple.{stipple_bit, after}
+use Rattle.line.specs.Draw.{line_touches}
 use Rattle.line.proofs.Sides.{either, longer-x, longer-y, shorter-x, shorter-y, shorter-le, count-le, aside_none, aside-le}
 use Rattle.line.proofs.TreadLaws.{OnWay, aside-stays, aside_grows, way-point, way-goes}
 use Rattle.line.proofs.PointLaws.{Between, place-x, place-y, last}
 use Rattle.points.proofs.PutLaws.{direct-source}
 use Rattle.strokes.specs.declared.Spot.{Spot}
-use Rattle.strokes.specs.Walk.{plainTouches, clipTouches}
+use Rattle.strokes.specs.Walk.{plain_touches, clip_touches}
 use Rattle.strokes.specs.Asked.{Entered, LeftAt, Sought}
 use Rattle.strokes.proofs.WalkDraw.{fore-given}
 
@@ -34,7 +34,7 @@ use Rattle.strokes.proofs.WalkDraw.{fore-given}
 aside_up : (n m i : ℕ) → m ≤ n → aside n m i ≤ aside n m (i + 1)
 aside_up zero m i h = omega (arith, aside_none zero m i refl, aside_none zero m (i + 1) refl)
 aside_up (suc n) m i h =
-    either (ltb (leftOver (suc n) m i) (2 * suc n - 2 * m))
+    either (ltb (left_over (suc n) m i) (2 * suc n - 2 * m))
     (λ e. let a = aside-stays (suc n) m i h (omega arith) (ltb-true _ _ e) in omega (arith, a.0))
     (λ e. let a = aside_grows (suc n) m i h (omega arith) (ltb-false _ _ e) in omega (arith, a.0))
 
@@ -68,47 +68,47 @@ module _ (l : Line) (i j k : ℕ) (g : i ≤ j) (h : j ≤ k) (f : k ≤ longer 
   most : aside n m k ≤ m
   most = aside-le n m k (shorter-le l) f
 
-  pub mid-x : Between (pointAt l i).x (pointAt l k).x (pointAt l j).x
-  unfolding pointAt
+  pub mid-x : Between (point_at l i).x (point_at l k).x (point_at l j).x
+  unfolding point_at
   mid-x =
-      either (xMajor l)
+      either (x_major l)
       (λ e. rw (place-x l i _ e, place-x l j _ e, place-x l k _ e) (towards-mid l.x0 l.x1 i j k g h (omega (arith, longer-x l e))))
       (λ e. rw (place-y l i _ e, place-y l j _ e, place-y l k _ e) (towards-mid l.x0 l.x1 _ _ _ low high (omega (arith, most, shorter-x l e))))
 
-  pub mid-y : Between (pointAt l i).y (pointAt l k).y (pointAt l j).y
-  unfolding pointAt
+  pub mid-y : Between (point_at l i).y (point_at l k).y (point_at l j).y
+  unfolding point_at
   mid-y =
-      either (xMajor l)
+      either (x_major l)
       (λ e. rw (place-x l i _ e, place-x l j _ e, place-x l k _ e) (towards-mid l.y0 l.y1 _ _ _ low high (omega (arith, most, shorter-y l e))))
       (λ e. rw (place-y l i _ e, place-y l j _ e, place-y l k _ e) (towards-mid l.y0 l.y1 i j k g h (omega (arith, longer-y l e))))
 
 -- so what is inside the clip follows each other
 pub between-inside : (c : Clip) (l : Line) (i j k : ℕ) → i ≤ j → j ≤ k → k ≤ longer l
-    → inClip c (pointAt l i).x (pointAt l i).y ≡ true → inClip c (pointAt l k).x (pointAt l k).y ≡ true → inClip c (pointAt l j).x (pointAt l j).y ≡ true
+    → in_clip c (point_at l i).x (point_at l i).y ≡ true → in_clip c (point_at l k).x (point_at l k).y ≡ true → in_clip c (point_at l j).x (point_at l j).y ≡ true
 between-inside c l i j k g h f p q =
-    let a = in-clip c (pointAt l i).x (pointAt l i).y p in
-    let b = in-clip c (pointAt l k).x (pointAt l k).y q in
+    let a = in-clip c (point_at l i).x (point_at l i).y p in
+    let b = in-clip c (point_at l k).x (point_at l k).y q in
     let x = mid-x l i j k g h f in
     let y = mid-y l i j k g h f in
-    clip-in c (pointAt l j).x (pointAt l j).y (record { left = omega arith; right = omega arith; top = omega arith; bottom = omega arith })
+    clip-in c (point_at l j).x (point_at l j).y (record { left = omega arith; right = omega arith; top = omega arith; bottom = omega arith })
 
 pub never_back : (c : Clip) (l : Line) (i j k : ℕ) → i ≤ j → j ≤ k → k ≤ longer l
-    → inClip c (pointAt l i).x (pointAt l i).y ≡ true → inClip c (pointAt l j).x (pointAt l j).y ≡ false → inClip c (pointAt l k).x (pointAt l k).y ≡ false
+    → in_clip c (point_at l i).x (point_at l i).y ≡ true → in_clip c (point_at l j).x (point_at l j).y ≡ false → in_clip c (point_at l k).x (point_at l k).y ≡ false
 never_back c l i j k g h f p q =
-    either (inClip c (pointAt l k).x (pointAt l k).y) (λ e. absurd (true≢false (sym (between-inside c l i j k g h f p e) ∙ q))) (λ e. e)
+    either (in_clip c (point_at l k).x (point_at l k).y) (λ e. absurd (true≢false (sym (between-inside c l i j k g h f p e) ∙ q))) (λ e. e)
 
 -- ---- a search on its way: what is passed is not what is sought
 pub record Passing (c : Clip) (l : Line) (inside : Bool) (n m from i : ℕ) (t : Tread) : Type 0 where
   pub ahead : from ≤ i
-  pub upto : i ≤ pointCount l
-  pub way : i < pointCount l → OnWay l n m i t
-  pub passed : (j : ℕ) → from ≤ j → j < i → inClip c (pointAt l j).x (pointAt l j).y ≡ not inside
+  pub upto : i ≤ point_count l
+  pub way : i < point_count l → OnWay l n m i t
+  pub passed : (j : ℕ) → from ≤ j → j < i → in_clip c (point_at l j).x (point_at l j).y ≡ not inside
 
 module _ {c : Clip} {l : Line} {inside : Bool} {n m from i : ℕ} {t : Tread} (s : Passing c l inside n m from i t) where
   -- the point that was placed is looked at
-  module _ (h : i < pointCount l) {p : Point} {looked : Bool} (placed : p ≡ place l i t.aside) (seen : looked ≡ inClip c p.x p.y) where
-    here : inClip c (pointAt l i).x (pointAt l i).y ≡ looked
-    here = ap (λ (q : Point). inClip c q.x q.y) (sym (way-point (s.way h) placed)) ∙ sym seen
+  module _ (h : i < point_count l) {p : Point} {looked : Bool} (placed : p ≡ place l i t.aside) (seen : looked ≡ in_clip c p.x p.y) where
+    here : in_clip c (point_at l i).x (point_at l i).y ≡ looked
+    here = ap (λ (q : Point). in_clip c q.x q.y) (sym (way-point (s.way h) placed)) ∙ sym seen
 
     pub search-finds : looked ≡ inside → Sought c l inside from (record { at = i; tread = t })
     search-finds e = record {
@@ -124,37 +124,37 @@ module _ {c : Clip} {l : Line} {inside : Bool} {n m from i : ℕ} {t : Tread} (s
       upto = omega arith;
       way = way-goes (s.way h) f refl;
       passed = λ j g k.
-          by_cases (ℕ_discrete j i) (λ q. ap (λ (o : ℕ). inClip c (pointAt l o).x (pointAt l o).y) q ∙ here ∙ e) (λ q. s.passed j g (omega arith));
+          by_cases (ℕ_discrete j i) (λ q. ap (λ (o : ℕ). in_clip c (point_at l o).x (point_at l o).y) q ∙ here ∙ e) (λ q. s.passed j g (omega arith));
     }
 
-  pub search-ends : pointCount l ≤ i → Sought c l inside from (record { at = i; tread = t })
+  pub search-ends : point_count l ≤ i → Sought c l inside from (record { at = i; tread = t })
   search-ends h = record { spot = record { within = s.upto; walk = λ g. absurd (omega arith) }; ahead = s.ahead; passed = s.passed; stops = λ g. absurd (omega arith) }
 
 -- ---- what is touched
 module _ (v : ℕ) (c : Clip) (l : Line) where
-  none-clipped : (i k : ℕ) → ((j : ℕ) → i ≤ j → j < i + k → inClip c (pointAt l j).x (pointAt l j).y ≡ false) → clipTouches v c (pointsFrom l i k) ≡ []
-  unfolding clipTouches pointsFrom
+  none-clipped : (i k : ℕ) → ((j : ℕ) → i ≤ j → j < i + k → in_clip c (point_at l j).x (point_at l j).y ≡ false) → clip_touches v c (points_from l i k) ≡ []
+  unfolding clip_touches points_from
   none-clipped i zero out = refl
   none-clipped i (suc k) out = rw (out i (omega arith) (omega arith)) (none-clipped (i + 1) k (λ j g h. out j (omega arith) (omega arith)))
 
   -- points inside, and then none
-  part-clipped : (i k r : ℕ) → ((j : ℕ) → i ≤ j → j < i + k → inClip c (pointAt l j).x (pointAt l j).y ≡ true)
-      → ((j : ℕ) → i + k ≤ j → j < i + k + r → inClip c (pointAt l j).x (pointAt l j).y ≡ false) → clipTouches v c (pointsFrom l i (k + r)) ≡ plainTouches v (pointsFrom l i k)
-  unfolding clipTouches pointsFrom
+  part-clipped : (i k r : ℕ) → ((j : ℕ) → i ≤ j → j < i + k → in_clip c (point_at l j).x (point_at l j).y ≡ true)
+      → ((j : ℕ) → i + k ≤ j → j < i + k + r → in_clip c (point_at l j).x (point_at l j).y ≡ false) → clip_touches v c (points_from l i (k + r)) ≡ plain_touches v (points_from l i k)
+  unfolding clip_touches points_from
   part-clipped i zero r ins out =
       let q : 0 + r ≡ r = omega arith in rw q (none-clipped i r (λ j g h. out j (omega arith) (omega arith)))
   part-clipped i (suc k) r ins out =
       let q : suc k + r ≡ suc (k + r) = omega arith in
       rw (q, ins i (omega arith) (omega arith))
-      (ap (λ (ts : List Touch). touch (pixelAt (pointAt l i).x (pointAt l i).y) (λ m. some v) ∷ ts)
+      (ap (λ (ts : List Touch). touch (pixel_at (point_at l i).x (point_at l i).y) (λ m. some v) ∷ ts)
       (part-clipped (i + 1) k r (λ j g h. ins j (omega arith) (omega arith)) (λ j g h. out j (omega arith) (omega arith))))
 
   -- none, then points inside, and then none
-  skip-clipped : (i s k r : ℕ) → ((j : ℕ) → i ≤ j → j < i + s → inClip c (pointAt l j).x (pointAt l j).y ≡ false)
-      → ((j : ℕ) → i + s ≤ j → j < i + s + k → inClip c (pointAt l j).x (pointAt l j).y ≡ true)
-      → ((j : ℕ) → i + s + k ≤ j → j < i + s + k + r → inClip c (pointAt l j).x (pointAt l j).y ≡ false)
-      → clipTouches v c (pointsFrom l i (s + (k + r))) ≡ plainTouches v (pointsFrom l (i + s) k)
-  unfolding clipTouches pointsFrom
+  skip-clipped : (i s k r : ℕ) → ((j : ℕ) → i ≤ j → j < i + s → in_clip c (point_at l j).x (point_at l j).y ≡ false)
+      → ((j : ℕ) → i + s ≤ j → j < i + s + k → in_clip c (point_at l j).x (point_at l j).y ≡ true)
+      → ((j : ℕ) → i + s + k ≤ j → j < i + s + k + r → in_clip c (point_at l j).x (point_at l j).y ≡ false)
+      → clip_touches v c (points_from l i (s + (k + r))) ≡ plain_touches v (points_from l (i + s) k)
+  unfolding clip_touches points_from
   skip-clipped i zero k r before ins out =
       let q : 0 + (k + r) ≡ k + r = omega arith in
       let o : i + 0 ≡ i = omega arith in
@@ -165,41 +165,41 @@ module _ (v : ℕ) (c : Clip) (l : Line) where
       rw (q, o, before i (omega arith) (omega arith))
       (skip-clipped (i + 1) s k r (λ j g h. before j (omega arith) (omega arith)) (λ j g h. ins j (omega arith) (omega arith)) (λ j g h. out j (omega arith) (omega arith)))
 
-  pub clipped-part : (first past : ℕ) → first ≤ past → past ≤ pointCount l
-      → ((j : ℕ) → j < first → inClip c (pointAt l j).x (pointAt l j).y ≡ false)
-      → ((j : ℕ) → first ≤ j → j < past → inClip c (pointAt l j).x (pointAt l j).y ≡ true)
-      → ((j : ℕ) → past ≤ j → j < pointCount l → inClip c (pointAt l j).x (pointAt l j).y ≡ false)
-      → plainTouches v (pointsFrom l first (past - first)) ≡ clipTouches v c (points l)
+  pub clipped-part : (first past : ℕ) → first ≤ past → past ≤ point_count l
+      → ((j : ℕ) → j < first → in_clip c (point_at l j).x (point_at l j).y ≡ false)
+      → ((j : ℕ) → first ≤ j → j < past → in_clip c (point_at l j).x (point_at l j).y ≡ true)
+      → ((j : ℕ) → past ≤ j → j < point_count l → in_clip c (point_at l j).x (point_at l j).y ≡ false)
+      → plain_touches v (points_from l first (past - first)) ≡ clip_touches v c (points l)
   unfolding points
   clipped-part first past g h before ins out =
-      let q : first + (past - first + (pointCount l - past)) ≡ pointCount l = omega arith in
+      let q : first + (past - first + (point_count l - past)) ≡ point_count l = omega arith in
       let o : 0 + first ≡ first = omega arith in
-      sym (rw (q, o) at (skip-clipped 0 first (past - first) (pointCount l - past) (λ j a b. before j (omega arith)) (λ j a b. ins j (omega arith) (omega arith)) (λ j a b. out j (omega arith) (omega arith))))
+      sym (rw (q, o) at (skip-clipped 0 first (past - first) (point_count l - past) (λ j a b. before j (omega arith)) (λ j a b. ins j (omega arith) (omega arith)) (λ j a b. out j (omega arith) (omega arith))))
 
-  pub clipped-none : ((j : ℕ) → j < pointCount l → inClip c (pointAt l j).x (pointAt l j).y ≡ false) → [] ≡ clipTouches v c (points l)
+  pub clipped-none : ((j : ℕ) → j < point_count l → in_clip c (point_at l j).x (point_at l j).y ≡ false) → [] ≡ clip_touches v c (points l)
   unfolding points
-  clipped-none out = sym (none-clipped 0 (pointCount l) (λ j g h. out j (omega arith)))
+  clipped-none out = sym (none-clipped 0 (point_count l) (λ j g h. out j (omega arith)))
 
 -- which is what a line touches that gets its source and has no stipple
 module _ (ink : Ink) (pattern : List ℕ) (c : Clip) (pen : Pen) (d : direct ink ≡ true) (solid : pen.stippled ≡ false) (fore : ink.fore < 2 ^ 32) (back : ink.back < 2 ^ 32) where
-  point-same : (p : Px) (style : ℕ) → touch p (λ m. some ink.fore) ≡ placed ink pattern p (bitSource ink (stippleBit pen style))
+  point-same : (p : Px) (style : ℕ) → touch p (λ m. some ink.fore) ≡ placed ink pattern p (bit_source ink (stipple_bit pen style))
   point-same p style =
-      λ i. touch p (λ m. (fore-given ink pen solid style ∙ sym (direct-source ink (patternValue ink pattern p.x p.y) (readPx m ink.target p.x p.y) (stippleBit pen style) d fore back)) i)
+      λ i. touch p (λ m. (fore-given ink pen solid style ∙ sym (direct-source ink (pattern_value ink pattern p.x p.y) (read_px m ink.target p.x p.y) (stipple_bit pen style) d fore back)) i)
 
-  pub clip-drawn : (style : ℕ) (ps : List Point) → clipTouches ink.fore c ps ≡ lineTouches ink pattern c pen style ps
-  unfolding clipTouches lineTouches
+  pub clip-drawn : (style : ℕ) (ps : List Point) → clip_touches ink.fore c ps ≡ line_touches ink pattern c pen style ps
+  unfolding clip_touches line_touches
   clip-drawn style [] = refl
   clip-drawn style (p ∷ ps) =
-      either (inClip c p.x p.y)
-      (λ e. rw e (ap₂ {A = Touch} {B = List Touch} (λ t ts. t ∷ ts) (point-same (pixelAt p.x p.y) style) (clip-drawn (after pen style) ps)))
+      either (in_clip c p.x p.y)
+      (λ e. rw e (ap₂ {A = Touch} {B = List Touch} (λ t ts. t ∷ ts) (point-same (pixel_at p.x p.y) style) (clip-drawn (after pen style) ps)))
       (λ e. rw e (clip-drawn (after pen style) ps))
 
 -- ---- how a part ends
-clip-out : (c : Clip) (x y : ℕ) → (Covered c x y → ⊥) → inClip c x y ≡ false
-clip-out c x y f = either (inClip c x y) (λ e. absurd (f (in-clip c x y e))) (λ e. e)
+clip-out : (c : Clip) (x y : ℕ) → (Covered c x y → ⊥) → in_clip c x y ≡ false
+clip-out c x y f = either (in_clip c x y) (λ e. absurd (f (in-clip c x y e))) (λ e. e)
 
 -- a point before the last but one's end
-numbered : (l : Line) {past i : ℕ} → past ≤ pointCount l → i < past → i ≤ longer l
+numbered : (l : Line) {past i : ℕ} → past ≤ point_count l → i < past → i ≤ longer l
 numbered l h g = omega (arith, count-le l)
 
 between-two : {a b p low high : ℕ} → Between a b p → low ≤ a → low ≤ b → a < high → b < high → (low ≤ p) × (p < high)
@@ -230,60 +230,60 @@ module _ (c : Clip) (l : Line) (from : Spot) (e : Entered c l from) where
   abbrev first : ℕ
   first = from.at
 
-  inside-first : Covered c (pointAt l first).x (pointAt l first).y
-  inside-first = in-clip c (pointAt l first).x (pointAt l first).y e.inside
+  inside-first : Covered c (point_at l first).x (point_at l first).y
+  inside-first = in-clip c (point_at l first).x (point_at l first).y e.inside
 
-  pub leaves-x : xMajor l ≡ true → inClip c (pointAt l first).x l.y1 ≡ true → (past : ℕ)
-      → past ≡ min (pointCount l) (first + cond (leb l.x0 l.x1) (origin + c.right - (pointAt l first).x) ((pointAt l first).x + 1 - (origin + c.left))) → LeftAt c l from past
-  unfolding pointAt
+  pub leaves-x : x_major l ≡ true → in_clip c (point_at l first).x l.y1 ≡ true → (past : ℕ)
+      → past ≡ min (point_count l) (first + cond (leb l.x0 l.x1) (origin + c.right - (point_at l first).x) ((point_at l first).x + 1 - (origin + c.left))) → LeftAt c l from past
+  unfolding point_at
   leaves-x major ends past q =
       let a = inside-first in
-      let b = in-clip c (pointAt l first).x l.y1 ends in
-      let end : (pointAt l (longer l)).y ≡ l.y1 = ap (λ (p : Point). p.y) (last l) in
-      let side : (i : ℕ) → (pointAt l i).x ≡ towards l.x0 l.x1 i = λ i. ap (λ (p : Point). p.x) (place-x l i _ major) in
+      let b = in-clip c (point_at l first).x l.y1 ends in
+      let end : (point_at l (longer l)).y ≡ l.y1 = ap (λ (p : Point). p.y) (last l) in
+      let side : (i : ℕ) → (point_at l i).x ≡ towards l.x0 l.x1 i = λ i. ap (λ (p : Point). p.x) (place-x l i _ major) in
       let axis-lo : origin + c.left ≤ towards l.x0 l.x1 first = subst (λ (x : ℕ). origin + c.left ≤ x) (side first) a.left in
       let axis-hi : towards l.x0 l.x1 first < origin + c.right = subst (λ (x : ℕ). x < origin + c.right) (side first) a.right in
-      let way = q ∙ ap (λ (x : ℕ). min (pointCount l) (first + cond (leb l.x0 l.x1) (origin + c.right - x) (x + 1 - (origin + c.left)))) (side first) in
-      let upto = axis-upto l.x0 l.x1 first (pointCount l) (origin + c.left) (origin + c.right) past axis-lo axis-hi way in
+      let way = q ∙ ap (λ (x : ℕ). min (point_count l) (first + cond (leb l.x0 l.x1) (origin + c.right - x) (x + 1 - (origin + c.left)))) (side first) in
+      let upto = axis-upto l.x0 l.x1 first (point_count l) (origin + c.left) (origin + c.right) past axis-lo axis-hi way in
       record {
-        some = axis-some l.x0 l.x1 first (pointCount l) (origin + c.left) (origin + c.right) past axis-lo axis-hi way e.before;
+        some = axis-some l.x0 l.x1 first (point_count l) (origin + c.left) (origin + c.right) past axis-lo axis-hi way e.before;
         upto = upto;
         inside = λ i g h.
-            let x = axis-stays l.x0 l.x1 first (pointCount l) (origin + c.left) (origin + c.right) past axis-lo axis-hi way i g h in
-            let y = between-two (subst (λ (y : ℕ). Between (pointAt l first).y y (pointAt l i).y) end (mid-y l first i (longer l) g (numbered l upto h) (omega arith))) a.top b.top a.bottom b.bottom in
-            clip-in c (pointAt l i).x (pointAt l i).y (record { left = omega (arith, side i, x.0); right = omega (arith, side i, x.1); top = y.0; bottom = y.1 });
-        outside = λ i g h. clip-out c (pointAt l i).x (pointAt l i).y
-            (λ k. axis-leaves l.x0 l.x1 first (pointCount l) (origin + c.left) (origin + c.right) past axis-lo axis-hi way (omega arith) i g h (omega (arith, side i, k.left)) (omega (arith, side i, k.right)));
+            let x = axis-stays l.x0 l.x1 first (point_count l) (origin + c.left) (origin + c.right) past axis-lo axis-hi way i g h in
+            let y = between-two (subst (λ (y : ℕ). Between (point_at l first).y y (point_at l i).y) end (mid-y l first i (longer l) g (numbered l upto h) (omega arith))) a.top b.top a.bottom b.bottom in
+            clip-in c (point_at l i).x (point_at l i).y (record { left = omega (arith, side i, x.0); right = omega (arith, side i, x.1); top = y.0; bottom = y.1 });
+        outside = λ i g h. clip-out c (point_at l i).x (point_at l i).y
+            (λ k. axis-leaves l.x0 l.x1 first (point_count l) (origin + c.left) (origin + c.right) past axis-lo axis-hi way (omega arith) i g h (omega (arith, side i, k.left)) (omega (arith, side i, k.right)));
       }
 
-  pub leaves-y : xMajor l ≡ false → inClip c l.x1 (pointAt l first).y ≡ true → (past : ℕ)
-      → past ≡ min (pointCount l) (first + cond (leb l.y0 l.y1) (origin + c.bottom - (pointAt l first).y) ((pointAt l first).y + 1 - (origin + c.top))) → LeftAt c l from past
-  unfolding pointAt
+  pub leaves-y : x_major l ≡ false → in_clip c l.x1 (point_at l first).y ≡ true → (past : ℕ)
+      → past ≡ min (point_count l) (first + cond (leb l.y0 l.y1) (origin + c.bottom - (point_at l first).y) ((point_at l first).y + 1 - (origin + c.top))) → LeftAt c l from past
+  unfolding point_at
   leaves-y major ends past q =
       let a = inside-first in
-      let b = in-clip c l.x1 (pointAt l first).y ends in
-      let end : (pointAt l (longer l)).x ≡ l.x1 = ap (λ (p : Point). p.x) (last l) in
-      let side : (i : ℕ) → (pointAt l i).y ≡ towards l.y0 l.y1 i = λ i. ap (λ (p : Point). p.y) (place-y l i _ major) in
+      let b = in-clip c l.x1 (point_at l first).y ends in
+      let end : (point_at l (longer l)).x ≡ l.x1 = ap (λ (p : Point). p.x) (last l) in
+      let side : (i : ℕ) → (point_at l i).y ≡ towards l.y0 l.y1 i = λ i. ap (λ (p : Point). p.y) (place-y l i _ major) in
       let axis-lo : origin + c.top ≤ towards l.y0 l.y1 first = subst (λ (y : ℕ). origin + c.top ≤ y) (side first) a.top in
       let axis-hi : towards l.y0 l.y1 first < origin + c.bottom = subst (λ (y : ℕ). y < origin + c.bottom) (side first) a.bottom in
-      let way = q ∙ ap (λ (y : ℕ). min (pointCount l) (first + cond (leb l.y0 l.y1) (origin + c.bottom - y) (y + 1 - (origin + c.top)))) (side first) in
-      let upto = axis-upto l.y0 l.y1 first (pointCount l) (origin + c.top) (origin + c.bottom) past axis-lo axis-hi way in
+      let way = q ∙ ap (λ (y : ℕ). min (point_count l) (first + cond (leb l.y0 l.y1) (origin + c.bottom - y) (y + 1 - (origin + c.top)))) (side first) in
+      let upto = axis-upto l.y0 l.y1 first (point_count l) (origin + c.top) (origin + c.bottom) past axis-lo axis-hi way in
       record {
-        some = axis-some l.y0 l.y1 first (pointCount l) (origin + c.top) (origin + c.bottom) past axis-lo axis-hi way e.before;
+        some = axis-some l.y0 l.y1 first (point_count l) (origin + c.top) (origin + c.bottom) past axis-lo axis-hi way e.before;
         upto = upto;
         inside = λ i g h.
-            let y = axis-stays l.y0 l.y1 first (pointCount l) (origin + c.top) (origin + c.bottom) past axis-lo axis-hi way i g h in
-            let x = between-two (subst (λ (x : ℕ). Between (pointAt l first).x x (pointAt l i).x) end (mid-x l first i (longer l) g (numbered l upto h) (omega arith))) a.left b.left a.right b.right in
-            clip-in c (pointAt l i).x (pointAt l i).y (record { left = x.0; right = x.1; top = omega (arith, side i, y.0); bottom = omega (arith, side i, y.1) });
-        outside = λ i g h. clip-out c (pointAt l i).x (pointAt l i).y
-            (λ k. axis-leaves l.y0 l.y1 first (pointCount l) (origin + c.top) (origin + c.bottom) past axis-lo axis-hi way (omega arith) i g h (omega (arith, side i, k.top)) (omega (arith, side i, k.bottom)));
+            let y = axis-stays l.y0 l.y1 first (point_count l) (origin + c.top) (origin + c.bottom) past axis-lo axis-hi way i g h in
+            let x = between-two (subst (λ (x : ℕ). Between (point_at l first).x x (point_at l i).x) end (mid-x l first i (longer l) g (numbered l upto h) (omega arith))) a.left b.left a.right b.right in
+            clip-in c (point_at l i).x (point_at l i).y (record { left = x.0; right = x.1; top = omega (arith, side i, y.0); bottom = omega (arith, side i, y.1) });
+        outside = λ i g h. clip-out c (point_at l i).x (point_at l i).y
+            (λ k. axis-leaves l.y0 l.y1 first (point_count l) (origin + c.top) (origin + c.bottom) past axis-lo axis-hi way (omega arith) i g h (omega (arith, side i, k.top)) (omega (arith, side i, k.bottom)));
       }
 
   -- where the first point outside was sought
   pub leaves-sought : {r : Spot} → Sought c l false first r → LeftAt c l from r.at
   leaves-sought {r} s =
       let some : first < r.at = by_cases (ℕ_discrete r.at first)
-      (λ q. absurd (true≢false (sym e.inside ∙ ap (λ (i : ℕ). inClip c (pointAt l i).x (pointAt l i).y) (sym q) ∙ s.stops (omega (arith, e.before)))))
+      (λ q. absurd (true≢false (sym e.inside ∙ ap (λ (i : ℕ). in_clip c (point_at l i).x (point_at l i).y) (sym q) ∙ s.stops (omega (arith, e.before)))))
       (λ q. omega (arith, s.ahead)) in
       record {
         some = some;

@@ -4,15 +4,15 @@ use Rattle.std.proofs.Common.{◌≡◌, ℕ, ◌+◌, ◌-◌, ◌*◌, ◌%◌
 use Rattle.surface.specs.declared.Surface.{Surface}
 use Rattle.surface.specs.Place.{byte_of}
 use Rattle.surface.specs.Asked.{Small}
-use Rattle.surface.proofs.Rows.{byteAt-small, byteAt-run, byteAt-rows}
+use Rattle.surface.proofs.Rows.{byte_at-small, byte_at-run, byte_at-rows}
 use Rattle.surface.proofs.Run.{run-pixel}
 use Rattle.surface.specs.Pixels.{origin}
 use Rattle.line.specs.declared.Point.{Point}
 use Rattle.line.specs.declared.Line.{Line}
 use Rattle.strokes.specs.declared.Walk.{Walk}
-use Rattle.line.specs.Line.{far, towards, xMajor, longer, shorter, aside, pointAt}
+use Rattle.line.specs.Line.{far, towards, x_major, longer, shorter, aside, point_at}
 use Rattle.line.specs.Asked.{Placed}
-use Rattle.strokes.specs.Walk.{shift, across, down, steps_of, walk, walkedOn, AtPoint}
+use Rattle.strokes.specs.Walk.{shift, across, down, steps_of, walk, walked_on, AtPoint}
 use Rattle.strokes.specs.Asked.{Ahead}
 use Rattle.line.proofs.Sides.{either, longer-x, longer-y, shorter-x, shorter-y, shorter-le, longer-lt, aside-le}
 use Rattle.line.proofs.TreadLaws.{aside-stays, aside_grows, start-rest}
@@ -46,7 +46,7 @@ step_right s flat x x' y e =
 step_down : (s : Surface) → s.tiled ≡ false → (x y y' : ℕ) → y' ≡ y + 1 → byte_of s x y' 0 ≡ byte_of s x y 0 + s.stride
 unfolding byte_of
 step_down s flat x y y' e =
-    rw e (omega (arith, byteAt-rows s flat (x * s.bytes) y 0 1, byteAt-run s flat (x * s.bytes) 0 y))
+    rw e (omega (arith, byte_at-rows s flat (x * s.bytes) y 0 1, byte_at-run s flat (x * s.bytes) 0 y))
 
 -- no pixel close to the origin has an address of 60 bits or more
 abbrev pub Low : Surface → Type 0
@@ -56,7 +56,7 @@ pub small_low : {s : Surface} → Small s → Low s
 unfolding byte_of
 small_low {s} small x y hx hy =
     let p : x * s.bytes ≤ x * 5 = mul-le-mul_left x (omega arith) in
-    byteAt-small (record { small = small; across = omega arith; down = omega arith })
+    byte_at-small (record { small = small; across = omega arith; down = omega arith })
 
 module _ (s : Surface) (flat : s.tiled ≡ false) (low : Low s) (x y : ℕ) (hx : x < 8192) (hy : y < 8192) where
   go-across : (x' : ℕ) → (up : Bool) → Step up 1 x x' → byte_of s x' y 0 < 2 ^ 60 → byte_of s x' y 0 ≡ (byte_of s x y 0 + shift up s.bytes) % 2 ^ 64
@@ -89,15 +89,15 @@ pub record Shown (p : Point) : Type 0 where
   pub x : origin ≤ p.x
   pub y : origin ≤ p.y
 
-pub ahead-shown : {l : Line} → Ahead l → (i : ℕ) → i ≤ longer l → Shown (pointAt l i)
+pub ahead-shown : {l : Line} → Ahead l → (i : ℕ) → i ≤ longer l → Shown (point_at l i)
 ahead-shown {l} ahead i h = let b = point-box l i h in record { x = omega (arith, b.x.low); y = omega (arith, b.y.low) }
 
-module _ (s : Surface) (flat : s.tiled ≡ false) (low : Low s) (l : Line) (placed : Placed l) (i : ℕ) (h : i + 1 ≤ longer l) (here : Shown (pointAt l i)) (there : Shown (pointAt l (i + 1))) where
+module _ (s : Surface) (flat : s.tiled ≡ false) (low : Low s) (l : Line) (placed : Placed l) (i : ℕ) (h : i + 1 ≤ longer l) (here : Shown (point_at l i)) (there : Shown (point_at l (i + 1))) where
   abbrev p : Point
-  p = pointAt l i
+  p = point_at l i
 
   abbrev p' : Point
-  p' = pointAt l (i + 1)
+  p' = point_at l (i + 1)
 
   moves-across : Step (leb l.x0 l.x1) 1 (p.x - origin) (p'.x - origin) → p'.y ≡ p.y → address s p' ≡ (address s p + across s.bytes l) % 2 ^ 64
   moves-across e f =
@@ -124,16 +124,16 @@ module _ (s : Surface) (flat : s.tiled ≡ false) (low : Low s) (l : Line) (plac
       (low (p'.x - origin) (p'.y - origin) (omega arith) (omega arith)) in
       two ∙ ap (λ (a : ℕ). (a + down s.stride l) % 2 ^ 64) one ∙ both-sum (address s p) (across s.bytes l) (down s.stride l)
 
-  along-x : xMajor l ≡ true → aside (longer l) (shorter l) (i + 1) ≡ aside (longer l) (shorter l) i → address s p' ≡ (address s p + across s.bytes l) % 2 ^ 64
-  unfolding pointAt
+  along-x : x_major l ≡ true → aside (longer l) (shorter l) (i + 1) ≡ aside (longer l) (shorter l) i → address s p' ≡ (address s p + across s.bytes l) % 2 ^ 64
+  unfolding point_at
   along-x e f =
       let a = subst Shown (place-x l i _ e) here in
       let b = subst Shown (place-x l (i + 1) _ e) there in
       moves-across (rw (place-x l i _ e, place-x l (i + 1) _ e) (towards-next l.x0 l.x1 i a.x b.x (omega (arith, longer-x l e))))
       (rw (place-x l i _ e, place-x l (i + 1) _ e, f))
 
-  along-y : xMajor l ≡ false → aside (longer l) (shorter l) (i + 1) ≡ aside (longer l) (shorter l) i → address s p' ≡ (address s p + down s.stride l) % 2 ^ 64
-  unfolding pointAt
+  along-y : x_major l ≡ false → aside (longer l) (shorter l) (i + 1) ≡ aside (longer l) (shorter l) i → address s p' ≡ (address s p + down s.stride l) % 2 ^ 64
+  unfolding point_at
   along-y e f =
       let a = subst Shown (place-y l i _ e) here in
       let b = subst Shown (place-y l (i + 1) _ e) there in
@@ -142,10 +142,10 @@ module _ (s : Surface) (flat : s.tiled ≡ false) (low : Low s) (l : Line) (plac
 
   along-both : aside (longer l) (shorter l) (i + 1) ≡ aside (longer l) (shorter l) i + 1
       → address s p' ≡ (address s p + (across s.bytes l + down s.stride l) % 2 ^ 64) % 2 ^ 64
-  unfolding pointAt
+  unfolding point_at
   along-both f =
       let k = aside-le (longer l) (shorter l) (i + 1) (shorter-le l) h in
-      either (xMajor l)
+      either (x_major l)
       (λ e.
       let a = subst Shown (place-x l i _ e) here in
       let b = rw f at (subst Shown (place-x l (i + 1) _ e) there) in
@@ -157,8 +157,8 @@ module _ (s : Surface) (flat : s.tiled ≡ false) (low : Low s) (l : Line) (plac
       moves_both (rw (place-y l i _ e, place-y l (i + 1) _ e, f) (towards-next l.x0 l.x1 _ a.x b.x (omega (arith, shorter-x l e))))
       (rw (place-y l i _ e, place-y l (i + 1) _ e) (towards-next l.y0 l.y1 i a.y b.y (omega (arith, longer-y l e)))))
 
-  pub step-next : (w : Walk) → AtPoint s l i w → AtPoint s l (i + 1) (walkedOn (steps_of s.bytes s.stride l) w)
-  unfolding walkedOn steps_of
+  pub step-next : (w : Walk) → AtPoint s l i w → AtPoint s l (i + 1) (walked_on (steps_of s.bytes s.stride l) w)
+  unfolding walked_on steps_of
   step-next w at =
       let n = longer l in
       let m = shorter l in
@@ -167,7 +167,7 @@ module _ (s : Surface) (flat : s.tiled ≡ false) (low : Low s) (l : Line) (plac
       (λ e.
       let a = aside-stays n m i low (omega arith) (rw at.rest at (ltb-true w.rest (2 * n - 2 * m) e)) in
       rw e (record {
-        at = either (xMajor l) (λ f. rw f (ap (λ (b : ℕ). (b + across s.bytes l) % 2 ^ 64) at.at ∙ sym (along-x f a.0))) (λ f. rw f (ap (λ (b : ℕ). (b + down s.stride l) % 2 ^ 64) at.at ∙ sym (along-y f a.0)));
+        at = either (x_major l) (λ f. rw f (ap (λ (b : ℕ). (b + across s.bytes l) % 2 ^ 64) at.at ∙ sym (along-x f a.0))) (λ f. rw f (ap (λ (b : ℕ). (b + down s.stride l) % 2 ^ 64) at.at ∙ sym (along-y f a.0)));
         rest = ap (λ (r : ℕ). r + 2 * m) at.rest ∙ sym a.1;
       }))
       (λ e.
@@ -179,5 +179,5 @@ module _ (s : Surface) (flat : s.tiled ≡ false) (low : Low s) (l : Line) (plac
 
 -- the same of a line whose ends are at the origin or after it
 pub walk-next : (s : Surface) → s.tiled ≡ false → Low s → (l : Line) → Ahead l → (i : ℕ) → i + 1 ≤ longer l → (w : Walk) → AtPoint s l i w
-    → AtPoint s l (i + 1) (walkedOn (steps_of s.bytes s.stride l) w)
+    → AtPoint s l (i + 1) (walked_on (steps_of s.bytes s.stride l) w)
 walk-next s flat low l ahead i h = step-next s flat low l ahead.line i h (ahead-shown ahead i (omega arith)) (ahead-shown ahead (i + 1) h)

@@ -2,22 +2,22 @@
 -- Assumes nothing.
 use Rattle.std.specs.Prelude.{◌≡◌, ℕ, ◌-◌, ◌<◌, ◌≤◌, Bool, true, false, not}
 use Rattle.surface.specs.declared.Surface.{Surface}
-use Rattle.surface.specs.Place.{onSurface}
+use Rattle.surface.specs.Place.{on_surface}
 use Rattle.surface.specs.Asked.{Colour}
 use Rattle.surface.specs.Pixels.{origin}
 use Rattle.raster.specs.Masks.{flips}
 use Rattle.ink.specs.declared.Ink.{Ink}
 use Rattle.line.specs.declared.Line.{Line}
-use Rattle.line.specs.Line.{longer, shorter, pointAt, pointCount}
+use Rattle.line.specs.Line.{longer, shorter, point_at, point_count}
 use Rattle.line.specs.Tread.{AtStep}
 use Rattle.paint.specs.declared.Clip.{Clip}
-use Rattle.paint.specs.Clip.{inClip}
+use Rattle.paint.specs.Clip.{in_clip}
 use Rattle.strokes.specs.declared.Track.{Track}
 use Rattle.strokes.specs.declared.Spot.{Spot}
 use Rattle.strokes.specs.declared.Part.{Part}
 use Rattle.line.specs.Asked.{Placed}
 use Rattle.strokes.specs.Walk.{whole}
-use Rattle.strokes.specs.Mixed.{trackOf}
+use Rattle.strokes.specs.Mixed.{track_of}
 
 -- the ends of a line are at the origin or after it
 pub record Ahead (l : Line) : Type 0 where
@@ -33,12 +33,12 @@ pub record Walkable (s : Surface) (len : ℕ) (l : Line) (style : ℕ) : Type 0 
   pub surface : Colour s
   pub ahead : Ahead l
   pub fields : whole style ≡ true
-  pub on : (i : ℕ) → i < pointCount l → onSurface s len ((pointAt l i).x - origin) ((pointAt l i).y - origin) ≡ true
+  pub on : (i : ℕ) → i < point_count l → on_surface s len ((point_at l i).x - origin) ((point_at l i).y - origin) ≡ true
 
 -- one that can be walked with the pattern
 pub record Mixable (ink : Ink) (len : ℕ) (l : Line) : Type 0 where
   pub walkable : Walkable ink.target len l 0
-  pub keyless : ink.dstKey ≡ false
+  pub keyless : ink.dst_key ≡ false
   pub colour : ink.mono ≡ false
 
 -- what the walk goes by, worked out for points of n bytes; where it goes as if the operation only flips, it does
@@ -46,31 +46,31 @@ pub record Mixing (len n : ℕ) (flip : Bool) (t : Track) : Type 0 where
   pub mixable : Mixable t.ink len t.line
   pub bytes : n ≡ t.ink.target.bytes
   pub flipping : flip ≡ true → flips t.ink.rop0 ≡ true
-  pub worked : t ≡ trackOf t.ink t.line
+  pub worked : t ≡ track_of t.ink t.line
 
 -- the walk is at a point of the line, or past its last
 pub record OnSpot (l : Line) (s : Spot) : Type 0 where
-  pub within : s.at ≤ pointCount l
-  pub walk : s.at < pointCount l → AtStep (longer l) (shorter l) s.at s.tread
+  pub within : s.at ≤ point_count l
+  pub walk : s.at < point_count l → AtStep (longer l) (shorter l) s.at s.tread
 
 -- what is sought from a point on: what is passed is not so, and where it stops it is
 pub record Sought (c : Clip) (l : Line) (inside : Bool) (from : ℕ) (r : Spot) : Type 0 where
   pub spot : OnSpot l r
   pub ahead : from ≤ r.at
-  pub passed : (i : ℕ) → from ≤ i → i < r.at → inClip c (pointAt l i).x (pointAt l i).y ≡ not inside
-  pub stops : r.at < pointCount l → inClip c (pointAt l r.at).x (pointAt l r.at).y ≡ inside
+  pub passed : (i : ℕ) → from ≤ i → i < r.at → in_clip c (point_at l i).x (point_at l i).y ≡ not inside
+  pub stops : r.at < point_count l → in_clip c (point_at l r.at).x (point_at l r.at).y ≡ inside
 
 -- a spot inside the clip, and where the points that follow it are outside again
 pub record Entered (c : Clip) (l : Line) (s : Spot) : Type 0 where
   pub spot : OnSpot l s
-  pub before : s.at < pointCount l
-  pub inside : inClip c (pointAt l s.at).x (pointAt l s.at).y ≡ true
+  pub before : s.at < point_count l
+  pub inside : in_clip c (point_at l s.at).x (point_at l s.at).y ≡ true
 
 pub record LeftAt (c : Clip) (l : Line) (from : Spot) (past : ℕ) : Type 0 where
   pub some : from.at < past
-  pub upto : past ≤ pointCount l
-  pub inside : (i : ℕ) → from.at ≤ i → i < past → inClip c (pointAt l i).x (pointAt l i).y ≡ true
-  pub outside : (i : ℕ) → past ≤ i → i < pointCount l → inClip c (pointAt l i).x (pointAt l i).y ≡ false
+  pub upto : past ≤ point_count l
+  pub inside : (i : ℕ) → from.at ≤ i → i < past → in_clip c (point_at l i).x (point_at l i).y ≡ true
+  pub outside : (i : ℕ) → past ≤ i → i < point_count l → in_clip c (point_at l i).x (point_at l i).y ≡ false
 
 -- a part of a line that can be walked, in a memory of len bytes
 pub record PartOn (s : Surface) (len : ℕ) (p : Part) : Type 0 where
@@ -79,6 +79,6 @@ pub record PartOn (s : Surface) (len : ℕ) (p : Part) : Type 0 where
   pub line : Placed p.line
   pub walk : AtStep (longer p.line) (shorter p.line) p.from.at p.from.tread
   pub some : p.from.at < p.past
-  pub upto : p.past ≤ pointCount p.line
-  pub near : (i : ℕ) → p.from.at ≤ i → i < p.past → (origin ≤ (pointAt p.line i).x) × (origin ≤ (pointAt p.line i).y)
-  pub on : (i : ℕ) → p.from.at ≤ i → i < p.past → onSurface s len ((pointAt p.line i).x - origin) ((pointAt p.line i).y - origin) ≡ true
+  pub upto : p.past ≤ point_count p.line
+  pub near : (i : ℕ) → p.from.at ≤ i → i < p.past → (origin ≤ (point_at p.line i).x) × (origin ≤ (point_at p.line i).y)
+  pub on : (i : ℕ) → p.from.at ≤ i → i < p.past → on_surface s len ((point_at p.line i).x - origin) ((point_at p.line i).y - origin) ≡ true

@@ -4,50 +4,50 @@ use Rattle.std.specs.Prelude.{ℕ, ◌+◌, ◌-◌, ◌*◌, ◌%◌, ◌^◌, 
 use Rattle.surface.specs.declared.Surface.{Surface}
 use Rattle.surface.specs.Place.{surface, byte_of}
 use Rattle.surface.specs.Pixels.{origin}
-use Rattle.raster.specs.Masks.{quadOf}
+use Rattle.raster.specs.Masks.{quad_of}
 use Rattle.ink.specs.declared.Ink.{Ink}
 use Rattle.paint.specs.declared.Clip.{Clip}
 use Rattle.paint.specs.Paint.{Touch}
-use Rattle.paint.specs.Mix.{bitSource, placed}
-use Rattle.paint.specs.Clip.{inClip, pixelAt}
+use Rattle.paint.specs.Mix.{bit_source, placed}
+use Rattle.paint.specs.Clip.{in_clip, pixel_at}
 use Rattle.line.specs.declared.Point.{Point}
 use Rattle.line.specs.declared.Line.{Line}
 use Rattle.line.specs.declared.Pen.{Pen}
-use Rattle.line.specs.Line.{longer, pointCount}
+use Rattle.line.specs.Line.{longer, point_count}
 use Rattle.strokes.specs.declared.Track.{Track}
 use Rattle.strokes.specs.Walk.{steps_of, walk}
 
 -- a column of the pattern in the bits from 32 on, and a row in those from 46 on: the forced row is 0
-abbrev pub columnPart : ℕ → ℕ
-columnPart u = u * 2 ^ 32
+abbrev pub column_part : ℕ → ℕ
+column_part u = u * 2 ^ 32
 
-abbrev pub rowPart : Ink → ℕ → ℕ
-rowPart ink u = cond ink.forced 0 (u * 2 ^ 46)
+abbrev pub row_part : Ink → ℕ → ℕ
+row_part ink u = cond ink.forced 0 (u * 2 ^ 46)
 
 -- the target and the pattern's grid as one surface: the low 32 bits of a pixel's address there are its address on the target, the others its cell
 abbrev pub pair_of : Ink → Surface
 pair_of ink =
-    surface (ink.target.base + (columnPart (ink.patX % 8) + rowPart ink (ink.patY % 8))) (ink.target.stride + rowPart ink 1) (ink.target.bytes + columnPart 1)
+    surface (ink.target.base + (column_part (ink.pat_x % 8) + row_part ink (ink.pat_y % 8))) (ink.target.stride + row_part ink 1) (ink.target.bytes + column_part 1)
 
 abbrev pub pair_at : Ink → ℕ → ℕ → ℕ
-pair_at ink x y = byte_of ink.target x y 0 + columnPart (ink.patX % 8 + x) + rowPart ink (ink.patY % 8 + y)
+pair_at ink x y = byte_of ink.target x y 0 + column_part (ink.pat_x % 8 + x) + row_part ink (ink.pat_y % 8 + y)
 
 -- the walk at a line's first point, and what its steps add
-unfoldable pub trackOf : Ink → Line → Track
-trackOf ink l = record {
+unfoldable pub track_of : Ink → Line → Track
+track_of ink l = record {
   ink = ink;
   line = l;
-  quad = quadOf ink.rop0 ink.fore;
+  quad = quad_of ink.rop0 ink.fore;
   steps = steps_of (pair_of ink).bytes (pair_of ink).stride l;
   walk = walk (pair_at ink (l.x0 - origin) (l.y0 - origin)) (longer l);
-  total = pointCount l;
+  total = point_count l;
 }
 
 -- each point is given what pattern, colorFore and target make
-abbrev pub mixTouches : Ink → List ℕ → List Point → List Touch
-mixTouches ink pattern ps = map (λ p. placed ink pattern (pixelAt p.x p.y) (bitSource ink 1)) ps
+abbrev pub mix_touches : Ink → List ℕ → List Point → List Touch
+mix_touches ink pattern ps = map (λ p. placed ink pattern (pixel_at p.x p.y) (bit_source ink 1)) ps
 
 -- no target key, a colour pattern, no stipple, both ends inside the clip, and the target in rows
 abbrev pub mixes : Ink → Clip → Line → Pen → Bool
 mixes ink c l pen =
-    ((((not ink.dstKey && not ink.mono) && not pen.stippled) && inClip c l.x0 l.y0) && inClip c l.x1 l.y1) && not ink.target.tiled
+    ((((not ink.dst_key && not ink.mono) && not pen.stippled) && in_clip c l.x0 l.y0) && in_clip c l.x1 l.y1) && not ink.target.tiled

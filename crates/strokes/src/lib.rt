@@ -2,14 +2,14 @@
 ghost use Rattle.std.specs.Prelude.{◌≡◌, ◌+◌, ◌-◌, ◌/◌, ◌%◌, ◌^◌, ◌<◌, ◌≤◌, true, false, length, if◌then◌else◌};
 ghost use Rattle.paint.specs.Paint.{state, tallied, paint};
 ghost use Rattle.surface.specs.Asked.{Colour};
-ghost use Rattle.ink.specs.Pattern.{patternPixel};
+ghost use Rattle.ink.specs.Pattern.{pattern_pixel};
 ghost use Rattle.paint.specs.Asked.{Bits12};
-ghost use Rattle.line.specs.Line.{pointCount, pointsFrom, points};
+ghost use Rattle.line.specs.Line.{point_count, points_from, points};
 ghost use Rattle.line.specs.Asked.{Placed, Drawable};
-ghost use Rattle.line.specs.Stipple.{stippleBit, after, styleAfter};
-ghost use Rattle.line.specs.Draw.{lineTouches};
-ghost use Rattle.strokes.specs.Walk.{shift, steps_of, walkedOn, walk, plainTouches, clipTouches, walkTouches, word_of, whole, Fields, walks};
-ghost use Rattle.strokes.specs.Mixed.{columnPart, rowPart, trackOf, mixTouches, mixes};
+ghost use Rattle.line.specs.Stipple.{stipple_bit, after, style_after};
+ghost use Rattle.line.specs.Draw.{line_touches};
+ghost use Rattle.strokes.specs.Walk.{shift, steps_of, walked_on, walk, plain_touches, clip_touches, walk_touches, word_of, whole, Fields, walks};
+ghost use Rattle.strokes.specs.Mixed.{column_part, row_part, track_of, mix_touches, mixes};
 ghost use Rattle.strokes.specs.Asked.{Ahead, Walkable, Mixable, Mixing, OnSpot, Sought, Entered, LeftAt, PartOn};
 
 use ink::Ink;
@@ -90,7 +90,7 @@ fn steps_of(s: Surface, l: Line) -> Steps
 // The next point.
 fn walk_on(t: Steps, w: Walk) -> Walk
     requires { t.limit + t.more < 2 ^ 32 }
-    ensures { result ≡ walkedOn t w }
+    ensures { result ≡ walked_on t w }
 {
     if w.rest < t.limit {
         return Walk {
@@ -167,7 +167,7 @@ fn phase_after(pen: Pen, p: Phase) -> Phase
 
 fn phase_bit(pen: Pen, p: Phase) -> u32
     requires { Fields p }
-    ensures { result ≡ stippleBit pen (word_of p) }
+    ensures { result ≡ stipple_bit pen (word_of p) }
 {
     if pen.stippled {
         return (pen.stipple >> p.bit) % 2;
@@ -185,7 +185,7 @@ fn pick(on: bool, fore: u32, back: u32) -> u32
 // The line drawn by address, where each point, of n bytes, gets its source.
 fn stipple_points(mem: &mut [u8], n: u32, ink: Ink, l: Line, pen: Pen, style: u32) -> LineDone
     requires { Walkable ink.target (length mem.old) l style × (n ≡ ink.target.bytes) }
-    ensures { (tallied mem.new result.tally ≡ paint ink.target (walkTouches ink pen style (points l)) (state mem.old 0 0)) × (result.style ≡ styleAfter pen (pointCount l) style) }
+    ensures { (tallied mem.new result.tally ≡ paint ink.target (walk_touches ink pen style (points l)) (state mem.old 0 0)) × (result.style ≡ style_after pen (point_count l) style) }
 {
     let s = ink.target;
     let t = steps_of(s, l);
@@ -216,7 +216,7 @@ fn stipple_points(mem: &mut [u8], n: u32, ink: Ink, l: Line, pen: Pen, style: u3
 // By the number of bytes, so that each has a loop of its own.
 fn walk_line(mem: &mut [u8], ink: Ink, l: Line, pen: Pen, style: u32) -> LineDone
     requires { Walkable ink.target (length mem.old) l style }
-    ensures { (tallied mem.new result.tally ≡ paint ink.target (walkTouches ink pen style (points l)) (state mem.old 0 0)) × (result.style ≡ styleAfter pen (pointCount l) style) }
+    ensures { (tallied mem.new result.tally ≡ paint ink.target (walk_touches ink pen style (points l)) (state mem.old 0 0)) × (result.style ≡ style_after pen (point_count l) style) }
 {
     let n = ink.target.bytes;
     match n {
@@ -230,7 +230,7 @@ fn walk_line(mem: &mut [u8], ink: Ink, l: Line, pen: Pen, style: u32) -> LineDon
 // The same of a line without a stipple, each point of which gets colorFore: a loop with less to keep.
 fn walk_plain(mem: &mut [u8], ink: Ink, l: Line) -> Tally
     requires { Walkable ink.target (length mem.old) l 0 }
-    ensures { tallied mem.new result ≡ paint ink.target (plainTouches ink.fore (points l)) (state mem.old 0 0) }
+    ensures { tallied mem.new result ≡ paint ink.target (plain_touches ink.fore (points l)) (state mem.old 0 0) }
 {
     let s = ink.target;
     let n = s.bytes;
@@ -255,7 +255,7 @@ fn walk_plain(mem: &mut [u8], ink: Ink, l: Line) -> Tally
 // A column of the pattern in the bits from 32 on.
 fn column_part(u: u32) -> usize
     requires { u < 2 ^ 14 }
-    ensures { result ≡ columnPart u }
+    ensures { result ≡ column_part u }
 {
     surface::wide(u) << 32
 }
@@ -263,7 +263,7 @@ fn column_part(u: u32) -> usize
 // A row of it in those from 46 on; the forced row is 0.
 fn row_part(ink: Ink, u: u32) -> usize
     requires { u < 2 ^ 14 }
-    ensures { result ≡ rowPart ink u }
+    ensures { result ≡ row_part ink u }
 {
     if ink.forced {
         return 0;
@@ -274,7 +274,7 @@ fn row_part(ink: Ink, u: u32) -> usize
 // The pixel of n bytes of a colour pattern whose column and row lie there.
 fn cell_of(pattern: &[u8; 256], n: u32, at: usize) -> u32
     requires { (0 < n) × (n < 5) }
-    ensures { result ≡ patternPixel n pattern.now (at / 2 ^ 32 % 8) (at / 2 ^ 46 % 8) }
+    ensures { result ≡ pattern_pixel n pattern.now (at / 2 ^ 32 % 8) (at / 2 ^ 46 % 8) }
 {
     let cell = at / 0x4000_0000_0000 % 8 * 8 + at / 0x1_0000_0000 % 8;
     surface::get_bytes(pattern, cell * surface::wide(n), n)
@@ -293,7 +293,7 @@ pub struct Track {
 
 fn track_of(ink: Ink, l: Line) -> Track
     requires { Colour ink.target × Ahead l }
-    ensures { result ≡ trackOf ink l }
+    ensures { result ≡ track_of ink l }
 {
     let s = ink.target;
     let x = l.x0 - 16384;
@@ -301,8 +301,8 @@ fn track_of(ink: Ink, l: Line) -> Track
     let bytes = surface::wide(s.bytes) + column_part(1);
     let stride = surface::wide(s.stride) + row_part(ink, 1);
     let place = surface::close_byte(s, x, y, 0);
-    let column = column_part(ink.patX % 8 + x);
-    let row = row_part(ink, ink.patY % 8 + y);
+    let column = column_part(ink.pat_x % 8 + x);
+    let row = row_part(ink, ink.pat_y % 8 + y);
     Track {
         ink: ink,
         line: l,
@@ -319,7 +319,7 @@ fn track_of(ink: Ink, l: Line) -> Track
 // The line drawn by address, where each point, of n bytes, gets what pattern, colorFore and target make.
 fn mix_points(mem: &mut [u8], n: u32, flip: bool, pattern: &[u8; 256], track: Track) -> Tally
     requires { Mixing (length mem.old) n flip track }
-    ensures { tallied mem.new result ≡ paint track.ink.target (mixTouches track.ink pattern.now (points track.line)) (state mem.old 0 0) }
+    ensures { tallied mem.new result ≡ paint track.ink.target (mix_touches track.ink pattern.now (points track.line)) (state mem.old 0 0) }
 {
     let q = track.quad;
     let t = track.steps;
@@ -344,7 +344,7 @@ fn mix_points(mem: &mut [u8], n: u32, flip: bool, pattern: &[u8; 256], track: Tr
 // By the number of bytes and by what the operation does to the target, so that each has a loop of its own.
 fn walk_mixed(mem: &mut [u8], ink: Ink, pattern: &[u8; 256], l: Line) -> Tally
     requires { Mixable ink (length mem.old) l }
-    ensures { tallied mem.new result ≡ paint ink.target (mixTouches ink pattern.now (points l)) (state mem.old 0 0) }
+    ensures { tallied mem.new result ≡ paint ink.target (mix_touches ink pattern.now (points l)) (state mem.old 0 0) }
 {
     let track = track_of(ink, l);
     let n = ink.target.bytes;
@@ -456,7 +456,7 @@ pub struct Part {
 // They are drawn by address, and each gets colorFore.
 fn walk_part(mem: &mut [u8], ink: Ink, part: Part) -> Tally
     requires { PartOn ink.target (length mem.old) part }
-    ensures { tallied mem.new result ≡ paint ink.target (plainTouches ink.fore (pointsFrom part.line part.from.at (part.past - part.from.at))) (state mem.old 0 0) }
+    ensures { tallied mem.new result ≡ paint ink.target (plain_touches ink.fore (points_from part.line part.from.at (part.past - part.from.at))) (state mem.old 0 0) }
 {
     let s = ink.target;
     let n = s.bytes;
@@ -484,7 +484,7 @@ fn walk_part(mem: &mut [u8], ink: Ink, part: Part) -> Tally
 // The points inside the clip of a line without a stipple, each of which gets colorFore: they follow each other.
 fn walk_clipped(mem: &mut [u8], ink: Ink, c: Clip, l: Line) -> Tally
     requires { Drawable ink.target (length mem.old) c l × (ink.target.tiled ≡ false) }
-    ensures { tallied mem.new result ≡ paint ink.target (clipTouches ink.fore c (points l)) (state mem.old 0 0) }
+    ensures { tallied mem.new result ≡ paint ink.target (clip_touches ink.fore c (points l)) (state mem.old 0 0) }
 {
     let first = enter(c, l);
     if first.at == line::point_count(l) {
@@ -518,7 +518,7 @@ fn can_mix(ink: Ink, c: Clip, way: Line, pen: Pen) -> bool
     requires { Bits12 c }
     ensures { result ≡ mixes ink c way pen }
 {
-    !ink.dstKey
+    !ink.dst_key
         & !ink.mono
         & !pen.stippled
         & paint::covers(c, way.x0, way.y0)
@@ -537,7 +537,7 @@ pub fn paint_line(
     style: u32,
 ) -> LineDone
     requires { Drawable ink.target (length mem.old) c l }
-    ensures { (tallied mem.new result.tally ≡ paint ink.target (lineTouches ink pattern.now c pen style (points l)) (state mem.old 0 0)) × (result.style ≡ styleAfter pen (pointCount l) style) }
+    ensures { (tallied mem.new result.tally ≡ paint ink.target (line_touches ink pattern.now c pen style (points l)) (state mem.old 0 0)) × (result.style ≡ style_after pen (point_count l) style) }
 {
     if can_walk(ink, c, l, style) {
         if !pen.stippled {

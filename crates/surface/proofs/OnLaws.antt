@@ -1,4 +1,4 @@
--- Laws of `onSurface`: what a pixel that is on its surface has, and the one test that decides it.
+-- Laws of `on_surface`: what a pixel that is on its surface has, and the one test that decides it.
 -- Assumes nothing.
 use mathlib.Core.Path.{◌≡◌, refl, sym, ap, ap₂, subst, ◌∙◌}
 use mathlib.Core.Bool.{Bool, true, false, cond, ◌&&◌, and-true}
@@ -9,9 +9,9 @@ use lib.Arith.{digits_lt}
 use lib.Dec.{eqb, ltb}
 use borrow.Author.Tests.{lt-ltb, eq-eqb, ne_eqb, ltb-true, eqb-false}
 use Rattle.surface.specs.declared.Surface.{Surface}
-use Rattle.surface.specs.Place.{rowBytes, byte_at, byte_of, one, rowPixels, firstByte, byte_count, in_memory, onSurface}
+use Rattle.surface.specs.Place.{row_bytes, byte_at, byte_of, one, row_pixels, first_byte, byte_count, in_memory, on_surface}
 use Rattle.surface.specs.Asked.{HasByte, OnColour, OnMono}
-use Rattle.surface.proofs.Rows.{byteAt-mono}
+use Rattle.surface.proofs.Rows.{byte_at-mono}
 
 -- ---- tests
 pub and_left : (a b : Bool) → (a && b) ≡ true → a ≡ true
@@ -36,20 +36,20 @@ one-most false = omega arith
 
 -- ---- by format
 module _ (s : Surface) (x : ℕ) where
-  pub colour-pixels : 0 < s.bytes → rowPixels s ≡ rowBytes s / s.bytes
-  unfolding rowPixels
+  pub colour-pixels : 0 < s.bytes → row_pixels s ≡ row_bytes s / s.bytes
+  unfolding row_pixels
   colour-pixels h = rw (ne_eqb s.bytes 0 (λ e. omega arith))
 
-  pub colour-first : 0 < s.bytes → firstByte s x ≡ x * s.bytes
-  unfolding firstByte
+  pub colour-first : 0 < s.bytes → first_byte s x ≡ x * s.bytes
+  unfolding first_byte
   colour-first h = rw (ne_eqb s.bytes 0 (λ e. omega arith))
 
   pub colour-count : 0 < s.bytes → byte_count s ≡ s.bytes
   unfolding byte_count
   colour-count h = rw (ne_eqb s.bytes 0 (λ e. omega arith))
 
-  pub mono-first : s.bytes ≡ 0 → firstByte s x ≡ x / 8
-  unfolding firstByte
+  pub mono-first : s.bytes ≡ 0 → first_byte s x ≡ x / 8
+  unfolding first_byte
   mono-first h = rw (eq-eqb s.bytes 0 h)
 
 -- a pixel has a byte
@@ -66,13 +66,13 @@ some_byte s = by-test (eqb s.bytes 0) refl
     by-test false e = pos-of-ne (eqb-false s.bytes 0 e)
 
 -- ---- a pixel of the row has its bytes in the row
-pub in_row : (s : Surface) (x k : ℕ) → x < rowPixels s → k < byte_count s → firstByte s x + k < rowBytes s
-unfolding rowPixels firstByte byte_count
+pub in_row : (s : Surface) (x k : ℕ) → x < row_pixels s → k < byte_count s → first_byte s x + k < row_bytes s
+unfolding row_pixels first_byte byte_count
 in_row s x k = by-test (eqb s.bytes 0)
   where
-    by-test : (t : Bool) → x < cond t (8 * rowBytes s) (rowBytes s / s.bytes) → k < cond t 1 s.bytes → cond t (x / 8) (x * s.bytes) + k < rowBytes s
+    by-test : (t : Bool) → x < cond t (8 * row_bytes s) (row_bytes s / s.bytes) → k < cond t 1 s.bytes → cond t (x / 8) (x * s.bytes) + k < row_bytes s
     by-test true hx hk = omega arith
-    by-test false hx hk = lt_of_lt_of_le (digits_lt hx hk) (div-mul-le_self (rowBytes s) s.bytes)
+    by-test false hx hk = lt_of_lt_of_le (digits_lt hx hk) (div-mul-le_self (row_bytes s) s.bytes)
 
 -- ---- the one test: whether the pixel's last byte is in memory
 absorbed : (a b : Bool) → (b ≡ true → a ≡ true) → (a && b) ≡ b
@@ -80,7 +80,7 @@ absorbed true b f = refl
 absorbed false true f = f refl
 absorbed false false f = refl
 
-last-decides : (s : Surface) (len c n y : ℕ) → 0 < n → c + (n - 1) < rowBytes s → in_memory s len c n y ≡ ltb (byte_at s (c + (n - 1)) y) len
+last-decides : (s : Surface) (len c n y : ℕ) → 0 < n → c + (n - 1) < row_bytes s → in_memory s len c n y ≡ ltb (byte_at s (c + (n - 1)) y) len
 unfolding in_memory
 last-decides s len c zero y p h = absurd (omega arith)
 last-decides s len c (suc zero) y p h = and-true _ ∙ ap (λ (k : ℕ). ltb (byte_at s k y) len) (omega arith)
@@ -89,68 +89,68 @@ last-decides s len c (suc (suc n)) y p h =
     let rest = last-decides s len (suc c) (suc n) y (omega arith) (omega arith) ∙ ap (λ (k : ℕ). ltb (byte_at s k y) len) up in
     ap (λ t. ltb (byte_at s c y) len && t) rest
     ∙ absorbed (ltb (byte_at s c y) len) (ltb (byte_at s (c + (suc (suc n) - 1)) y) len)
-    (λ e. lt-ltb _ _ (lt_of_le_of_lt (byteAt-mono s h (omega arith) (le_refl y)) (ltb-true _ _ e)))
+    (λ e. lt-ltb _ _ (lt_of_le_of_lt (byte_at-mono s h (omega arith) (le_refl y)) (ltb-true _ _ e)))
 
-abbrev pub lastByte : Surface → ℕ → ℕ
-lastByte s x = firstByte s x + (byte_count s - 1)
+abbrev pub last_byte : Surface → ℕ → ℕ
+last_byte s x = first_byte s x + (byte_count s - 1)
 
-pub last-in-row : (s : Surface) (x : ℕ) → x < rowPixels s → lastByte s x < rowBytes s
+pub last-in-row : (s : Surface) (x : ℕ) → x < row_pixels s → last_byte s x < row_bytes s
 last-in-row s x h = in_row s x (byte_count s - 1) h (omega (arith, some_byte s))
 
-pub on-decided : (s : Surface) (len x y : ℕ) → onSurface s len x y ≡ (ltb x (rowPixels s) && ltb (byte_at s (lastByte s x) y) len)
-unfolding onSurface
-on-decided s len x y = by-test (ltb x (rowPixels s)) refl
+pub on-decided : (s : Surface) (len x y : ℕ) → on_surface s len x y ≡ (ltb x (row_pixels s) && ltb (byte_at s (last_byte s x) y) len)
+unfolding on_surface
+on-decided s len x y = by-test (ltb x (row_pixels s)) refl
   where
-    by-test : (t : Bool) → ltb x (rowPixels s) ≡ t
-        → (t && in_memory s len (firstByte s x) (byte_count s) y) ≡ (t && ltb (byte_at s (lastByte s x) y) len)
-    by-test true e = last-decides s len (firstByte s x) (byte_count s) y (some_byte s) (last-in-row s x (ltb-true _ _ e))
+    by-test : (t : Bool) → ltb x (row_pixels s) ≡ t
+        → (t && in_memory s len (first_byte s x) (byte_count s) y) ≡ (t && ltb (byte_at s (last_byte s x) y) len)
+    by-test true e = last-decides s len (first_byte s x) (byte_count s) y (some_byte s) (last-in-row s x (ltb-true _ _ e))
     by-test false e = refl
 
 -- of a colour pixel both tests go by its last byte, so that nothing is divided
-abbrev pub endByte : Surface → ℕ → ℕ
-endByte s x = x * s.bytes + (s.bytes - 1)
+abbrev pub end_byte : Surface → ℕ → ℕ
+end_byte s x = x * s.bytes + (s.bytes - 1)
 
-pub on-by-end : (s : Surface) (len x y : ℕ) → 0 < s.bytes → onSurface s len x y ≡ (ltb (endByte s x) (rowBytes s) && ltb (byte_at s (endByte s x) y) len)
+pub on-by-end : (s : Surface) (len x y : ℕ) → 0 < s.bytes → on_surface s len x y ≡ (ltb (end_byte s x) (row_bytes s) && ltb (byte_at s (end_byte s x) y) len)
 on-by-end s len x y p =
-    let last : lastByte s x ≡ endByte s x = ap₂ (λ (a b : ℕ). a + (b - 1)) (colour-first s x p) (colour-count s x p) in
-    let fits : ltb x (rowPixels s) ≡ ltb (endByte s x) (rowBytes s) =
-    same_test _ _ (λ e. lt-ltb _ _ (subst (λ (n : ℕ). n < rowBytes s) last (last-in-row s x (ltb-true _ _ e))))
+    let last : last_byte s x ≡ end_byte s x = ap₂ (λ (a b : ℕ). a + (b - 1)) (colour-first s x p) (colour-count s x p) in
+    let fits : ltb x (row_pixels s) ≡ ltb (end_byte s x) (row_bytes s) =
+    same_test _ _ (λ e. lt-ltb _ _ (subst (λ (n : ℕ). n < row_bytes s) last (last-in-row s x (ltb-true _ _ e))))
     (λ e.
-    let q : x + 1 ≤ rowBytes s / s.bytes = (le-div_iff_mul-le {k = s.bytes} {x = x + 1} {y = rowBytes s} p).1 (omega (arith, ltb-true (endByte s x) (rowBytes s) e, add-mul x 1 s.bytes)) in
-    lt-ltb x (rowPixels s) (omega (arith, colour-pixels s x p))) in
+    let q : x + 1 ≤ row_bytes s / s.bytes = (le-div_iff_mul-le {k = s.bytes} {x = x + 1} {y = row_bytes s} p).1 (omega (arith, ltb-true (end_byte s x) (row_bytes s) e, add-mul x 1 s.bytes)) in
+    lt-ltb x (row_pixels s) (omega (arith, colour-pixels s x p))) in
     on-decided s len x y ∙ ap₂ (λ a b. a && b) fits (ap (λ (n : ℕ). ltb (byte_at s n y) len) last)
 
 -- what a pixel on the surface has
-module _ (s : Surface) (len x y : ℕ) (on : onSurface s len x y ≡ true) where
-  decided : (ltb x (rowPixels s) && ltb (byte_at s (lastByte s x) y) len) ≡ true
+module _ (s : Surface) (len x y : ℕ) (on : on_surface s len x y ≡ true) where
+  decided : (ltb x (row_pixels s) && ltb (byte_at s (last_byte s x) y) len) ≡ true
   decided = sym (on-decided s len x y) ∙ on
 
-  pub on-column : x < rowPixels s
-  on-column = ltb-true x (rowPixels s) (and_left (ltb x (rowPixels s)) (ltb (byte_at s (lastByte s x) y) len) decided)
+  pub on-column : x < row_pixels s
+  on-column = ltb-true x (row_pixels s) (and_left (ltb x (row_pixels s)) (ltb (byte_at s (last_byte s x) y) len) decided)
 
-  pub on-last : byte_at s (lastByte s x) y < len
-  on-last = ltb-true (byte_at s (lastByte s x) y) len (and_right (ltb x (rowPixels s)) (ltb (byte_at s (lastByte s x) y) len) decided)
+  pub on-last : byte_at s (last_byte s x) y < len
+  on-last = ltb-true (byte_at s (last_byte s x) y) len (and_right (ltb x (row_pixels s)) (ltb (byte_at s (last_byte s x) y) len) decided)
 
-  pub on-bytes : (k : ℕ) → k < byte_count s → byte_at s (firstByte s x + k) y < len
-  on-bytes k h = lt_of_le_of_lt (byteAt-mono s (last-in-row s x on-column) (omega arith) (le_refl y)) on-last
+  pub on-bytes : (k : ℕ) → k < byte_count s → byte_at s (first_byte s x + k) y < len
+  on-bytes k h = lt_of_le_of_lt (byte_at-mono s (last-in-row s x on-column) (omega arith) (le_refl y)) on-last
 
 -- and what puts a pixel there
-pub on-from : (s : Surface) (len x y : ℕ) → x < rowPixels s → byte_at s (lastByte s x) y < len → onSurface s len x y ≡ true
+pub on-from : (s : Surface) (len x y : ℕ) → x < row_pixels s → byte_at s (last_byte s x) y < len → on_surface s len x y ≡ true
 on-from s len x y h k = on-decided s len x y ∙ ap₂ (λ a b. a && b) (lt-ltb _ _ h) (lt-ltb _ _ k)
 
 -- ---- the corner law: a pixel to the left of one that is on the surface, and not below it, is on it too
-pub firstByte-mono : (s : Surface) {x x' : ℕ} → x ≤ x' → firstByte s x ≤ firstByte s x'
-unfolding firstByte
-firstByte-mono s {x} {x'} h = by-test (eqb s.bytes 0)
+pub first_byte-mono : (s : Surface) {x x' : ℕ} → x ≤ x' → first_byte s x ≤ first_byte s x'
+unfolding first_byte
+first_byte-mono s {x} {x'} h = by-test (eqb s.bytes 0)
   where
     by-test : (t : Bool) → cond t (x / 8) (x * s.bytes) ≤ cond t (x' / 8) (x' * s.bytes)
     by-test true = omega arith
     by-test false = mul-le-mul_right s.bytes h
 
-pub corner : (s : Surface) (len x y x' y' : ℕ) → onSurface s len x' y' ≡ true → x ≤ x' → y ≤ y' → onSurface s len x y ≡ true
+pub corner : (s : Surface) (len x y x' y' : ℕ) → on_surface s len x' y' ≡ true → x ≤ x' → y ≤ y' → on_surface s len x y ≡ true
 corner s len x y x' y' on hx hy =
     on-from s len x y (lt_of_le_of_lt hx (on-column s len x' y' on))
-    (lt_of_le_of_lt (byteAt-mono s (last-in-row s x' (on-column s len x' y' on)) (omega (arith, firstByte-mono s hx)) hy) (on-last s len x' y' on))
+    (lt_of_le_of_lt (byte_at-mono s (last-in-row s x' (on-column s len x' y' on)) (omega (arith, first_byte-mono s hx)) hy) (on-last s len x' y' on))
 
 -- ---- colour pixels, byte by byte
 pub colour-byte : {s : Surface} {len x y : ℕ} → OnColour s len x y → (k : ℕ) → k < s.bytes → HasByte s len x y k
@@ -168,5 +168,5 @@ colour-byte {s} {len} {x} {y} on k h =
 pub mono-byte : {s : Surface} {len x y : ℕ} → OnMono s len x y → byte_at s (x / 8) y < len
 mono-byte {s} {len} {x} {y} on =
     let h : 0 < byte_count s = some_byte s in
-    let e : firstByte s x + 0 ≡ x / 8 = add-zero (firstByte s x) ∙ mono-first s x on.mono in
+    let e : first_byte s x + 0 ≡ x / 8 = add-zero (first_byte s x) ∙ mono-first s x on.mono in
     subst (λ (n : ℕ). byte_at s n y < len) e (on-bytes s len x y on.on 0 h)

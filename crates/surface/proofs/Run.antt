@@ -12,10 +12,10 @@ use borrow.Author.Tests.{eq-eqb, eqb-true}
 use lib.Dec.{eqb}
 use lib.ListN.{get_or, set}
 use Rattle.surface.specs.declared.Surface.{Surface}
-use Rattle.surface.specs.Place.{byte_at, byte_of, readBytes, writeBytes, readPx, writePx, differ, differs, three}
+use Rattle.surface.specs.Place.{byte_at, byte_of, read_bytes, write_bytes, read_px, write_px, differ, differs, three}
 use Rattle.surface.specs.Asked.{Colour, OnColour, Held}
 use Rattle.surface.proofs.Tiles.{tile-run}
-use Rattle.surface.proofs.Rows.{by_layout, byteAt-tiled, byteAt-run}
+use Rattle.surface.proofs.Rows.{by_layout, byte_at-tiled, byte_at-run}
 use Rattle.surface.proofs.Bytes.{read-there, write-there}
 use Rattle.surface.proofs.Lists.{by_cases}
 use Rattle.surface.proofs.OnLaws.{and_right, colour-byte}
@@ -24,7 +24,7 @@ use Rattle.surface.proofs.OnLaws.{and_right, colour-byte}
 
 -- a pixel's bytes are in one piece: in rows, or as many as divide a tile's row
 pub data InPiece : Surface → Type 0 where
-  in_rows : {s : Surface} → s.tiled ≡ false → InPiece s
+  in-rows : {s : Surface} → s.tiled ≡ false → InPiece s
   by_one : {s : Surface} → s.bytes ≡ 1 → InPiece s
   by_two : {s : Surface} → s.bytes ≡ 2 → InPiece s
   by-four : {s : Surface} → s.bytes ≡ 4 → InPiece s
@@ -42,18 +42,18 @@ has-three s h = eqb-true s.bytes 3 (and_right s.tiled _ h)
 
 pub on-tiles : (s : Surface) → Colour s → (s.tiled && eqb s.bytes 3) ≡ false → InPiece s
 on-tiles s colour h =
-    by_layout s in_rows (λ e. in-piece s colour (λ n. absurd (true≢false (sym (ap₂ (λ a b. a && b) e (eq-eqb s.bytes 3 n)) ∙ h))))
+    by_layout s in-rows (λ e. in-piece s colour (λ n. absurd (true≢false (sym (ap₂ (λ a b. a && b) e (eq-eqb s.bytes 3 n)) ∙ h))))
 
 -- what ends inside its tile's row follows on in either layout
-byteAt-follows : (s : Surface) (c k y : ℕ) → c % 128 + k < 128 → byte_at s (c + k) y ≡ byte_at s c y + k
-byteAt-follows s c k y h =
-    by_layout s (λ e. byteAt-run s e c k y) (λ e. omega (arith, byteAt-tiled s c y e, byteAt-tiled s (c + k) y e, tile-run s.stride c k y h))
+byte_at-follows : (s : Surface) (c k y : ℕ) → c % 128 + k < 128 → byte_at s (c + k) y ≡ byte_at s c y + k
+byte_at-follows s c k y h =
+    by_layout s (λ e. byte_at-run s e c k y) (λ e. omega (arith, byte_at-tiled s c y e, byte_at-tiled s (c + k) y e, tile-run s.stride c k y h))
 
 follows : (s : Surface) → InPiece s → (x y k : ℕ) → k < s.bytes → byte_at s (x * s.bytes + k) y ≡ byte_at s (x * s.bytes) y + k
-follows s (in_rows e) x y k h = byteAt-run s e (x * s.bytes) k y
-follows s (by_one e) x y k h = byteAt-follows s (x * s.bytes) k y (omega (arith, ap (λ (n : ℕ). x * n) e))
-follows s (by_two e) x y k h = byteAt-follows s (x * s.bytes) k y (omega (arith, ap (λ (n : ℕ). x * n) e))
-follows s (by-four e) x y k h = byteAt-follows s (x * s.bytes) k y (omega (arith, ap (λ (n : ℕ). x * n) e))
+follows s (in-rows e) x y k h = byte_at-run s e (x * s.bytes) k y
+follows s (by_one e) x y k h = byte_at-follows s (x * s.bytes) k y (omega (arith, ap (λ (n : ℕ). x * n) e))
+follows s (by_two e) x y k h = byte_at-follows s (x * s.bytes) k y (omega (arith, ap (λ (n : ℕ). x * n) e))
+follows s (by-four e) x y k h = byte_at-follows s (x * s.bytes) k y (omega (arith, ap (λ (n : ℕ). x * n) e))
 
 pub byte-run : (s : Surface) → InPiece s → (x y k : ℕ) → k < s.bytes → byte_of s x y k ≡ byte_of s x y 0 + k
 unfolding byte_of
@@ -70,16 +70,16 @@ pixel-held {s} {len} {x} {y} piece on a e =
 
 -- bytes read and stored where those of the pixel lie are the pixel's, and so is a store's answer
 module _ (s : Surface) (x y : ℕ) (at : ℕ → ℕ) (there : (k : ℕ) → k < s.bytes → at k ≡ byte_of s x y k) where
-  pub read-there-px : (m : List ℕ) → readBytes m at 0 s.bytes ≡ readPx m s x y
-  unfolding readPx
+  pub read-there-px : (m : List ℕ) → read_bytes m at 0 s.bytes ≡ read_px m s x y
+  unfolding read_px
   read-there-px m = read-there m at (byte_of s x y) 0 s.bytes (λ k h. there k (omega arith))
 
-  pub write-there-px : (v : ℕ) (m : List ℕ) → writeBytes at 0 s.bytes v m ≡ writePx m s x y v
-  unfolding writePx
+  pub write-there-px : (v : ℕ) (m : List ℕ) → write_bytes at 0 s.bytes v m ≡ write_px m s x y v
+  unfolding write_px
   write-there-px v m = write-there at (byte_of s x y) 0 s.bytes v m (λ k h. there k (omega arith))
 
-  pub stored_there : (v : ℕ) (m : List ℕ) {m' : List ℕ} {d : Bool} → (m' ≡ writeBytes at 0 s.bytes v m) × (d ≡ differ at s.bytes m m')
-      → (m' ≡ writePx m s x y v) × (d ≡ differs s x y m m')
+  pub stored_there : (v : ℕ) (m : List ℕ) {m' : List ℕ} {d : Bool} → (m' ≡ write_bytes at 0 s.bytes v m) × (d ≡ differ at s.bytes m m')
+      → (m' ≡ write_px m s x y v) × (d ≡ differs s x y m m')
   stored_there v m {m'} stored =
       (stored.0 ∙ write-there-px v m, stored.1 ∙ ap₂ (λ (a b : ℕ). not (eqb a b)) (read-there-px m) (read-there-px m'))
 
@@ -88,14 +88,14 @@ module _ (s : Surface) (piece : InPiece s) (x y a : ℕ) (e : a ≡ byte_of s x 
   from : (k : ℕ) → k < s.bytes → a + k ≡ byte_of s x y k
   from k h = ap (λ (b : ℕ). b + k) e ∙ sym (byte-run s piece x y k h)
 
-  pub read-run : (m : List ℕ) → readBytes m (λ k. a + k) 0 s.bytes ≡ readPx m s x y
+  pub read-run : (m : List ℕ) → read_bytes m (λ k. a + k) 0 s.bytes ≡ read_px m s x y
   read-run = read-there-px s x y (λ k. a + k) from
 
-  pub write-run : (v : ℕ) (m : List ℕ) → writeBytes (λ k. a + k) 0 s.bytes v m ≡ writePx m s x y v
+  pub write-run : (v : ℕ) (m : List ℕ) → write_bytes (λ k. a + k) 0 s.bytes v m ≡ write_px m s x y v
   write-run = write-there-px s x y (λ k. a + k) from
 
-  pub pixel-stored : (v : ℕ) (m : List ℕ) {m' : List ℕ} {d : Bool} → (m' ≡ writeBytes (λ k. a + k) 0 s.bytes v m) × (d ≡ differ (λ k. a + k) s.bytes m m')
-      → (m' ≡ writePx m s x y v) × (d ≡ differs s x y m m')
+  pub pixel-stored : (v : ℕ) (m : List ℕ) {m' : List ℕ} {d : Bool} → (m' ≡ write_bytes (λ k. a + k) 0 s.bytes v m) × (d ≡ differ (λ k. a + k) s.bytes m m')
+      → (m' ≡ write_px m s x y v) × (d ≡ differs s x y m m')
   pixel-stored = stored_there s x y (λ k. a + k) from
 
 -- three bytes, wherever they lie
@@ -106,14 +106,14 @@ module _ (s : Surface) (three-of : s.bytes ≡ 3) (x y : ℕ) {a b c : ℕ} (e :
   apart (suc (suc zero)) h = g
   apart (suc (suc (suc k))) h = absurd (omega arith)
 
-  pub read-three : (m : List ℕ) → readBytes m (three a b c) 0 3 ≡ readPx m s x y
-  read-three m = ap (readBytes m (three a b c) 0) (sym three-of) ∙ read-there-px s x y (three a b c) apart m
+  pub read-three : (m : List ℕ) → read_bytes m (three a b c) 0 3 ≡ read_px m s x y
+  read-three m = ap (read_bytes m (three a b c) 0) (sym three-of) ∙ read-there-px s x y (three a b c) apart m
 
-  pub three-stored : (v : ℕ) (m : List ℕ) {m' : List ℕ} {d : Bool} → (m' ≡ writeBytes (three a b c) 0 3 v m) × (d ≡ differ (three a b c) 3 m m')
-      → (m' ≡ writePx m s x y v) × (d ≡ differs s x y m m')
+  pub three-stored : (v : ℕ) (m : List ℕ) {m' : List ℕ} {d : Bool} → (m' ≡ write_bytes (three a b c) 0 3 v m) × (d ≡ differ (three a b c) 3 m m')
+      → (m' ≡ write_px m s x y v) × (d ≡ differs s x y m m')
   three-stored v m {m'} {d} stored =
       stored_there s x y (three a b c) apart v m
-      (subst (λ (n : ℕ). (m' ≡ writeBytes (three a b c) 0 n v m) × (d ≡ differ (three a b c) n m m')) (sym three-of) stored)
+      (subst (λ (n : ℕ). (m' ≡ write_bytes (three a b c) 0 n v m) × (d ≡ differ (three a b c) n m m')) (sym three-of) stored)
 
 -- ---- along a row
 module _ (s : Surface) (rows : s.tiled ≡ false) (x y a : ℕ) (e : a ≡ byte_of s x y 0) where
@@ -122,55 +122,55 @@ module _ (s : Surface) (rows : s.tiled ≡ false) (x y a : ℕ) (e : a ≡ byte_
   unfolding byte_of
   run-byte i k =
       let column : x * s.bytes + 0 + (i * s.bytes + k) ≡ (x + i) * s.bytes + k = rw (add-mul x i s.bytes) (omega arith) in
-      ap (λ (b : ℕ). b + (i * s.bytes + k)) e ∙ sym (byteAt-run s rows (x * s.bytes + 0) (i * s.bytes + k) y) ∙ ap (λ (c : ℕ). byte_at s c y) column
+      ap (λ (b : ℕ). b + (i * s.bytes + k)) e ∙ sym (byte_at-run s rows (x * s.bytes + 0) (i * s.bytes + k) y) ∙ ap (λ (c : ℕ). byte_at s c y) column
 
   pub run-pixel : (i : ℕ) → a + i * s.bytes ≡ byte_of s (x + i) y 0
   run-pixel i = ap (λ (n : ℕ). a + n) (sym (add-zero (i * s.bytes))) ∙ run-byte i 0
 
 -- ---- three bytes, wherever they lie
 module _ (a b c v : ℕ) (m : List ℕ) where
-  pub three-read : get_or m a 0 + get_or m b 0 * 0x100 + get_or m c 0 * 0x10000 ≡ readBytes m (three a b c) 0 3
-  unfolding readBytes
+  pub three-read : get_or m a 0 + get_or m b 0 * 0x100 + get_or m c 0 * 0x10000 ≡ read_bytes m (three a b c) 0 3
+  unfolding read_bytes
   three-read = omega arith
 
   pub three-written : {m₁ m₂ m₃ : List ℕ} → m₁ ≡ set m a (v % 256) → m₂ ≡ set m₁ b (v / 256 % 256)
-      → m₃ ≡ set m₂ c (v / 256 / 256 % 256) → m₃ ≡ writeBytes (three a b c) 0 3 v m
-  unfolding writeBytes
+      → m₃ ≡ set m₂ c (v / 256 / 256 % 256) → m₃ ≡ write_bytes (three a b c) 0 3 v m
+  unfolding write_bytes
   three-written p q r = cc
 
 -- ---- at a known number of bytes
 module _ (at n : ℕ) (m : List ℕ) where
-  pub get-one : n ≡ 1 → get_or m at 0 ≡ readBytes m (λ k. at + k) 0 n
-  unfolding readBytes
+  pub get-one : n ≡ 1 → get_or m at 0 ≡ read_bytes m (λ k. at + k) 0 n
+  unfolding read_bytes
   get-one e = rw (e, add-zero at) (omega arith)
 
-  pub get-two : n ≡ 2 → get_or m at 0 + get_or m (at + 1) 0 * 0x100 ≡ readBytes m (λ k. at + k) 0 n
-  unfolding readBytes
+  pub get-two : n ≡ 2 → get_or m at 0 + get_or m (at + 1) 0 * 0x100 ≡ read_bytes m (λ k. at + k) 0 n
+  unfolding read_bytes
   get-two e = rw (e, add-zero at) (omega arith)
 
-  pub get-three : n ≡ 3 → get_or m at 0 + get_or m (at + 1) 0 * 0x100 + get_or m (at + 2) 0 * 0x10000 ≡ readBytes m (λ k. at + k) 0 n
-  unfolding readBytes
+  pub get-three : n ≡ 3 → get_or m at 0 + get_or m (at + 1) 0 * 0x100 + get_or m (at + 2) 0 * 0x10000 ≡ read_bytes m (λ k. at + k) 0 n
+  unfolding read_bytes
   get-three e = rw (e, add-zero at) (omega arith)
 
-  pub get-four : n ≡ 4 → get_or m at 0 + get_or m (at + 1) 0 * 0x100 + get_or m (at + 2) 0 * 0x10000 + get_or m (at + 3) 0 * 0x1000000 ≡ readBytes m (λ k. at + k) 0 n
-  unfolding readBytes
+  pub get-four : n ≡ 4 → get_or m at 0 + get_or m (at + 1) 0 * 0x100 + get_or m (at + 2) 0 * 0x10000 + get_or m (at + 3) 0 * 0x1000000 ≡ read_bytes m (λ k. at + k) 0 n
+  unfolding read_bytes
   get-four e = rw (e, add-zero at) (omega arith)
 
 module _ (at n v : ℕ) (m : List ℕ) {m₁ : List ℕ} where
-  pub put_one : n ≡ 1 → m₁ ≡ set m at (v % 256) → m₁ ≡ writeBytes (λ k. at + k) 0 n v m
-  unfolding writeBytes
+  pub put_one : n ≡ 1 → m₁ ≡ set m at (v % 256) → m₁ ≡ write_bytes (λ k. at + k) 0 n v m
+  unfolding write_bytes
   put_one e p = rw e (cc (add-zero at))
 
-  pub put_two : {m₂ : List ℕ} → n ≡ 2 → m₁ ≡ set m at (v % 256) → m₂ ≡ set m₁ (at + 1) (v / 256 % 256) → m₂ ≡ writeBytes (λ k. at + k) 0 n v m
-  unfolding writeBytes
+  pub put_two : {m₂ : List ℕ} → n ≡ 2 → m₁ ≡ set m at (v % 256) → m₂ ≡ set m₁ (at + 1) (v / 256 % 256) → m₂ ≡ write_bytes (λ k. at + k) 0 n v m
+  unfolding write_bytes
   put_two e p q = rw e (cc (add-zero at))
 
   pub put_three : {m₂ m₃ : List ℕ} → n ≡ 3 → m₁ ≡ set m at (v % 256) → m₂ ≡ set m₁ (at + 1) (v / 256 % 256)
-      → m₃ ≡ set m₂ (at + 2) (v / 256 / 256 % 256) → m₃ ≡ writeBytes (λ k. at + k) 0 n v m
-  unfolding writeBytes
+      → m₃ ≡ set m₂ (at + 2) (v / 256 / 256 % 256) → m₃ ≡ write_bytes (λ k. at + k) 0 n v m
+  unfolding write_bytes
   put_three e p q r = rw e (cc (add-zero at))
 
   pub put_four : {m₂ m₃ m₄ : List ℕ} → n ≡ 4 → m₁ ≡ set m at (v % 256) → m₂ ≡ set m₁ (at + 1) (v / 256 % 256)
-      → m₃ ≡ set m₂ (at + 2) (v / 256 / 256 % 256) → m₄ ≡ set m₃ (at + 3) (v / 256 / 256 / 256 % 256) → m₄ ≡ writeBytes (λ k. at + k) 0 n v m
-  unfolding writeBytes
+      → m₃ ≡ set m₂ (at + 2) (v / 256 / 256 % 256) → m₄ ≡ set m₃ (at + 3) (v / 256 / 256 / 256 % 256) → m₄ ≡ write_bytes (λ k. at + k) 0 n v m
+  unfolding write_bytes
   put_four e p q r t = rw e (cc (add-zero at))

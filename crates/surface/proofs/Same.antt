@@ -5,7 +5,7 @@ use mathlib.Core.Bool.{Bool, true, false, ◌&&◌}
 use lib.Dec.{eqb}
 use borrow.Author.Tests.{eq-eqb, eqb-true}
 use Rattle.surface.specs.declared.Surface.{Surface}
-use Rattle.surface.specs.Place.{alike, sameSurface}
+use Rattle.surface.specs.Place.{alike, same_surface}
 use Rattle.surface.proofs.OnLaws.{and_left, and_right}
 
 same_flag : (a b : Bool) → alike a b ≡ true → a ≡ b
@@ -18,7 +18,7 @@ one-layout : (a b : Bool) → a ≡ b → alike a b ≡ true
 one-layout true b e = ap (λ t. alike true t) (sym e)
 one-layout false b e = ap (λ t. alike false t) (sym e)
 
-pub same-as : (a b : Surface) → sameSurface a b ≡ true → b ≡ a
+pub same-as : (a b : Surface) → same_surface a b ≡ true → b ≡ a
 same-as a b e =
     let p = eqb-true a.base b.base (and_left (eqb a.base b.base) _ e) in
     let q = and_right (eqb a.base b.base) _ e in
@@ -28,7 +28,7 @@ same-as a b e =
     let w = same_flag a.tiled b.tiled (and_right (eqb a.bytes b.bytes) _ n) in
     sym (λ i. record { base = p i; stride = u i; bytes = v i; tiled = w i })
 
-pub same-surface : (s t : Surface) → s ≡ t → sameSurface s t ≡ true
+pub same-surface : (s t : Surface) → s ≡ t → same_surface s t ≡ true
 same-surface s t e =
     ap₂ ◌&&◌ (eq-eqb s.base t.base (ap (λ (k : Surface). k.base) e))
     (ap₂ ◌&&◌ (eq-eqb s.stride t.stride (ap (λ (k : Surface). k.stride) e))

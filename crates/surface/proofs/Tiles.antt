@@ -23,13 +23,13 @@ digits-mono {q} {q'} {m} h up low =
 abbrev pub tile : ℕ → ℕ → ℕ → ℕ
 tile n column y = y / 32 * n + column / 128
 
-abbrev pub inTile : ℕ → ℕ → ℕ
-inTile column y = y % 32 * 128 + column % 128
+abbrev pub in_tile : ℕ → ℕ → ℕ
+in_tile column y = y % 32 * 128 + column % 128
 
-abbrev pub tileAt : ℕ → ℕ → ℕ → ℕ
-tileAt n column y = tile n column y * 4096 + inTile column y
+abbrev pub tile_at : ℕ → ℕ → ℕ → ℕ
+tile_at n column y = tile n column y * 4096 + in_tile column y
 
-in-tile : (c y : ℕ) → inTile c y < 4096
+in-tile : (c y : ℕ) → in_tile c y < 4096
 in-tile c y = omega arith
 
 tile-column : {n c : ℕ} → c < 128 * n → c / 128 < n
@@ -57,12 +57,12 @@ module _ (n c y c' y' : ℕ) where
   tile-same : c < 128 * n → c' < 128 * n → tile n c y ≡ tile n c' y' → (y / 32 ≡ y' / 32) × (c / 128 ≡ c' / 128)
   tile-same h h' e = digits_same (y / 32) (y' / 32) (tile-column h) (tile-column h') e
 
-  pub tile-mono : c' < 128 * n → c ≤ c' → y ≤ y' → tileAt n c y ≤ tileAt n c' y'
+  pub tile-mono : c' < 128 * n → c ≤ c' → y ≤ y' → tile_at n c y ≤ tile_at n c' y'
   tile-mono h hc hy =
       digits-mono (in-tile c y) (tile-up hc hy)
       (λ e. let t = tile-same (omega arith) h e in omega (arith, low-row t.0 hy, low_column t.1 hc))
 
-  pub tile-inj : c < 128 * n → c' < 128 * n → tileAt n c y ≡ tileAt n c' y' → (y ≡ y') × (c ≡ c')
+  pub tile-inj : c < 128 * n → c' < 128 * n → tile_at n c y ≡ tile_at n c' y' → (y ≡ y') × (c ≡ c')
   tile-inj h h' e =
       let t = digits_same (tile n c y) (tile n c' y') (in-tile c y) (in-tile c' y') e in
       let high = tile-same h h' t.0 in
@@ -70,13 +70,13 @@ module _ (n c y c' y' : ℕ) where
       (same_row high.0 low.0, same-column high.1 low.1)
 
 -- what ends inside its tile's row lies in one piece
-pub tile-run : (n c k y : ℕ) → c % 128 + k < 128 → tileAt n (c + k) y ≡ tileAt n c y + k
+pub tile-run : (n c k y : ℕ) → c % 128 + k < 128 → tile_at n (c + k) y ≡ tile_at n c y + k
 tile-run n c k y h =
     let a : (c + k) / 128 ≡ c / 128 = omega arith in
     let b : (c + k) % 128 ≡ c % 128 + k = omega arith in
     rw (a, b) (omega arith)
 
-pub tile-small : {n c y : ℕ} → n < 2 ^ 17 → c < 2 ^ 40 → y < 2 ^ 34 → tileAt n c y < 2 ^ 59
+pub tile-small : {n c y : ℕ} → n < 2 ^ 17 → c < 2 ^ 40 → y < 2 ^ 34 → tile_at n c y < 2 ^ 59
 tile-small {n} {c} {y} hn hc hy =
     let a : y / 32 < 2 ^ 29 = omega arith in
     let b : c / 128 < 2 ^ 33 = omega arith in
@@ -93,6 +93,6 @@ tile-above n i a j b hi ha hb =
       mul-le-mul_right {m = a + 1} {n = 128} b (omega arith),
     )
 
-pub tile-area : (n c y : ℕ) → c < 128 * n → (c + 1) * (y + 1) ≤ tileAt n c y + 1
+pub tile-area : (n c y : ℕ) → c < 128 * n → (c + 1) * (y + 1) ≤ tile_at n c y + 1
 tile-area n c y h =
     rw (div-add-mod' c 128, div-add-mod' y 32) at (tile-above n (c / 128) (c % 128) (y / 32) (y % 32) (tile-column h) (omega arith) (omega arith))

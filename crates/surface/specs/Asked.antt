@@ -2,7 +2,7 @@
 -- Assumes nothing.
 use Rattle.std.specs.Prelude.{◌≡◌, true, ℕ, ◌+◌, ◌^◌, ◌<◌, ◌≤◌}
 use Rattle.surface.specs.declared.Surface.{Surface}
-use Rattle.surface.specs.Place.{byte_of, onSurface}
+use Rattle.surface.specs.Place.{byte_of, on_surface}
 
 -- a surface as registers can name one
 pub record Small (s : Surface) : Type 0 where
@@ -42,7 +42,7 @@ pub record Held (at n len : ℕ) : Type 0 where
 -- a pixel that is on its colour surface, and one that is on its mono surface
 pub record OnColour (s : Surface) (len x y : ℕ) : Type 0 where
   pub colour : Colour s
-  pub on : onSurface s len x y ≡ true
+  pub on : on_surface s len x y ≡ true
 
 -- the first of the two, close to the origin
 pub record OnClose (s : Surface) (len x y : ℕ) : Type 0 where
@@ -53,4 +53,4 @@ pub record OnClose (s : Surface) (len x y : ℕ) : Type 0 where
 pub record OnMono (s : Surface) (len x y : ℕ) : Type 0 where
   pub small : Small s
   pub mono : s.bytes ≡ 0
-  pub on : onSurface s len x y ≡ true
+  pub on : on_surface s len x y ≡ true

@@ -15,15 +15,15 @@ origin = 16384
 
 -- w pixels of row y from column x: from the left, or from the right
 unfoldable pub across : Bool → ℕ → ℕ → ℕ → List Px
-across toLeft x zero y = []
+across to_left x zero y = []
 across false x (suc n) y = px x y ∷ across false (x + 1) n y
 across true x (suc n) y = px (x + n) y ∷ across true x n y
 
 -- h rows of w pixels from (x, y): from the top, or from the bottom
 unfoldable pub rect : Bool → Bool → ℕ → ℕ → ℕ → ℕ → List Px
-rect toLeft toTop x y w zero = []
-rect toLeft false x y w (suc h) = across toLeft x w y ++ rect toLeft false x (y + 1) w h
-rect toLeft true x y w (suc h) = across toLeft x w (y + h) ++ rect toLeft true x y w h
+rect to_left to_top x y w zero = []
+rect to_left false x y w (suc h) = across to_left x w y ++ rect to_left false x (y + 1) w h
+rect to_left true x y w (suc h) = across to_left x w (y + h) ++ rect to_left true x y w h
 
 -- of two places on an axis the second does not come before the first: from the low end, or from the high one
 abbrev pub NotBefore : Bool → ℕ → ℕ → Type 0

@@ -1,6 +1,6 @@
 // A surface, and the bytes and bits of its pixels in memory.
 ghost use Rattle.std.specs.Prelude.{◌≡◌, false, ◌+◌, ◌-◌, ◌/◌, ◌%◌, ◌^◌, ◌<◌, ◌≤◌, min, length, get_or, set};
-ghost use Rattle.surface.specs.Place.{sameSurface, one, rowBytes, byte_at, byte_of, readBytes, writeBytes, readPx, writePx, differ, differs, three, monoBit};
+ghost use Rattle.surface.specs.Place.{same_surface, one, row_bytes, byte_at, byte_of, read_bytes, write_bytes, read_px, write_px, differ, differs, three, mono_bit};
 ghost use Rattle.surface.specs.Asked.{Small, Colour, Near, Close, Held, OnColour, OnClose, OnMono};
 
 #[derive(Drop)]
@@ -12,7 +12,7 @@ pub struct Surface {
 }
 
 pub fn same_surface(a: Surface, b: Surface) -> bool
-    ensures { result ≡ sameSurface a b }
+    ensures { result ≡ same_surface a b }
 {
     (a.base == b.base)
         & ((a.stride == b.stride)
@@ -58,7 +58,7 @@ pub fn byte_at(s: Surface, column: usize, y: usize) -> usize
 // How many bytes a row has.
 pub fn row_bytes(s: Surface) -> usize
     requires { Small s }
-    ensures { (result ≡ rowBytes s) × (result < 2 ^ 24) }
+    ensures { (result ≡ row_bytes s) × (result < 2 ^ 24) }
 {
     let stride = wide(s.stride);
     if s.tiled {
@@ -119,7 +119,7 @@ fn put_byte(mem: &mut [u8], at: usize, b: u32)
 // The number in the n bytes from an address on, low byte first.
 pub fn get_bytes(mem: &[u8], at: usize, n: u32) -> u32
     requires { Held at n (length mem.now) }
-    ensures { result ≡ readBytes mem.now (λ k. at + k) 0 n }
+    ensures { result ≡ read_bytes mem.now (λ k. at + k) 0 n }
 {
     let b0 = get_byte(mem, at);
     if n == 1 {
@@ -140,7 +140,7 @@ pub fn get_bytes(mem: &[u8], at: usize, n: u32) -> u32
 // The n bytes from an address on become those of v.
 pub fn put_bytes(mem: &mut [u8], at: usize, n: u32, v: u32)
     requires { Held at n (length mem.old) }
-    ensures { mem.new ≡ writeBytes (λ k. at + k) 0 n v mem.old }
+    ensures { mem.new ≡ write_bytes (λ k. at + k) 0 n v mem.old }
 {
     put_byte(mem, at, v);
     if n == 1 {
@@ -162,7 +162,7 @@ pub fn put_bytes(mem: &mut [u8], at: usize, n: u32, v: u32)
 // The same; whether they were others before.
 pub fn store_bytes(mem: &mut [u8], at: usize, n: u32, v: u32) -> bool
     requires { Held at n (length mem.old) }
-    ensures { (mem.new ≡ writeBytes (λ k. at + k) 0 n v mem.old) × (result ≡ differ (λ k. at + k) n mem.old mem.new) }
+    ensures { (mem.new ≡ write_bytes (λ k. at + k) 0 n v mem.old) × (result ≡ differ (λ k. at + k) n mem.old mem.new) }
 {
     let old = get_bytes(mem, at, n);
     put_bytes(mem, at, n, v);
@@ -172,7 +172,7 @@ pub fn store_bytes(mem: &mut [u8], at: usize, n: u32, v: u32) -> bool
 // Three bytes, wherever each of them lies.
 fn get_three(mem: &[u8], at0: usize, at1: usize, at2: usize) -> u32
     requires { (at0 < length mem.now) × (at1 < length mem.now) × (at2 < length mem.now) }
-    ensures { result ≡ readBytes mem.now (three at0 at1 at2) 0 3 }
+    ensures { result ≡ read_bytes mem.now (three at0 at1 at2) 0 3 }
 {
     let b0 = get_byte(mem, at0);
     let b1 = get_byte(mem, at1);
@@ -182,7 +182,7 @@ fn get_three(mem: &[u8], at0: usize, at1: usize, at2: usize) -> u32
 
 fn put_three(mem: &mut [u8], at0: usize, at1: usize, at2: usize, v: u32)
     requires { (at0 < length mem.old) × (at1 < length mem.old) × (at2 < length mem.old) }
-    ensures { mem.new ≡ writeBytes (three at0 at1 at2) 0 3 v mem.old }
+    ensures { mem.new ≡ write_bytes (three at0 at1 at2) 0 3 v mem.old }
 {
     put_byte(mem, at0, v);
     let v1 = v / 256;
@@ -193,7 +193,7 @@ fn put_three(mem: &mut [u8], at0: usize, at1: usize, at2: usize, v: u32)
 // The same; whether they were others before.
 fn store_three(mem: &mut [u8], at0: usize, at1: usize, at2: usize, v: u32) -> bool
     requires { (at0 < length mem.old) × (at1 < length mem.old) × (at2 < length mem.old) }
-    ensures { (mem.new ≡ writeBytes (three at0 at1 at2) 0 3 v mem.old) × (result ≡ differ (three at0 at1 at2) 3 mem.old mem.new) }
+    ensures { (mem.new ≡ write_bytes (three at0 at1 at2) 0 3 v mem.old) × (result ≡ differ (three at0 at1 at2) 3 mem.old mem.new) }
 {
     let old = get_three(mem, at0, at1, at2);
     put_three(mem, at0, at1, at2, v);
@@ -203,7 +203,7 @@ fn store_three(mem: &mut [u8], at0: usize, at1: usize, at2: usize, v: u32) -> bo
 // A pixel of a surface in rows.
 pub fn get_in_rows(mem: &[u8], s: Surface, x: u32, y: u32) -> u32
     requires { OnColour s (length mem.now) x y × (s.tiled ≡ false) }
-    ensures { result ≡ readPx mem.now s x y }
+    ensures { result ≡ read_px mem.now s x y }
 {
     let at = place_in_rows(s, x, y);
     get_bytes(mem, at, s.bytes)
@@ -211,7 +211,7 @@ pub fn get_in_rows(mem: &[u8], s: Surface, x: u32, y: u32) -> u32
 
 pub fn put_in_rows(mem: &mut [u8], s: Surface, x: u32, y: u32, v: u32) -> bool
     requires { OnColour s (length mem.old) x y × (s.tiled ≡ false) }
-    ensures { (mem.new ≡ writePx mem.old s x y v) × (result ≡ differs s x y mem.old mem.new) }
+    ensures { (mem.new ≡ write_px mem.old s x y v) × (result ≡ differs s x y mem.old mem.new) }
 {
     let at = place_in_rows(s, x, y);
     store_bytes(mem, at, s.bytes, v)
@@ -220,7 +220,7 @@ pub fn put_in_rows(mem: &mut [u8], s: Surface, x: u32, y: u32, v: u32) -> bool
 // A pixel of either: in rows, of three bytes that may lie in two tiles, or in one piece.
 pub fn get_pixel(mem: &[u8], s: Surface, x: u32, y: u32) -> u32
     requires { OnColour s (length mem.now) x y }
-    ensures { result ≡ readPx mem.now s x y }
+    ensures { result ≡ read_px mem.now s x y }
 {
     if !s.tiled {
         return get_in_rows(mem, s, x, y);
@@ -235,7 +235,7 @@ pub fn get_pixel(mem: &[u8], s: Surface, x: u32, y: u32) -> u32
 // The store of a pixel: its bytes become those of v; whether they were others just before.
 pub fn put_pixel(mem: &mut [u8], s: Surface, x: u32, y: u32, v: u32) -> bool
     requires { OnColour s (length mem.old) x y }
-    ensures { (mem.new ≡ writePx mem.old s x y v) × (result ≡ differs s x y mem.old mem.new) }
+    ensures { (mem.new ≡ write_px mem.old s x y v) × (result ≡ differs s x y mem.old mem.new) }
 {
     if !s.tiled {
         return put_in_rows(mem, s, x, y, v);
@@ -250,7 +250,7 @@ pub fn put_pixel(mem: &mut [u8], s: Surface, x: u32, y: u32, v: u32) -> bool
 // The same two of a pixel close to the origin.
 pub fn get_close(mem: &[u8], s: Surface, x: u32, y: u32) -> u32
     requires { OnClose s (length mem.now) x y }
-    ensures { result ≡ readPx mem.now s x y }
+    ensures { result ≡ read_px mem.now s x y }
 {
     let at = close_byte(s, x, y, 0);
     if s.tiled & (s.bytes == 3) {
@@ -261,7 +261,7 @@ pub fn get_close(mem: &[u8], s: Surface, x: u32, y: u32) -> u32
 
 pub fn put_close(mem: &mut [u8], s: Surface, x: u32, y: u32, v: u32) -> bool
     requires { OnClose s (length mem.old) x y }
-    ensures { (mem.new ≡ writePx mem.old s x y v) × (result ≡ differs s x y mem.old mem.new) }
+    ensures { (mem.new ≡ write_px mem.old s x y v) × (result ≡ differs s x y mem.old mem.new) }
 {
     let at = close_byte(s, x, y, 0);
     if s.tiled & (s.bytes == 3) {
@@ -291,7 +291,7 @@ fn mono_byte(mem: &[u8], s: Surface, x: u32, y: u32) -> u32
 // The bit of a mono pixel.
 pub fn get_bit(mem: &[u8], s: Surface, x: u32, y: u32) -> u32
     requires { OnMono s (length mem.now) x y }
-    ensures { result ≡ monoBit mem.now s x y }
+    ensures { result ≡ mono_bit mem.now s x y }
 {
     (mono_byte(mem, s, x, y) >> (7 - x % 8)) % 2
 }

@@ -1,10 +1,10 @@
 -- What functions of this crate ask for. No promise rests on it.
 -- Assumes nothing.
 use Rattle.std.specs.Prelude.{◌≡◌, ◌⊎◌, true, false, List, ℕ, ◌+◌, ◌-◌, ◌^◌, ◌≤◌, ◌<◌, replicate}
-use Rattle.surface.specs.Place.{onSurface}
+use Rattle.surface.specs.Place.{on_surface}
 use Rattle.surface.specs.Asked.{Small, Colour, OnColour}
 use Rattle.surface.specs.Pixels.{rect}
-use Rattle.spans.specs.Span.{allOn, span_of, meet}
+use Rattle.spans.specs.Span.{all_on, span_of, meet}
 use Rattle.keys.specs.declared.Range.{Range}
 use Rattle.keys.specs.Range.{range_of}
 use Rattle.paint.specs.declared.Tally.{Tally}
@@ -19,7 +19,7 @@ pub record HasSource (t : Task) (len x y : ℕ) : Type 0 where
   pub top : t.y ≤ y
   pub column : t.sx + (x - t.x) < 2 ^ 32
   pub row : t.sy + (y - t.y) < 2 ^ 32
-  pub on : t.copies ≡ true → onSurface t.from len (t.sx + (x - t.x)) (t.sy + (y - t.y)) ≡ true
+  pub on : t.copies ≡ true → on_surface t.from len (t.sx + (x - t.x)) (t.sy + (y - t.y)) ≡ true
 
 -- w pixels of row y can be painted, where n tells of those before them
 pub record RowReady (t : Task) (w y len : ℕ) (n : Tally) : Type 0 where
@@ -34,10 +34,10 @@ pub record CanPaint (t : Task) (w h len : ℕ) : Type 0 where
   pub small : Small t.from
   pub wide : t.x + w ≤ 2 ^ 13
   pub high : t.y + h ≤ 2 ^ 13
-  pub sourceWide : t.sx + w ≤ 2 ^ 15
-  pub sourceHigh : t.sy + h ≤ 2 ^ 15
-  pub target : allOn t.ink.target len (rect false false t.x t.y w h) ≡ true
-  pub origin : t.copies ≡ true → allOn t.from len (rect false false t.sx t.sy w h) ≡ true
+  pub source_wide : t.sx + w ≤ 2 ^ 15
+  pub source_high : t.sy + h ≤ 2 ^ 15
+  pub target : all_on t.ink.target len (rect false false t.x t.y w h) ≡ true
+  pub origin : t.copies ≡ true → all_on t.from len (rect false false t.sx t.sy w h) ≡ true
 
 -- its surfaces are in rows: the target, and the source of a copy
 pub record Rowwise (t : Task) : Type 0 where
@@ -52,10 +52,10 @@ Orderly t w h =
 
 -- the ranges of the two keys
 abbrev pub SourceKey : Task → Range → Type 0
-SourceKey t range = range ≡ range_of t.from.bytes t.ink.srcMin t.ink.srcMax
+SourceKey t range = range ≡ range_of t.from.bytes t.ink.src_min t.ink.src_max
 
 abbrev pub TargetKey : Task → Range → Type 0
-TargetKey t range = range ≡ range_of t.ink.target.bytes t.ink.dstMin t.ink.dstMax
+TargetKey t range = range ≡ range_of t.ink.target.bytes t.ink.dst_min t.ink.dst_max
 
 -- the bits of the raster operations, and what they are without a pattern
 pub record Laid (t : Task) (masks blank : List ℕ) : Type 0 where

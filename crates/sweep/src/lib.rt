@@ -2,8 +2,8 @@
 ghost use Rattle.std.specs.Prelude.{◌≡◌, false, length};
 ghost use Rattle.surface.specs.Pixels.{px, across, rect};
 ghost use Rattle.paint.specs.Paint.{state, tallied, paint};
-ghost use Rattle.paint.specs.Mix.{source, fillSource};
-ghost use Rattle.sweep.specs.Copy.{sourceBy, in_turn};
+ghost use Rattle.paint.specs.Mix.{source, fill_source};
+ghost use Rattle.sweep.specs.Copy.{source_by, in_turn};
 ghost use Rattle.sweep.specs.Asked.{HasSource, RowReady, CanPaint, Rowwise, SourceKey, TargetKey, Laid};
 ghost use Rattle.sweep.specs.Row.{in_row};
 
@@ -25,7 +25,7 @@ pub struct Task {
 }
 
 pub fn fill_source(ink: Ink, bit: u32) -> Source
-    ensures { result ≡ fillSource ink bit }
+    ensures { result ≡ fill_source ink bit }
 {
     Source {
         value: ink.fore,
@@ -37,7 +37,7 @@ pub fn fill_source(ink: Ink, bit: u32) -> Source
 // The source of pixel (x, y); `bit` is the bit of a mono pattern there, and `range` that of the source key.
 fn source_at(mem: &[u8], t: Task, range: Range, bit: u32, x: u32, y: u32) -> Source
     requires { HasSource t (length mem.now) x y × (SourceKey t range × Rowwise t) }
-    ensures { result ≡ sourceBy t bit mem.now (px x y) }
+    ensures { result ≡ source_by t bit mem.now (px x y) }
 {
     let ink = t.ink;
     if !t.copies {
@@ -129,15 +129,15 @@ pub fn paint_rows(
     pattern: [u8; 256],
     w: u32,
     h: u32,
-    toLeft: bool,
-    toTop: bool,
+    to_left: bool,
+    to_top: bool,
 ) -> Tally
     requires { CanPaint t w h (length mem.old) × Rowwise t }
-    ensures { tallied mem.new result ≡ paint t.ink.target (in_turn t pattern (rect toLeft toTop t.x t.y w h)) (state mem.old 0 0) }
+    ensures { tallied mem.new result ≡ paint t.ink.target (in_turn t pattern (rect to_left to_top t.x t.y w h)) (state mem.old 0 0) }
 {
     let ink = t.ink;
-    let source = keys::range_of(t.from.bytes, ink.srcMin, ink.srcMax);
-    let target = keys::range_of(ink.target.bytes, ink.dstMin, ink.dstMax);
+    let source = keys::range_of(t.from.bytes, ink.src_min, ink.src_max);
+    let target = keys::range_of(ink.target.bytes, ink.dst_min, ink.dst_max);
     let masks = plan::masks_of(ink);
     let blank = plan::quads_of(masks, [0u32; 8]);
     let mut n = Tally {
@@ -146,9 +146,9 @@ pub fn paint_rows(
     };
     let mut j = 0;
     while j < h {
-        let y = paint::place(toTop, t.y, h, j);
+        let y = paint::place(to_top, t.y, h, j);
         n = paint_row(
-            mem, t, source, target, masks, blank, pattern, w, y, toLeft, n,
+            mem, t, source, target, masks, blank, pattern, w, y, to_left, n,
         );
         j += 1;
     }

@@ -9,12 +9,12 @@ use native.Mathlib.Omega.{arith}
 use lib.Dec.{eqb, ltb}
 use borrow.Author.Tests.{ltb-false, eqb-false, not-true, not-false}
 use Rattle.surface.specs.declared.Surface.{Surface}
-use Rattle.surface.specs.Place.{sameSurface, rowPixels}
+use Rattle.surface.specs.Place.{same_surface, row_pixels}
 use Rattle.surface.specs.Asked.{Small}
 use Rattle.surface.specs.Pixels.{rect, Inside, origin}
-use Rattle.spans.specs.Span.{allOn, span_of, meet}
-use Rattle.formats.specs.Step.{packingOf, rowLength, step_of, dataBytes, dataWords}
-use Rattle.formats.specs.Format.{source_of, sourceCode, bytes_of}
+use Rattle.spans.specs.Span.{all_on, span_of, meet}
+use Rattle.formats.specs.Step.{packing_of, row_length, step_of, data_bytes, data_words}
+use Rattle.formats.specs.Format.{source_of, source_code, bytes_of}
 use Rattle.surface.proofs.Same.{same-as}
 use Rattle.surface.proofs.OnLaws.{and_left, and_right, on-column, pos-of-ne}
 use Rattle.surface.proofs.Rects.{rect-in}
@@ -23,12 +23,12 @@ use Rattle.surface.proofs.Lists.{by_cases}
 use native.Mathlib.Decide.{dec_lt}
 use Rattle.formats.proofs.FormatLaws.{target-colour, source-small}
 use Rattle.paint.specs.declared.Clip.{Clip}
-use Rattle.paint.specs.Clip.{inClip, pixelAt}
+use Rattle.paint.specs.Clip.{in_clip, pixel_at}
 use Rattle.paint.proofs.ClipLaws.{in-clip}
 use Rattle.sweep.specs.Asked.{CanPaint, Orderly}
 use Rattle.line.specs.Line.{points}
 use Rattle.line.specs.Asked.{Within, Placed, Drawable}
-use Rattle.line.specs.Draw.{coveredPoints, lineOff}
+use Rattle.line.specs.Draw.{covered_points, line_off}
 use Rattle.host.specs.Host.{words_of}
 use Rattle.host.specs.Asked.{Sizes, Opened}
 use Rattle.plain.specs.Plain.{Plainly}
@@ -36,10 +36,10 @@ use Rattle.host.proofs.Needed.{data-small}
 use Rattle.registers.specs.declared.Regs.{Regs}
 use Rattle.positions.specs.Position.{placed}
 use Rattle.cuts.specs.declared.Cut.{Cut}
-use Rattle.command.specs.Decode.{target, origins, inkOf, plainBlit, plain_of, fillTask, copyTask, line_of, feedOf}
-use Rattle.cuts.specs.Cut.{bit, width, height, clipOf, first_of, cut_at, fillCut, copyCut, covered, needed}
+use Rattle.command.specs.Decode.{target, origins, ink_of, plain_blit, plain_of, fill_task, copy_task, line_of, feed_of}
+use Rattle.cuts.specs.Cut.{bit, width, height, clip_of, first_of, cut_at, fill_cut, copy_cut, covered, needed}
 use Rattle.cuts.specs.Asked.{CutRange}
-use Rattle.table.specs.Table.{targetFine, bothFine, hostFine, allOnAt, pixels, hostFault, fillVerdict, copyVerdict, hostVerdict, lineVerdict}
+use Rattle.table.specs.Table.{target_fine, both_fine, host_fine, all_on_at, pixels, host_fault, fill_verdict, copy_verdict, host_verdict, line_verdict}
 use Rattle.table.specs.Asked.{InRows}
 use Rattle.cuts.proofs.CutLaws.{clip-bits, Bounded, cut-bounded}
 use Rattle.table.proofs.Sources.{needed-first, needed-as-pixels, needed-pixels, no-clash}
@@ -66,7 +66,7 @@ first_small : (b : Bool) (at n : ℕ) → at < 20480 → first_of b at n < 20480
 first_small true at n h = omega arith
 first_small false at n h = omega arith
 
-pub fill-range : (r : Regs) → CutRange (clipOf r) (placed r.dstXY) (placed (r.dstXY / 2 ^ 16)) (width r) (height r) origin origin
+pub fill-range : (r : Regs) → CutRange (clip_of r) (placed r.dst_xy) (placed (r.dst_xy / 2 ^ 16)) (width r) (height r) origin origin
 fill-range r = record {
   clip = clip-bits r;
   x15 = omega arith;
@@ -77,105 +77,105 @@ fill-range r = record {
   sy15 = omega arith;
 }
 
-pub fill-bounded : (r : Regs) → Bounded (fillCut r)
-unfolding fillCut
+pub fill-bounded : (r : Regs) → Bounded (fill_cut r)
+unfolding fill_cut
 fill-bounded r = cut-bounded (fill-range r)
 
-pub copy-bounded : (r : Regs) → Bounded (copyCut r)
-unfolding copyCut
+pub copy-bounded : (r : Regs) → Bounded (copy_cut r)
+unfolding copy_cut
 copy-bounded r = cut-bounded (record {
   clip = clip-bits r;
-  x15 = first_small (bit r.command 14) (placed r.dstXY) (width r) (omega arith);
-  y15 = first_small (bit r.command 15) (placed (r.dstXY / 2 ^ 16)) (height r) (omega arith);
+  x15 = first_small (bit r.command 14) (placed r.dst_xy) (width r) (omega arith);
+  y15 = first_small (bit r.command 15) (placed (r.dst_xy / 2 ^ 16)) (height r) (omega arith);
   w13 = omega arith;
   h13 = omega arith;
-  sx15 = first_small (bit r.command 14) (placed r.srcXY) (width r) (omega arith);
-  sy15 = first_small (bit r.command 15) (placed (r.srcXY / 2 ^ 16)) (height r) (omega arith);
+  sx15 = first_small (bit r.command 14) (placed r.src_xy) (width r) (omega arith);
+  sy15 = first_small (bit r.command 15) (placed (r.src_xy / 2 ^ 16)) (height r) (omega arith);
 })
 
 -- ---- fills
 pub record FillPassed (r : Regs) (len : ℕ) : Type 0 where
-  pub fine : targetFine r ≡ true
-  pub on : allOn (target r) len (covered (fillCut r)) ≡ true
+  pub fine : target_fine r ≡ true
+  pub on : all_on (target r) len (covered (fill_cut r)) ≡ true
 
-pub fill-passed : (r : Regs) (len : ℕ) → fillVerdict r len ≡ 0 → FillPassed r len
-unfolding fillVerdict
+pub fill-passed : (r : Regs) (len : ℕ) → fill_verdict r len ≡ 0 → FillPassed r len
+unfolding fill_verdict
 fill-passed r len e =
-    let p = passed (targetFine r) 5 (cond (not (allOn (target r) len (covered (fillCut r)))) 7 0) (omega arith) e in
-    record { fine = p.0; on = (passed (allOn (target r) len (covered (fillCut r))) 7 0 (omega arith) p.1).0 }
+    let p = passed (target_fine r) 5 (cond (not (all_on (target r) len (covered (fill_cut r)))) 7 0) (omega arith) e in
+    record { fine = p.0; on = (passed (all_on (target r) len (covered (fill_cut r))) 7 0 (omega arith) p.1).0 }
 
-pub fill-can : (r : Regs) (len : ℕ) → fillVerdict r len ≡ 0 → CanPaint (fillTask r) (fillCut r).w (fillCut r).h len
-unfolding fillTask inkOf
+pub fill-can : (r : Regs) (len : ℕ) → fill_verdict r len ≡ 0 → CanPaint (fill_task r) (fill_cut r).w (fill_cut r).h len
+unfolding fill_task ink_of
 fill-can r len e =
     let p = fill-passed r len e in
     let b = fill-bounded r in
     record {
-      colour = target-colour r.dstBaseAddr r.dstFormat p.fine;
+      colour = target-colour r.dst_base_addr r.dst_format p.fine;
       small = omega arith;
       wide = b.wide;
       high = b.high;
-      sourceWide = omega (arith, b.wide);
-      sourceHigh = omega (arith, b.high);
+      source_wide = omega (arith, b.wide);
+      source_high = omega (arith, b.high);
       target = p.on;
       origin = λ c. absurd (false≢true c);
     }
 
 -- ---- copies
 pub record CopyPassed (r : Regs) (len : ℕ) : Type 0 where
-  pub fine : bothFine r ≡ true
-  pub on : allOn (target r) len (covered (copyCut r)) ≡ true
-  pub source : allOnAt (origins r) len (needed (copyCut r)) ≡ true
-  pub apart : (not (sameSurface (target r) (origins r)) && meet (span_of (target r) (covered (copyCut r))) (span_of (origins r) (pixels (needed (copyCut r))))) ≡ false
+  pub fine : both_fine r ≡ true
+  pub on : all_on (target r) len (covered (copy_cut r)) ≡ true
+  pub source : all_on_at (origins r) len (needed (copy_cut r)) ≡ true
+  pub apart : (not (same_surface (target r) (origins r)) && meet (span_of (target r) (covered (copy_cut r))) (span_of (origins r) (pixels (needed (copy_cut r))))) ≡ false
 
-pub copy_passed : (r : Regs) (len : ℕ) → copyVerdict r len ≡ 0 → CopyPassed r len
-unfolding copyVerdict
+pub copy_passed : (r : Regs) (len : ℕ) → copy_verdict r len ≡ 0 → CopyPassed r len
+unfolding copy_verdict
 copy_passed r len e =
-    let A = allOn (target r) len (covered (copyCut r)) in
-    let B = allOnAt (origins r) len (needed (copyCut r)) in
-    let M = not (sameSurface (target r) (origins r)) && meet (span_of (target r) (covered (copyCut r))) (span_of (origins r) (pixels (needed (copyCut r)))) in
-    let p = passed (bothFine r) 5 (cond (not A || not B) 7 (cond M 8 0)) (omega arith) e in
+    let A = all_on (target r) len (covered (copy_cut r)) in
+    let B = all_on_at (origins r) len (needed (copy_cut r)) in
+    let M = not (same_surface (target r) (origins r)) && meet (span_of (target r) (covered (copy_cut r))) (span_of (origins r) (pixels (needed (copy_cut r)))) in
+    let p = passed (both_fine r) 5 (cond (not A || not B) 7 (cond M 8 0)) (omega arith) e in
     let q = spared (not A || not B) 7 (cond M 8 0) (omega arith) p.1 in
     let on = neither A B q.0 in
     record { fine = p.0; on = on.0; source = on.1; apart = (spared M 8 0 (omega arith) q.1).0 }
 
-pub target-named : (r : Regs) → bothFine r ≡ true → targetFine r ≡ true
-target-named r e = and_left (targetFine r) _ e
+pub target-named : (r : Regs) → both_fine r ≡ true → target_fine r ≡ true
+target-named r e = and_left (target_fine r) _ e
 
 -- the source's pixels are on their surface as pixels
-pub source-on : (s : Surface) (len : ℕ) (c : Cut) → allOnAt s len (needed c) ≡ true → allOn s len (rect false false (c.sx - origin) (c.sy - origin) c.w c.h) ≡ true
+pub source-on : (s : Surface) (len : ℕ) (c : Cut) → all_on_at s len (needed c) ≡ true → all_on s len (rect false false (c.sx - origin) (c.sy - origin) c.w c.h) ≡ true
 source-on s len c e = by_cases (dec_lt 0 c.w)
     (λ w. by_cases (dec_lt 0 c.h)
     (λ h. let f = needed-first s len c w h e in sym (needed-as-pixels s len c w h f.0 f.1) ∙ e)
     (λ n. rect-none false false s len (c.sx - origin) (c.sy - origin) c.w c.h (λ u v. n v)))
     (λ n. rect-none false false s len (c.sx - origin) (c.sy - origin) c.w c.h (λ u v. n u))
 
-pub copy-can : (r : Regs) (len : ℕ) → copyVerdict r len ≡ 0 → CanPaint (copyTask r) (copyCut r).w (copyCut r).h len
-unfolding copyTask inkOf
+pub copy-can : (r : Regs) (len : ℕ) → copy_verdict r len ≡ 0 → CanPaint (copy_task r) (copy_cut r).w (copy_cut r).h len
+unfolding copy_task ink_of
 copy-can r len e =
     let p = copy_passed r len e in
     let b = copy-bounded r in
     record {
-      colour = target-colour r.dstBaseAddr r.dstFormat (target-named r p.fine);
-      small = source-small r.srcBaseAddr r.srcFormat (width r) (omega arith);
+      colour = target-colour r.dst_base_addr r.dst_format (target-named r p.fine);
+      small = source-small r.src_base_addr r.src_format (width r) (omega arith);
       wide = b.wide;
       high = b.high;
-      sourceWide = b.sourceWide;
-      sourceHigh = b.sourceHigh;
+      source_wide = b.source_wide;
+      source_high = b.source_high;
       target = p.on;
-      origin = λ c. source-on (origins r) len (copyCut r) p.source;
+      origin = λ c. source-on (origins r) len (copy_cut r) p.source;
     }
 
-pub copy-orderly : (r : Regs) (len : ℕ) → copyVerdict r len ≡ 0 → Orderly (copyTask r) (copyCut r).w (copyCut r).h
-unfolding copyTask inkOf
-copy-orderly r len e = by-test (sameSurface (target r) (origins r)) refl
+pub copy-orderly : (r : Regs) (len : ℕ) → copy_verdict r len ≡ 0 → Orderly (copy_task r) (copy_cut r).w (copy_cut r).h
+unfolding copy_task ink_of
+copy-orderly r len e = by-test (same_surface (target r) (origins r)) refl
   where
     p : CopyPassed r len
     p = copy_passed r len e
 
     c : Cut
-    c = copyCut r
+    c = copy_cut r
 
-    by-test : (t : Bool) → sameSurface (target r) (origins r) ≡ t → Orderly (copyTask r) (copyCut r).w (copyCut r).h
+    by-test : (t : Bool) → same_surface (target r) (origins r) ≡ t → Orderly (copy_task r) (copy_cut r).w (copy_cut r).h
     by-test true f = inl (same-as (target r) (origins r) f)
     by-test false f =
         let apart : meet (span_of (target r) (covered c)) (span_of (origins r) (pixels (needed c))) ≡ false =
@@ -188,12 +188,12 @@ copy-orderly r len e = by-test (sameSurface (target r) (origins r)) refl
         (λ n. no-clash (target r) c _ (λ u v. n u)))
 
 -- the two rectangles of a copy or a stretch are in the rows of their surfaces
-on-columns : (s : Surface) (len x y w h : ℕ) → 0 < w → 0 < h → allOn s len (rect false false x y w h) ≡ true → x + (w - 1) < rowPixels s
+on-columns : (s : Surface) (len x y w h : ℕ) → 0 < w → 0 < h → all_on s len (rect false false x y w h) ≡ true → x + (w - 1) < row_pixels s
 on-columns s len x y w h pw ph e = on-column s len (x + (w - 1)) (y + (h - 1)) (sym (rect-corner false false s len x y w h pw ph) ∙ e)
 
-pub in_rows : (t s : Surface) (len : ℕ) (c b : Cut) → Small t → Small s → (0 < c.w → 0 < c.h → (0 < b.w) × (0 < b.h))
-    → allOn t len (covered c) ≡ true → allOnAt s len (needed b) ≡ true → InRows t s c b
-in_rows t s len c b ts ss some on source = record {
+pub in-rows : (t s : Surface) (len : ℕ) (c b : Cut) → Small t → Small s → (0 < c.w → 0 < c.h → (0 < b.w) × (0 < b.h))
+    → all_on t len (covered c) ≡ true → all_on_at s len (needed b) ≡ true → InRows t s c b
+in-rows t s len c b ts ss some on source = record {
   target = ts;
   source = ss;
   columns = λ w h.
@@ -208,19 +208,19 @@ in_rows t s len c b ts ss some on source = record {
 -- ---- lines
 pub line-placed : (r : Regs) → Placed (line_of r)
 unfolding line_of
-line-placed r = record { x0 = placed-within r.srcXY; y0 = placed-within (r.srcXY / 2 ^ 16); x1 = placed-within r.dstXY; y1 = placed-within (r.dstXY / 2 ^ 16) }
+line-placed r = record { x0 = placed-within r.src_xy; y0 = placed-within (r.src_xy / 2 ^ 16); x1 = placed-within r.dst_xy; y1 = placed-within (r.dst_xy / 2 ^ 16) }
 
-line-off-none : (s : Surface) (len : ℕ) (r : Regs) → lineOff s len (clipOf r) (points (line_of r)) ≡ false → allOn s len (coveredPoints (clipOf r) (points (line_of r))) ≡ true
-unfolding lineOff
-line-off-none s len r e = not-false (allOn s len (coveredPoints (clipOf r) (points (line_of r)))) e
+line-off-none : (s : Surface) (len : ℕ) (r : Regs) → line_off s len (clip_of r) (points (line_of r)) ≡ false → all_on s len (covered_points (clip_of r) (points (line_of r))) ≡ true
+unfolding line_off
+line-off-none s len r e = not-false (all_on s len (covered_points (clip_of r) (points (line_of r)))) e
 
-pub line-can : (r : Regs) (len : ℕ) → lineVerdict r len ≡ 0 → Drawable (target r) len (clipOf r) (line_of r)
-unfolding lineVerdict
+pub line-can : (r : Regs) (len : ℕ) → line_verdict r len ≡ 0 → Drawable (target r) len (clip_of r) (line_of r)
+unfolding line_verdict
 line-can r len e =
-    let off = lineOff (target r) len (clipOf r) (points (line_of r)) in
-    let p = passed (targetFine r) 5 (cond off 7 0) (omega arith) e in
+    let off = line_off (target r) len (clip_of r) (points (line_of r)) in
+    let p = passed (target_fine r) 5 (cond off 7 0) (omega arith) e in
     record {
-      surface = target-colour r.dstBaseAddr r.dstFormat p.0;
+      surface = target-colour r.dst_base_addr r.dst_format p.0;
       clip = clip-bits r;
       line = line-placed r;
       on = line-off-none (target r) len r (spared off 7 0 (omega arith) p.1).0;
@@ -228,22 +228,22 @@ line-can r len e =
 
 -- ---- host blits
 pub record HostPassed (r : Regs) (len : ℕ) : Type 0 where
-  pub fine : hostFine r ≡ true
-  pub fault : hostFault r ≡ false
-  pub on : allOn (target r) len (covered (fillCut r)) ≡ true
+  pub fine : host_fine r ≡ true
+  pub fault : host_fault r ≡ false
+  pub on : all_on (target r) len (covered (fill_cut r)) ≡ true
 
-pub host-passed : (r : Regs) (len : ℕ) → hostVerdict r len ≡ 0 → HostPassed r len
-unfolding hostVerdict
+pub host-passed : (r : Regs) (len : ℕ) → host_verdict r len ≡ 0 → HostPassed r len
+unfolding host_verdict
 host-passed r len e =
-    let A = allOn (target r) len (covered (fillCut r)) in
-    let p = passed (hostFine r) 5 (cond (hostFault r) 6 (cond (not A) 7 0)) (omega arith) e in
-    let q = spared (hostFault r) 6 (cond (not A) 7 0) (omega arith) p.1 in
+    let A = all_on (target r) len (covered (fill_cut r)) in
+    let p = passed (host_fine r) 5 (cond (host_fault r) 6 (cond (not A) 7 0)) (omega arith) e in
+    let q = spared (host_fault r) 6 (cond (not A) 7 0) (omega arith) p.1 in
     record { fine = p.0; fault = q.0; on = (passed A 7 0 (omega arith) q.1).0 }
 
-pub feed-sizes : (r : Regs) → Sizes (feedOf r)
-unfolding feedOf
+pub feed-sizes : (r : Regs) → Sizes (feed_of r)
+unfolding feed_of
 feed-sizes r =
-    let s = source-small r.srcBaseAddr r.srcFormat (width r) (omega arith) in
+    let s = source-small r.src_base_addr r.src_format (width r) (omega arith) in
     record { bytes = s.bytes; step = s.stride; width = omega arith; height = omega arith }
 
 -- the step holds a row: by the stride under packing 0, by rounding up under the others
@@ -251,13 +251,13 @@ or_right : (a b : Bool) → (a || b) ≡ false → b ≡ false
 or_right true b e = absurd (false≢true (sym e))
 or_right false b e = e
 
-step-holds : (packing bytes width stride : ℕ) → (eqb packing 0 && ltb (step_of packing bytes width stride) (rowLength bytes width)) ≡ false
-    → rowLength bytes width ≤ step_of packing bytes width stride
+step-holds : (packing bytes width stride : ℕ) → (eqb packing 0 && ltb (step_of packing bytes width stride) (row_length bytes width)) ≡ false
+    → row_length bytes width ≤ step_of packing bytes width stride
 unfolding step_of
 step-holds packing bytes width stride e = by-test (eqb packing 0) (eqb packing 1) (eqb packing 2) e
   where
     row : ℕ
-    row = rowLength bytes width
+    row = row_length bytes width
 
     by-test : (a b c : Bool)
         → (a && ltb (cond a stride (cond b row (cond c ((row + 1) / 2 * 2) ((row + 3) / 4 * 4)))) row) ≡ false
@@ -267,15 +267,15 @@ step-holds packing bytes width stride e = by-test (eqb packing 0) (eqb packing 1
     by-test false false true f = omega arith
     by-test false false false f = omega arith
 
-row-held : (r : Regs) → hostFault r ≡ false → rowLength (origins r).bytes (width r) ≤ (origins r).stride
+row-held : (r : Regs) → host_fault r ≡ false → row_length (origins r).bytes (width r) ≤ (origins r).stride
 unfolding source_of
 row-held r e =
-    step-holds (packingOf r.srcFormat) (bytes_of (sourceCode r.srcFormat)) (width r) (r.srcFormat % 2 ^ 14)
-    (or_right (not (eqb r.srcXY 0)) _ (or_right (not (eqb (r.command / 2 ^ 14 % 4) 0)) _ (or_right (not (eqb (r.srcFormat / 2 ^ 20 % 4) 0)) _ e)))
+    step-holds (packing_of r.src_format) (bytes_of (source_code r.src_format)) (width r) (r.src_format % 2 ^ 14)
+    (or_right (not (eqb r.src_xy 0)) _ (or_right (not (eqb (r.command / 2 ^ 14 % 4) 0)) _ (or_right (not (eqb (r.src_format / 2 ^ 20 % 4) 0)) _ e)))
 
 -- words are needed only where a row has bytes
-some-row : (bytes step w h : ℕ) → 0 < dataWords bytes step w h → 0 < rowLength bytes w
-unfolding dataWords dataBytes rowLength
+some-row : (bytes step w h : ℕ) → 0 < data_words bytes step w h → 0 < row_length bytes w
+unfolding data_words data_bytes row_length
 some-row bytes step w h p = by-test (eqb w 0) refl (eqb h 0) (eqb bytes 0) refl p
   where
     by-test : (z : Bool) → eqb w 0 ≡ z → (y : Bool) → (b : Bool) → eqb bytes 0 ≡ b
@@ -289,16 +289,16 @@ some-row bytes step w h p = by-test (eqb w 0) refl (eqb h 0) (eqb bytes 0) refl 
         omega (arith, mul-pos some deep, mul_left_comm w 8 bytes)
 
 -- a pixel of the rectangle that is inside the clip is one of those that the clip leaves
-in_cut : (c : Clip) (x y w h sx sy i j : ℕ) → i < w → j < h → inClip c (x + i) (y + j) ≡ true
-    → Inside (cut_at c x y w h sx sy).x (cut_at c x y w h sx sy).y (cut_at c x y w h sx sy).w (cut_at c x y w h sx sy).h (pixelAt (x + i) (y + j))
+in_cut : (c : Clip) (x y w h sx sy i j : ℕ) → i < w → j < h → in_clip c (x + i) (y + j) ≡ true
+    → Inside (cut_at c x y w h sx sy).x (cut_at c x y w h sx sy).y (cut_at c x y w h sx sy).w (cut_at c x y w h sx sy).h (pixel_at (x + i) (y + j))
 unfolding cut_at
 in_cut c x y w h sx sy i j p q e = let k = in-clip c (x + i) (y + j) e in omega arith
 
-pub host-can : (r : Regs) (len : ℕ) → hostVerdict r len ≡ 0 → 0 < words_of (feedOf r) → Opened (inkOf r) (clipOf r) (feedOf r) len
-unfolding inkOf feedOf fillCut
+pub host-can : (r : Regs) (len : ℕ) → host_verdict r len ≡ 0 → 0 < words_of (feed_of r) → Opened (ink_of r) (clip_of r) (feed_of r) len
+unfolding ink_of feed_of fill_cut
 host-can r len e words =
     let p = host-passed r len e in
-    let colour = target-colour r.dstBaseAddr r.dstFormat (and_left (targetFine r) _ p.fine) in
+    let colour = target-colour r.dst_base_addr r.dst_format (and_left (target_fine r) _ p.fine) in
     record {
       colour = colour;
       bits12 = clip-bits r;
@@ -312,29 +312,29 @@ host-can r len e words =
       covered = record {
         on = λ i j iw jh inside. record {
           colour = colour;
-          on = all-each (target r) len (covered (fillCut r)) p.on (pixelAt (placed r.dstXY + i) (placed (r.dstXY / 2 ^ 16) + j))
-              (rect-in false false (fillCut r).x (fillCut r).y (fillCut r).w (fillCut r).h _
-              (in_cut (clipOf r) (placed r.dstXY) (placed (r.dstXY / 2 ^ 16)) (width r) (height r) origin origin i j iw jh inside));
+          on = all-each (target r) len (covered (fill_cut r)) p.on (pixel_at (placed r.dst_xy + i) (placed (r.dst_xy / 2 ^ 16) + j))
+              (rect-in false false (fill_cut r).x (fill_cut r).y (fill_cut r).w (fill_cut r).h _
+              (in_cut (clip_of r) (placed r.dst_xy) (placed (r.dst_xy / 2 ^ 16)) (width r) (height r) origin origin i j iw jh inside));
         };
       };
     }
 
 -- a number of words that four bytes each of a word can count
-pub words-few : (r : Regs) → words_of (feedOf r) < 2 ^ 29
-unfolding dataWords dataBytes
-words-few r = by-test (eqb (feedOf r).width 0 || eqb (feedOf r).height 0)
+pub words-few : (r : Regs) → words_of (feed_of r) < 2 ^ 29
+unfolding data_words data_bytes
+words-few r = by-test (eqb (feed_of r).width 0 || eqb (feed_of r).height 0)
   where
-    by-test : (z : Bool) → (cond z 0 (((feedOf r).height - 1) * (feedOf r).step + rowLength (feedOf r).bytes (feedOf r).width) + 3) / 4 < 2 ^ 29
+    by-test : (z : Bool) → (cond z 0 (((feed_of r).height - 1) * (feed_of r).step + row_length (feed_of r).bytes (feed_of r).width) + 3) / 4 < 2 ^ 29
     by-test true = omega arith
-    by-test false = omega (arith, data-small (feedOf r) (feed-sizes r))
+    by-test false = omega (arith, data-small (feed_of r) (feed-sizes r))
 
 -- the ink of a plain blit draws as the plain one
-pub plain-ink : (r : Regs) → plainBlit r ≡ true → Plainly (inkOf r) (plain_of r)
-unfolding inkOf plain_of
+pub plain-ink : (r : Regs) → plain_blit r ≡ true → Plainly (ink_of r) (plain_of r)
+unfolding ink_of plain_of
 plain-ink r e =
     let code = eqb (r.command / 2 ^ 24 % 2 ^ 8) 0xcc in
-    let source = not (bit r.commandExtra 0) in
-    let target = not (bit r.commandExtra 1) in
+    let source = not (bit r.command_extra 0) in
+    let target = not (bit r.command_extra 1) in
     let keys = and_right code (source && target) e in
     record {
       target = refl;
@@ -342,5 +342,5 @@ plain-ink r e =
       back = refl;
       clear = refl;
       gets = ap₂ (λ s t. s && t) (and_left code (source && target) e) (and_right source target keys);
-      unkeyed = not-true (bit r.commandExtra 0) (and_left source target keys);
+      unkeyed = not-true (bit r.command_extra 0) (and_left source target keys);
     }

@@ -2,7 +2,7 @@
 -- Assumes nothing.
 use Rattle.std.specs.Prelude.{ℕ, ◌+◌, ◌-◌, ◌^◌, ◌<◌, ◌≤◌}
 use Rattle.surface.specs.declared.Surface.{Surface}
-use Rattle.surface.specs.Place.{rowPixels}
+use Rattle.surface.specs.Place.{row_pixels}
 use Rattle.surface.specs.Asked.{Small}
 use Rattle.surface.specs.Pixels.{origin}
 use Rattle.cuts.specs.declared.Cut.{Cut}
@@ -15,7 +15,7 @@ use Rattle.command.specs.Decode.{target}
 pub record InRows (t s : Surface) (c b : Cut) : Type 0 where
   pub target : Small t
   pub source : Small s
-  pub columns : 0 < c.w → 0 < c.h → (c.x + (c.w - 1) < rowPixels t) × (b.sx - origin + (b.w - 1) < rowPixels s)
+  pub columns : 0 < c.w → 0 < c.h → (c.x + (c.w - 1) < row_pixels t) × (b.sx - origin + (b.w - 1) < row_pixels s)
   pub left : 0 < c.w → 0 < c.h → origin ≤ b.sx
   pub top : 0 < c.w → 0 < c.h → origin ≤ b.sy
 

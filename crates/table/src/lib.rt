@@ -3,7 +3,7 @@ ghost use Rattle.std.specs.Prelude.{◌≡◌, ◌-◌, ◌<◌};
 ghost use Rattle.surface.specs.Asked.{Small};
 ghost use Rattle.spans.specs.Span.{span_of, meet};
 ghost use Rattle.cuts.specs.Cut.{covered, needed};
-ghost use Rattle.table.specs.Table.{fineWith, bothFine, hostFine, allOnAt, pixels, reachOf, takenCut, sourceRows, stretchRows, stretchFault, hostFault, fillVerdict, copyVerdict, stretchVerdict, hostVerdict, lineVerdict};
+ghost use Rattle.table.specs.Table.{fine_with, both_fine, host_fine, all_on_at, pixels, reach_of, taken_cut, source_rows, stretch_rows, stretch_fault, host_fault, fill_verdict, copy_verdict, stretch_verdict, host_verdict, line_verdict};
 ghost use Rattle.table.specs.Asked.{InRows, Reaches, OnScales};
 
 use cuts::Cut;
@@ -13,30 +13,30 @@ use scale::{Scale, Stretch};
 use surface::Surface;
 
 fn fine_with(named: bool, r: Regs) -> bool
-    ensures { result ≡ fineWith named r }
+    ensures { result ≡ fine_with named r }
 {
     let s = command::source_surface(r);
     let t = command::target_surface(r);
-    formats::names_target(r.dstFormat) & (named & colour::may_convert(s.bytes, t.bytes))
+    formats::names_target(r.dst_format) & (named & colour::may_convert(s.bytes, t.bytes))
 }
 
 fn both_fine(r: Regs) -> bool
-    ensures { result ≡ bothFine r }
+    ensures { result ≡ both_fine r }
 {
-    fine_with(formats::names_source(r.srcBaseAddr, r.srcFormat), r)
+    fine_with(formats::names_source(r.src_base_addr, r.src_format), r)
 }
 
 // The same for a host blit.
 fn host_fine(r: Regs) -> bool
-    ensures { result ≡ hostFine r }
+    ensures { result ≡ host_fine r }
 {
-    fine_with(formats::names_host(r.srcBaseAddr, r.srcFormat), r)
+    fine_with(formats::names_host(r.src_base_addr, r.src_format), r)
 }
 
 // Whether every source pixel that a copy needs is on its surface: the first is not negative, and the last is there.
 fn needed_on(len: usize, s: Surface, c: Cut, room: Room) -> bool
     requires { Small s }
-    ensures { result ≡ allOnAt s len (needed c) }
+    ensures { result ≡ all_on_at s len (needed c) }
 {
     if c.w == 0 {
         return true;
@@ -73,7 +73,7 @@ fn spans_clash(t: Surface, s: Surface, c: Cut, b: Cut) -> bool
 // A lenient command may have both on one surface.
 fn source_rows(len: usize, t: Surface, s: Surface, c: Cut, b: Cut, lenient: bool, k: Rooms) -> u32
     requires { Small t × Small s × (0 < c.w → 0 < c.h → (0 < b.w) × (0 < b.h)) }
-    ensures { result ≡ sourceRows t s len c (needed b) lenient }
+    ensures { result ≡ source_rows t s len c (needed b) lenient }
 {
     let ours = k.target;
     let theirs = k.source;
@@ -87,9 +87,9 @@ fn source_rows(len: usize, t: Surface, s: Surface, c: Cut, b: Cut, lenient: bool
 }
 
 pub fn fill_verdict(len: usize, r: Regs, k: Rooms) -> u32
-    ensures { result ≡ fillVerdict r len }
+    ensures { result ≡ fill_verdict r len }
 {
-    if !formats::names_target(r.dstFormat) {
+    if !formats::names_target(r.dst_format) {
         return 5;
     }
     let t = command::target_surface(r);
@@ -102,7 +102,7 @@ pub fn fill_verdict(len: usize, r: Regs, k: Rooms) -> u32
 }
 
 pub fn copy_verdict(len: usize, r: Regs, k: Rooms) -> u32
-    ensures { result ≡ copyVerdict r len }
+    ensures { result ≡ copy_verdict r len }
 {
     if !both_fine(r) {
         return 5;
@@ -110,7 +110,7 @@ pub fn copy_verdict(len: usize, r: Regs, k: Rooms) -> u32
     let t = command::target_surface(r);
     let s = command::source_surface(r);
     let c = cuts::copy_cut(r);
-    source_rows(len, t, s, c, c, true, rooms::tell(r.srcFormat, k))
+    source_rows(len, t, s, c, c, true, rooms::tell(r.src_format, k))
 }
 
 // The source places that target places take, on one axis: the first, and how many there are from it to the last.
@@ -122,7 +122,7 @@ struct Reach {
 
 fn reach_of(s: Scale, at: u32, n: u32) -> Reach
     requires { Reaches s at n }
-    ensures { result ≡ reachOf s at n }
+    ensures { result ≡ reach_of s at n }
 {
     let first = scale::place_of(s, 16384 + at);
     let last = scale::place_of(s, 16384 + (at + (n - 1)));
@@ -135,7 +135,7 @@ fn reach_of(s: Scale, at: u32, n: u32) -> Reach
 // The box of the source positions that the pixels of a cut take.
 fn taken_cut(t: Stretch, c: Cut) -> Cut
     requires { Reaches t.columns c.x c.w × Reaches t.rows c.y c.h }
-    ensures { result ≡ takenCut t c }
+    ensures { result ≡ taken_cut t c }
 {
     let columns = t.columns;
     let rows = t.rows;
@@ -154,7 +154,7 @@ fn taken_cut(t: Stretch, c: Cut) -> Cut
 // Rows 7 and 8 of a stretch to the pixels of a cut. Source positions go up with the target's, so that the box has them all, and its corners are taken.
 fn stretch_rows(len: usize, t: Stretch, c: Cut, k: Rooms) -> u32
     requires { OnScales t c }
-    ensures { result ≡ stretchRows t c len }
+    ensures { result ≡ stretch_rows t c len }
 {
     let ink = t.ink;
     let target = ink.target;
@@ -171,14 +171,14 @@ fn stretch_rows(len: usize, t: Stretch, c: Cut, k: Rooms) -> u32
 
 // Whether row 6 applies to a stretch: its source has no width or no height, and its target has both.
 fn stretch_fault(r: Regs) -> bool
-    ensures { result ≡ stretchFault r }
+    ensures { result ≡ stretch_fault r }
 {
-    ((0 < r.dstSize % 0x2000) & (0 < r.dstSize / 0x1_0000 % 0x2000))
-        & ((r.srcSize % 0x2000 == 0) | (r.srcSize / 0x1_0000 % 0x2000 == 0))
+    ((0 < r.dst_size % 0x2000) & (0 < r.dst_size / 0x1_0000 % 0x2000))
+        & ((r.src_size % 0x2000 == 0) | (r.src_size / 0x1_0000 % 0x2000 == 0))
 }
 
 pub fn stretch_verdict(len: usize, r: Regs, k: Rooms) -> u32
-    ensures { result ≡ stretchVerdict r len }
+    ensures { result ≡ stretch_verdict r len }
 {
     if !both_fine(r) {
         return 5;
@@ -188,22 +188,22 @@ pub fn stretch_verdict(len: usize, r: Regs, k: Rooms) -> u32
     }
     let t = command::decode_stretch(r);
     let c = cuts::fill_cut(r);
-    stretch_rows(len, t, c, rooms::tell(r.srcFormat, k))
+    stretch_rows(len, t, c, rooms::tell(r.src_format, k))
 }
 
 // Whether row 6 applies to a host blit.
 fn host_fault(r: Regs) -> bool
-    ensures { result ≡ hostFault r }
+    ensures { result ≡ host_fault r }
 {
     let s = command::source_surface(r);
-    let row = formats::row_length(s.bytes, r.dstSize % 0x2000);
-    !(r.srcFormat / 0x10_0000 % 4 == 0)
+    let row = formats::row_length(s.bytes, r.dst_size % 0x2000);
+    !(r.src_format / 0x10_0000 % 4 == 0)
         | (!(r.command / 0x4000 % 4 == 0)
-            | (!(r.srcXY == 0) | ((r.srcFormat / 0x40_0000 % 4 == 0) & (s.stride < row))))
+            | (!(r.src_xy == 0) | ((r.src_format / 0x40_0000 % 4 == 0) & (s.stride < row))))
 }
 
 pub fn host_verdict(len: usize, r: Regs, k: Rooms) -> u32
-    ensures { result ≡ hostVerdict r len }
+    ensures { result ≡ host_verdict r len }
 {
     if !host_fine(r) {
         return 5;
@@ -221,9 +221,9 @@ pub fn host_verdict(len: usize, r: Regs, k: Rooms) -> u32
 }
 
 pub fn line_verdict(len: usize, r: Regs) -> u32
-    ensures { result ≡ lineVerdict r len }
+    ensures { result ≡ line_verdict r len }
 {
-    if !formats::names_target(r.dstFormat) {
+    if !formats::names_target(r.dst_format) {
         return 5;
     }
     let t = command::target_surface(r);

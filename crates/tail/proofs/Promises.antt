@@ -6,11 +6,11 @@ use Prim.Native.Nat.{◌<◌}
 use native.Mathlib.Omega.{arith}
 use lib.Dec.{eqb}
 use borrow.Author.Tests.{lt-ltb}
-use Rattle.basics.specs.Word.{wordAt}
+use Rattle.basics.specs.Word.{word_at}
 use Rattle.basics.proofs.WordLaws.{four_bytes}
 use Rattle.packets.specs.declared.Rest.{Rest}
 use Rattle.packets.specs.declared.Rest.TheVariants.{Empty, Counted, Masked}
-use Rattle.tail.specs.Layout.{kind_of, offset_of, step_of, left_of, rest_of, encoded, decoded, isReader}
+use Rattle.tail.specs.Layout.{kind_of, offset_of, step_of, left_of, rest_of, encoded, decoded, is_reader}
 use Rattle.tail.specs.Promises.{ReaderBack, StaysReader}
 
 rest_back : (rest : Rest) → rest_of (kind_of rest) (offset_of rest) (step_of rest) (left_of rest) ≡ rest
@@ -33,7 +33,7 @@ flag-back true = refl
 flag-back false = refl
 
 pub reader-back : ReaderBack
-unfolding decoded encoded wordAt
+unfolding decoded encoded word_at
 reader-back r f =
     let kind = kind-small r.rest in
     let flag = flag_small r.closed in
@@ -50,7 +50,7 @@ reader-back r f =
     )
 
 pub stays-reader : StaysReader
-unfolding isReader encoded wordAt
+unfolding is_reader encoded word_at
 stays-reader r h =
     let kind = kind-small r.rest in
     let flag = flag_small r.closed in

@@ -1,14 +1,14 @@
 -- The bytes that hold a reader between two calls: what stands at which place, the bytes of a reader, and the reader that bytes hold.
 -- Assumes nothing.
 use Rattle.std.specs.Prelude.{Bool, cond, ◌&&◌, List, [], ◌∷◌, ℕ, ◌/◌, ◌%◌, ◌^◌, eqb, ltb, length}
-use Rattle.basics.specs.Word.{wordAt, withWord}
+use Rattle.basics.specs.Word.{word_at, with_word}
 use Rattle.packets.specs.declared.Rest.{Rest}
 use Rattle.packets.specs.declared.Rest.TheVariants.{Empty, Counted, Masked}
 use Rattle.packets.specs.declared.Reader.{Reader}
 
 -- the length of a reader's bytes, and the word that they begin with
-abbrev pub readerSize : ℕ
-readerSize = 32
+abbrev pub reader_size : ℕ
+reader_size = 32
 
 abbrev pub mark : ℕ
 mark = 0x6c696154
@@ -42,28 +42,28 @@ abbrev pub slots : Reader → List ℕ
 slots r = mark ∷ r.word ∷ r.held ∷ cond r.closed 1 0 ∷ kind_of r.rest ∷ offset_of r.rest ∷ step_of r.rest ∷ left_of r.rest ∷ []
 
 -- the bytes of some words, low byte first
-abbrev pub bytesIn : List ℕ → List ℕ
-bytesIn [] = []
-bytesIn (w ∷ ws) = w % 2 ^ 8 ∷ w / 2 ^ 8 % 2 ^ 8 ∷ w / 2 ^ 16 % 2 ^ 8 ∷ w / 2 ^ 24 % 2 ^ 8 ∷ bytesIn ws
+abbrev pub bytes_in : List ℕ → List ℕ
+bytes_in [] = []
+bytes_in (w ∷ ws) = w % 2 ^ 8 ∷ w / 2 ^ 8 % 2 ^ 8 ∷ w / 2 ^ 16 % 2 ^ 8 ∷ w / 2 ^ 24 % 2 ^ 8 ∷ bytes_in ws
 
 unfoldable pub encoded : Reader → List ℕ
-encoded r = bytesIn (slots r)
+encoded r = bytes_in (slots r)
 
 -- ---- the reader that bytes hold
 unfoldable pub decoded : List ℕ → Reader
 decoded s = record {
-  word = wordAt s 0x04;
-  held = wordAt s 0x08;
-  rest = rest_of (wordAt s 0x10) (wordAt s 0x14) (wordAt s 0x18) (wordAt s 0x1c);
-  closed = eqb (wordAt s 0x0c) 1;
+  word = word_at s 0x04;
+  held = word_at s 0x08;
+  rest = rest_of (word_at s 0x10) (word_at s 0x14) (word_at s 0x18) (word_at s 0x1c);
+  closed = eqb (word_at s 0x0c) 1;
 }
 
 -- whether bytes are a reader's: their number, the mark, at most three bytes held, a flag that is 0 or 1, and a kind that there is
-unfoldable pub isReader : List ℕ → Bool
-isReader s =
-    eqb (length s) readerSize
-    && (eqb (wordAt s 0) mark && ltb (wordAt s 0x08) 4 && ltb (wordAt s 0x0c) 2 && ltb (wordAt s 0x10) 3)
+unfoldable pub is_reader : List ℕ → Bool
+is_reader s =
+    eqb (length s) reader_size
+    && (eqb (word_at s 0) mark && ltb (word_at s 0x08) 4 && ltb (word_at s 0x0c) 2 && ltb (word_at s 0x10) 3)
 
 -- ---- what the code does on the way: what is left of a packet, put at its places
-unfoldable pub withRest : List ℕ → Rest → List ℕ
-withRest s rest = withWord (withWord (withWord (withWord s 0x10 (kind_of rest)) 0x14 (offset_of rest)) 0x18 (step_of rest)) 0x1c (left_of rest)
+unfoldable pub with_rest : List ℕ → Rest → List ℕ
+with_rest s rest = with_word (with_word (with_word (with_word s 0x10 (kind_of rest)) 0x14 (offset_of rest)) 0x18 (step_of rest)) 0x1c (left_of rest)

@@ -2,7 +2,7 @@
 -- Assumes nothing.
 use Rattle.std.specs.Prelude.{◌≡◌, true, ◌^◌, ◌<◌}
 use Rattle.packets.specs.declared.Reader.{Reader}
-use Rattle.tail.specs.Layout.{offset_of, step_of, left_of, encoded, decoded, isReader}
+use Rattle.tail.specs.Layout.{offset_of, step_of, left_of, encoded, decoded, is_reader}
 
 -- a reader whose numbers fit their places, as those of the code do
 pub record Fits (r : Reader) : Type 0 where
@@ -16,4 +16,4 @@ abbrev pub ReaderBack : Type 0
 ReaderBack = (r : Reader) → Fits r → decoded (encoded r) ≡ r
 
 abbrev pub StaysReader : Type 0
-StaysReader = (r : Reader) → r.held < 4 → isReader (encoded r) ≡ true
+StaysReader = (r : Reader) → r.held < 4 → is_reader (encoded r) ≡ true

@@ -1,12 +1,12 @@
 // The reader of packets as bytes, laid out as specs/Layout.antt says.
 ghost use Rattle.std.specs.Prelude.{◌≡◌, length};
-ghost use Rattle.tail.specs.Layout.{readerSize, kind_of, offset_of, step_of, left_of, rest_of, encoded, decoded, isReader, withRest};
+ghost use Rattle.tail.specs.Layout.{reader_size, kind_of, offset_of, step_of, left_of, rest_of, encoded, decoded, is_reader, with_rest};
 
 use packets::{Reader, Rest};
 
 // Whether bytes are a reader's.
 pub fn is_reader(s: &[u8]) -> bool
-    ensures { result ≡ isReader s.now }
+    ensures { result ≡ is_reader s.now }
 {
     if s.len() != 32 {
         return false;
@@ -30,7 +30,7 @@ fn rest_of(kind: u32, offset: u32, step: u32, left: u32) -> Rest
 }
 
 pub fn decode(s: &[u8]) -> Reader
-    requires { length s.now ≡ readerSize }
+    requires { length s.now ≡ reader_size }
     ensures { result ≡ decoded s.now }
 {
     let rest = rest_of(
@@ -88,8 +88,8 @@ pub fn left_of(rest: Rest) -> u32
 }
 
 fn save_rest(s: &mut [u8], rest: Rest)
-    requires { length s.old ≡ readerSize }
-    ensures { (s.new ≡ withRest s.old rest) × (length s.new ≡ readerSize) }
+    requires { length s.old ≡ reader_size }
+    ensures { (s.new ≡ with_rest s.old rest) × (length s.new ≡ reader_size) }
 {
     basics::put_word(s, 0x10, kind_of(rest));
     basics::put_word(s, 0x14, offset_of(rest));
@@ -98,7 +98,7 @@ fn save_rest(s: &mut [u8], rest: Rest)
 }
 
 pub fn save(s: &mut [u8], r: Reader)
-    requires { length s.old ≡ readerSize }
+    requires { length s.old ≡ reader_size }
     ensures { s.new ≡ encoded r }
 {
     let rest = r.rest;

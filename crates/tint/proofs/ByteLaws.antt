@@ -10,14 +10,14 @@ use lib.Arith.{digits_div, digits_mod, mod-mul}
 use lib.Bits.{bit_and, bit_xor, and_shr, and_mod, xor_shr, xor_mod}
 use lib.ListN.{length, get_or, set, length-set}
 use lib.Seq.{get_or-set_other, set-get_or, ext_get_or}
-use Rattle.surface.specs.Place.{readBytes, writeBytes}
+use Rattle.surface.specs.Place.{read_bytes, write_bytes}
 use Rattle.surface.proofs.Bytes.{length-written, read-written, read_alike, written-other}
 use Rattle.surface.proofs.Lists.{by_cases}
 use Rattle.ink.specs.declared.Ink.{Ink}
 use Rattle.ink.proofs.PatternLaws.{bytes_pos, filled_more}
-use Rattle.paint.proofs.Frame.{Bytes, write_bytes}
+use Rattle.paint.proofs.Frame.{Bytes, write-bytes}
 use Rattle.tint.specs.declared.Mask.{Mask}
-use Rattle.tint.specs.Masking.{masked, maskIn, maskHere, blended, Table, Numbers, Tables, tables, MadeOf, MasksOf}
+use Rattle.tint.specs.Masking.{masked, mask_in, mask_here, blended, Table, Numbers, Tables, tables, MadeOf, MasksOf}
 
 -- ---- a mask at its lowest byte, and above it
 pub masked_low : (d keep flip : ℕ) → masked d keep flip % 256 ≡ masked (d % 256) (keep % 256) (flip % 256)
@@ -29,12 +29,12 @@ unfolding masked
 masked-high d keep flip = xor_shr (bit_and d keep) flip 8 ∙ ap (λ (a : ℕ). bit_xor a (flip / 256)) (and_shr d keep 8)
 
 -- ---- bytes that are written where they were read leave the memory as it is
-pub put_back : (m : List ℕ) (at : ℕ → ℕ) (k n : ℕ) → Bytes m → writeBytes at k n (readBytes m at k n) m ≡ m
-unfolding readBytes writeBytes
+pub put_back : (m : List ℕ) (at : ℕ → ℕ) (k n : ℕ) → Bytes m → write_bytes at k n (read_bytes m at k n) m ≡ m
+unfolding read_bytes write_bytes
 put_back m at k zero b = refl
 put_back m at k (suc n) b =
-    let low : (get_or m (at k) 0 + 256 * readBytes m at (suc k) n) % 256 ≡ get_or m (at k) 0 = omega (arith, b (at k)) in
-    let high : (get_or m (at k) 0 + 256 * readBytes m at (suc k) n) / 256 ≡ readBytes m at (suc k) n = omega (arith, b (at k)) in
+    let low : (get_or m (at k) 0 + 256 * read_bytes m at (suc k) n) % 256 ≡ get_or m (at k) 0 = omega (arith, b (at k)) in
+    let high : (get_or m (at k) 0 + 256 * read_bytes m at (suc k) n) / 256 ≡ read_bytes m at (suc k) n = omega (arith, b (at k)) in
     rw (low, high, set-get_or m (at k) 0) (put_back m at (suc k) n b)
 
 -- ---- n bytes of masks do for n bytes
@@ -47,8 +47,8 @@ cut_low v n = rw (cut v n) (digits_mod (v / 256 % 256 ^ n) (mod-lt v (omega arit
 cut_high : (v n : ℕ) → v % 256 ^ suc n / 256 ≡ v / 256 % 256 ^ n
 cut_high v n = rw (cut v n) (digits_div (v / 256 % 256 ^ n) (mod-lt v (omega arith)))
 
-pub put_low : (at : ℕ → ℕ) (k n d keep flip : ℕ) (m : List ℕ) → writeBytes at k n (masked d (keep % 256 ^ n) (flip % 256 ^ n)) m ≡ writeBytes at k n (masked d keep flip) m
-unfolding writeBytes
+pub put_low : (at : ℕ → ℕ) (k n d keep flip : ℕ) (m : List ℕ) → write_bytes at k n (masked d (keep % 256 ^ n) (flip % 256 ^ n)) m ≡ write_bytes at k n (masked d keep flip) m
+unfolding write_bytes
 put_low at k zero d keep flip m = refl
 put_low at k (suc n) d keep flip m =
     let low : masked d (keep % 256 ^ suc n) (flip % 256 ^ suc n) % 256 ≡ masked d keep flip % 256 =
@@ -86,16 +86,16 @@ blended-append keep flip from at (suc a) b m =
 -- a pixel's bytes are the pixel
 pixel-from : (keep flip : List ℕ) (from at k n : ℕ) (m : List ℕ) → Bytes keep → Bytes flip → ((j : ℕ) → k ≤ j → get_or m (at + j) 0 < 256)
     → blended keep flip (from + k) (at + k) n m
-    ≡ writeBytes (λ j. at + j) k n (masked (readBytes m (λ j. at + j) k n) (readBytes keep (λ j. from + j) k n) (readBytes flip (λ j. from + j) k n)) m
-unfolding blended readBytes writeBytes
+    ≡ write_bytes (λ j. at + j) k n (masked (read_bytes m (λ j. at + j) k n) (read_bytes keep (λ j. from + j) k n) (read_bytes flip (λ j. from + j) k n)) m
+unfolding blended read_bytes write_bytes
 pixel-from keep flip from at k zero m bk bf b = refl
 pixel-from keep flip from at k (suc n) m bk bf b =
     let d₀ = get_or m (at + k) 0 in
     let k₀ = get_or keep (from + k) 0 in
     let f₀ = get_or flip (from + k) 0 in
-    let d₁ = readBytes m (λ j. at + j) (suc k) n in
-    let k₁ = readBytes keep (λ j. from + j) (suc k) n in
-    let f₁ = readBytes flip (λ j. from + j) (suc k) n in
+    let d₁ = read_bytes m (λ j. at + j) (suc k) n in
+    let k₁ = read_bytes keep (λ j. from + j) (suc k) n in
+    let f₁ = read_bytes flip (λ j. from + j) (suc k) n in
     let next = set m (at + k) (masked d₀ k₀ f₀) in
     let later : (j : ℕ) → suc k ≤ j → get_or next (at + j) 0 ≡ get_or m (at + j) 0 = (λ j l. get_or-set_other m (at + k) (at + j) (masked d₀ k₀ f₀) 0 (λ e. omega arith)) in
     let dl : (d₀ + 256 * d₁) % 256 ≡ d₀ = omega (arith, b k (omega arith)) in
@@ -108,32 +108,32 @@ pixel-from keep flip from at k (suc n) m bk bf b =
     let a : at + k + 1 ≡ at + suc k = omega arith in
     rw (masked_low (d₀ + 256 * d₁) (k₀ + 256 * k₁) (f₀ + 256 * f₁), masked-high (d₀ + 256 * d₁) (k₀ + 256 * k₁) (f₀ + 256 * f₁), dl, kl, fl, dh, kh, fh, f, a)
     (pixel-from keep flip from at (suc k) n next bk bf (λ j l. rw (later j l) (b j (omega arith)))
-    ∙ ap (λ (d : ℕ). writeBytes (λ j. at + j) (suc k) n (masked d k₁ f₁) next) (read_alike (λ j. at + j) (suc k) n next m (λ j l u. later j l)))
+    ∙ ap (λ (d : ℕ). write_bytes (λ j. at + j) (suc k) n (masked d k₁ f₁) next) (read_alike (λ j. at + j) (suc k) n next m (λ j l u. later j l)))
 
 pub pixel-blended : (keep flip : List ℕ) (from at n : ℕ) (m : List ℕ) → Bytes keep → Bytes flip → Bytes m
     → blended keep flip from at n m
-    ≡ writeBytes (λ j. at + j) 0 n (masked (readBytes m (λ j. at + j) 0 n) (readBytes keep (λ j. from + j) 0 n) (readBytes flip (λ j. from + j) 0 n)) m
+    ≡ write_bytes (λ j. at + j) 0 n (masked (read_bytes m (λ j. at + j) 0 n) (read_bytes keep (λ j. from + j) 0 n) (read_bytes flip (λ j. from + j) 0 n)) m
 pixel-blended keep flip from at n m bk bf b =
     ap₂ (λ (f a : ℕ). blended keep flip f a n m) (sym (add-zero from)) (sym (add-zero at)) ∙ pixel-from keep flip from at 0 n m bk bf (λ j l. b (at + j))
 
 -- ---- a table of masks, one more of which is written
 pub table_more : {table old : List ℕ} {n k v : ℕ} {f : ℕ → ℕ} → Table n k f old table → k * n + n ≤ length table → v ≡ f k
-    → Table n (k + 1) f old (writeBytes (λ i. k * n + i) 0 n v table)
+    → Table n (k + 1) f old (write_bytes (λ i. k * n + i) 0 n v table)
 table_more {table} {n = n} {k = k} {v = v} {f = f} t inside e =
     let next : (k + 1) * n ≡ k * n + 1 * n = add-mul k 1 n in
     record {
       made = λ j l.
           by_cases (ℕ_discrete j k)
-          (λ q. subst (λ (i : ℕ). maskIn n (writeBytes (λ i. k * n + i) 0 n v table) i ≡ f i % 256 ^ n) (sym q)
+          (λ q. subst (λ (i : ℕ). mask_in n (write_bytes (λ i. k * n + i) 0 n v table) i ≡ f i % 256 ^ n) (sym q)
           (read-written (λ i. k * n + i) 0 n v table (λ a b g h w. omega arith) (λ b h. omega arith) ∙ ap (λ (u : ℕ). u % 256 ^ n) e))
           (λ q. let below : (j + 1) * n ≤ k * n = mul-le-mul_right n (omega arith) in
           let after : (j + 1) * n ≡ j * n + 1 * n = add-mul j 1 n in
-          read_alike (λ i. j * n + i) 0 n (writeBytes (λ i. k * n + i) 0 n v table) table
+          read_alike (λ i. j * n + i) 0 n (write_bytes (λ i. k * n + i) 0 n v table) table
           (λ i a b. written-other (λ i. k * n + i) 0 n v table (j * n + i) (λ h c d w. omega (arith, below, after)))
           ∙ t.made j (omega arith));
       rest = λ a l. written-other (λ i. k * n + i) 0 n v table a (λ h c d w. omega (arith, next)) ∙ t.rest a (omega (arith, next));
       long = length-written (λ i. k * n + i) 0 n v table ∙ t.long;
-      bytes = λ b. write_bytes (λ i. k * n + i) 0 n v table (t.bytes b);
+      bytes = λ b. write-bytes (λ i. k * n + i) 0 n v table (t.bytes b);
     }
 
 pub numbers_more : {numbers old : List ℕ} {k v : ℕ} {f : ℕ → ℕ} → Numbers k f old numbers → k < length numbers → v ≡ f k → Numbers (k + 1) f old (set numbers k v)
@@ -153,8 +153,8 @@ made_none ink pattern x y old =
     }
 
 pub made_more : {ink : Ink} {pattern : List ℕ} {x y k : ℕ} {old t : Tables} {m : Mask} → let n = ink.target.bytes in
-    MadeOf ink pattern x y k old t → k * n + n ≤ length t.keep → k * n + n ≤ length t.flip → k < length t.adds → m ≡ maskHere ink pattern x y k
-    → MadeOf ink pattern x y (k + 1) old (tables (writeBytes (λ i. k * n + i) 0 n m.keep t.keep) (writeBytes (λ i. k * n + i) 0 n m.flip t.flip) (set t.adds k m.adds))
+    MadeOf ink pattern x y k old t → k * n + n ≤ length t.keep → k * n + n ≤ length t.flip → k < length t.adds → m ≡ mask_here ink pattern x y k
+    → MadeOf ink pattern x y (k + 1) old (tables (write_bytes (λ i. k * n + i) 0 n m.keep t.keep) (write_bytes (λ i. k * n + i) 0 n m.flip t.flip) (set t.adds k m.adds))
 made_more t keeps flips adds e = record {
   keep = table_more t.keep keeps (ap (λ (m : Mask). m.keep) e);
   flip = table_more t.flip flips (ap (λ (m : Mask). m.flip) e);
@@ -162,8 +162,8 @@ made_more t keeps flips adds e = record {
 }
 
 -- ---- what is said of a table is one table
-read_same : (at : ℕ → ℕ) (k n : ℕ) (a b : List ℕ) → Bytes a → Bytes b → readBytes a at k n ≡ readBytes b at k n → (j : ℕ) → k ≤ j → j < k + n → get_or a (at j) 0 ≡ get_or b (at j) 0
-unfolding readBytes
+read_same : (at : ℕ → ℕ) (k n : ℕ) (a b : List ℕ) → Bytes a → Bytes b → read_bytes a at k n ≡ read_bytes b at k n → (j : ℕ) → k ≤ j → j < k + n → get_or a (at j) 0 ≡ get_or b (at j) 0
+unfolding read_bytes
 read_same at k zero a b f g e j low high = absurd (omega arith)
 read_same at k (suc n) a b f g e j low high =
     by_cases (ℕ_discrete j k)

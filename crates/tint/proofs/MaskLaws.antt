@@ -7,18 +7,18 @@ use native.Mathlib.Omega.{arith}
 use lib.Arith.{digits_div, digits_mod}
 use lib.Pow.{pow_pos}
 use lib.Bits.{bit_and, bit_xor, and_shr, and_mod, xor_shr, xor_mod, and_zero_r, xor_zero_r, and_mask}
-use Rattle.raster.specs.Rop.{ropBit, ropBits}
+use Rattle.raster.specs.Rop.{rop_bit, rop_bits}
 use Rattle.colour.proofs.Bits.{Bit, off, on, bit, two_pos, join}
 use Rattle.tint.specs.Masking.{ones, masked}
 
 -- ---- the result of a raster operation at its lowest bit, and above it
-rop-odd : (n code p s d : ℕ) → ropBits (suc n) code p s d % 2 ≡ ropBit code (p % 2) (s % 2) (d % 2)
-unfolding ropBits ropBit
-rop-odd n code p s d = digits_mod (ropBits n code (p / 2) (s / 2) (d / 2)) (mod-lt (code / 2 ^ (4 * (p % 2) + 2 * (s % 2) + d % 2)) two_pos)
+rop-odd : (n code p s d : ℕ) → rop_bits (suc n) code p s d % 2 ≡ rop_bit code (p % 2) (s % 2) (d % 2)
+unfolding rop_bits rop_bit
+rop-odd n code p s d = digits_mod (rop_bits n code (p / 2) (s / 2) (d / 2)) (mod-lt (code / 2 ^ (4 * (p % 2) + 2 * (s % 2) + d % 2)) two_pos)
 
-rop-half : (n code p s d : ℕ) → ropBits (suc n) code p s d / 2 ≡ ropBits n code (p / 2) (s / 2) (d / 2)
-unfolding ropBits ropBit
-rop-half n code p s d = digits_div (ropBits n code (p / 2) (s / 2) (d / 2)) (mod-lt (code / 2 ^ (4 * (p % 2) + 2 * (s % 2) + d % 2)) two_pos)
+rop-half : (n code p s d : ℕ) → rop_bits (suc n) code p s d / 2 ≡ rop_bits n code (p / 2) (s / 2) (d / 2)
+unfolding rop_bits rop_bit
+rop-half n code p s d = digits_div (rop_bits n code (p / 2) (s / 2) (d / 2)) (mod-lt (code / 2 ^ (4 * (p % 2) + 2 * (s % 2) + d % 2)) two_pos)
 
 -- ---- at each bit: a where d has a 1, b where it has a 0
 unfoldable blend : ℕ → ℕ → ℕ → ℕ
@@ -43,8 +43,8 @@ blend-first off on = refl
 blend-first on off = refl
 blend-first on on = refl
 
-blend-bit : (code p s : ℕ) {d : ℕ} → Bit d → blend d (ropBit code p s 1) (ropBit code p s 0) ≡ ropBit code p s d
-unfolding blend masked ropBit
+blend-bit : (code p s : ℕ) {d : ℕ} → Bit d → blend d (rop_bit code p s 1) (rop_bit code p s 0) ≡ rop_bit code p s d
+unfolding blend masked rop_bit
 blend-bit code p s off = refl
 blend-bit code p s on = blend-first (bit (code / 2 ^ (4 * p + 2 * s + 1))) (bit (code / 2 ^ (4 * p + 2 * s + 0)))
 
@@ -55,23 +55,23 @@ ones_odd n = rw pow-suc (omega (arith, pow_pos n))
 ones_half : (n : ℕ) → (2 ^ suc n - 1) / 2 ≡ 2 ^ n - 1
 ones_half n = rw pow-suc (omega (arith, pow_pos n))
 
-blend-rop : (n code p s d : ℕ) → blend d (ropBits n code p s (2 ^ n - 1)) (ropBits n code p s 0) ≡ ropBits n code p s d
-unfolding blend masked ropBits
+blend-rop : (n code p s d : ℕ) → blend d (rop_bits n code p s (2 ^ n - 1)) (rop_bits n code p s 0) ≡ rop_bits n code p s d
+unfolding blend masked rop_bits
 blend-rop zero code p s d = ap (λ (x : ℕ). bit_xor x 0) (and_zero_r d)
 blend-rop (suc n) code p s d =
-    let a = ropBits (suc n) code p s (2 ^ suc n - 1) in
-    let b = ropBits (suc n) code p s 0 in
+    let a = rop_bits (suc n) code p s (2 ^ suc n - 1) in
+    let b = rop_bits (suc n) code p s 0 in
     sym (div-add-mod' (blend d a b) 2)
     ∙ join
     (blend-half d a b
-    ∙ ap₂ (blend (d / 2)) (rop-half n code p s (2 ^ suc n - 1) ∙ ap (ropBits n code (p / 2) (s / 2)) (ones_half n)) (rop-half n code p s 0)
+    ∙ ap₂ (blend (d / 2)) (rop-half n code p s (2 ^ suc n - 1) ∙ ap (rop_bits n code (p / 2) (s / 2)) (ones_half n)) (rop-half n code p s 0)
     ∙ blend-rop n code (p / 2) (s / 2) (d / 2))
     (blend-odd d a b
-    ∙ ap₂ (blend (d % 2)) (rop-odd n code p s (2 ^ suc n - 1) ∙ ap (ropBit code (p % 2) (s % 2)) (ones_odd n)) (rop-odd n code p s 0)
+    ∙ ap₂ (blend (d % 2)) (rop-odd n code p s (2 ^ suc n - 1) ∙ ap (rop_bit code (p % 2) (s % 2)) (ones_odd n)) (rop-odd n code p s 0)
     ∙ blend-bit code (p % 2) (s % 2) (bit d))
 
 -- the raster operation as a mask
-pub mask-rop : (code p s d : ℕ) → masked d (bit_xor (ropBits 32 code p s ones) (ropBits 32 code p s 0)) (ropBits 32 code p s 0) ≡ ropBits 32 code p s d
+pub mask-rop : (code p s d : ℕ) → masked d (bit_xor (rop_bits 32 code p s ones) (rop_bits 32 code p s 0)) (rop_bits 32 code p s 0) ≡ rop_bits 32 code p s d
 unfolding blend
 mask-rop code p s d = blend-rop 32 code p s d
 

@@ -9,11 +9,11 @@ use native.Mathlib.Nat.{mod-lt, add-zero, add_comm, add-mul, zero-mul, one-mul, 
 use native.Mathlib.Omega.{arith}
 use lib.ListN.{length, get_or}
 use Rattle.surface.specs.declared.Surface.{Surface}
-use Rattle.surface.specs.Place.{byte_of, readBytes, writeBytes, readPx, writePx}
+use Rattle.surface.specs.Place.{byte_of, read_bytes, write_bytes, read_px, write_px}
 use Rattle.surface.specs.Asked.{OnColour}
 use Rattle.surface.specs.Pixels.{px, across}
 use Rattle.surface.proofs.Bytes.{read_fits}
-use Rattle.surface.proofs.Run.{in_rows, run-pixel, read-run, write-run}
+use Rattle.surface.proofs.Run.{in-rows, run-pixel, read-run, write-run}
 use Rattle.surface.proofs.Rects.{in-across}
 use Rattle.surface.proofs.OnLaws.{colour-byte}
 use Rattle.paint.specs.declared.Tally.{Tally}
@@ -23,7 +23,7 @@ use Rattle.paint.proofs.Turns.{paint-same}
 use Rattle.paint.proofs.Loops.{RowLeft, row-begins, row-takes, row-ended}
 use Rattle.paint.proofs.Frame.{Bytes, paint_bytes, painted-after}
 use Rattle.runs.proofs.Runs.{run-column, run-place}
-use Rattle.tint.specs.Masking.{ones, masked, byMask, maskIn, tinting, tintings, blended, Painted}
+use Rattle.tint.specs.Masking.{ones, masked, by_mask, mask_in, tinting, tintings, blended, Painted}
 use Rattle.tint.specs.Asked.{Sound, CanTint}
 use Rattle.tint.proofs.MaskLaws.{mask-keeps}
 use Rattle.tint.proofs.ByteLaws.{put_back, put_low, blended-append, pixel-blended}
@@ -40,28 +40,28 @@ small-pixel (suc (suc (suc (suc zero)))) h = omega arith
 small-pixel (suc (suc (suc (suc (suc n))))) h = absurd (omega arith)
 
 -- a mask that keeps all leaves the memory as it is
-stays : (s : Surface) (x y : ℕ) (m : List ℕ) → s.bytes < 5 → Bytes m → writePx m s x y (masked (readPx m s x y) (ones % 256 ^ s.bytes) (0 % 256 ^ s.bytes)) ≡ m
-unfolding writePx readPx
+stays : (s : Surface) (x y : ℕ) (m : List ℕ) → s.bytes < 5 → Bytes m → write_px m s x y (masked (read_px m s x y) (ones % 256 ^ s.bytes) (0 % 256 ^ s.bytes)) ≡ m
+unfolding write_px read_px
 stays s x y m few b =
-    let old = readBytes m (byte_of s x y) 0 s.bytes in
+    let old = read_bytes m (byte_of s x y) 0 s.bytes in
     let small : old < 256 ^ s.bytes = read_fits m (byte_of s x y) 0 s.bytes (λ j. b (byte_of s x y j)) in
     put_low (byte_of s x y) 0 s.bytes old ones 0 m
-    ∙ ap (λ (v : ℕ). writeBytes (byte_of s x y) 0 s.bytes v m) (mask-keeps old (omega (arith, small, small-pixel s.bytes few)))
+    ∙ ap (λ (v : ℕ). write_bytes (byte_of s x y) 0 s.bytes v m) (mask-keeps old (omega (arith, small, small-pixel s.bytes few)))
     ∙ put_back m (byte_of s x y) 0 s.bytes b
 
 -- a pixel goes through its mask and is counted, or it stays
 pub step : (s : Surface) (x y keep flip adds : ℕ) (st : State) → s.bytes < 5 → Bytes st.mem → Sound s.bytes keep flip adds
-    → let put = dab s (px x y) (byMask keep flip adds (readPx st.mem s x y)) st in
-    (put.mem ≡ writePx st.mem s x y (masked (readPx st.mem s x y) keep flip)) × (put.tally.count ≡ st.tally.count + adds)
-unfolding dab byMask
+    → let put = dab s (px x y) (by_mask keep flip adds (read_px st.mem s x y)) st in
+    (put.mem ≡ write_px st.mem s x y (masked (read_px st.mem s x y) keep flip)) × (put.tally.count ≡ st.tally.count + adds)
+unfolding dab by_mask
 step s x y keep flip zero st few b sound = let e = sound.left refl in (rw (e.0, e.1, stays s x y st.mem few b), omega arith)
 step s x y keep flip (suc zero) st few b sound = (refl, refl)
 step s x y keep flip (suc (suc adds)) st few b sound = absurd (omega (arith, sound.few))
 
 -- a memory of bytes stays one
-write_bytes : (s : Surface) (x y v : ℕ) (m : List ℕ) → Bytes m → Bytes (writePx m s x y v)
+write-bytes : (s : Surface) (x y v : ℕ) (m : List ℕ) → Bytes m → Bytes (write_px m s x y v)
 unfolding paint dab
-write_bytes s x y v m b = paint_bytes s (touch (px x y) (λ now. some v) ∷ []) (state m 0 0) b
+write-bytes s x y v m b = paint_bytes s (touch (px x y) (λ now. some v) ∷ []) (state m 0 0) b
 
 -- ---- the pixels of a row, byte by byte
 
@@ -79,7 +79,7 @@ total-more adds k (suc w) =
     rw (e, f) (omega (arith, total-more adds (k + 1) w))
 
 module _ (s : Surface) (keep flip adds : List ℕ) (first x y : ℕ) (flat : s.tiled ≡ false) (colour : 0 < s.bytes) (few : s.bytes < 5) (bk : Bytes keep) (bf : Bytes flip)
-    (sound : (i : ℕ) → i < 8 → Sound s.bytes (maskIn s.bytes keep (first + i)) (maskIn s.bytes flip (first + i)) (get_or adds (first + i) 0)) where
+    (sound : (i : ℕ) → i < 8 → Sound s.bytes (mask_in s.bytes keep (first + i)) (mask_in s.bytes flip (first + i)) (get_or adds (first + i) 0)) where
   -- w pixels from number c on
   pixels : (c w : ℕ) (st : State) → c + w ≤ 8 → Bytes st.mem → let after = paint s (tintings s keep flip adds first x (across false (x + c) w y)) st in
       (after.mem ≡ blended keep flip ((first + c) * s.bytes) (byte_of s (x + c) y 0) (w * s.bytes) st.mem) × (after.tally.count ≡ st.tally.count + total adds (first + c) w)
@@ -91,19 +91,19 @@ module _ (s : Surface) (keep flip adds : List ℕ) (first x y : ℕ) (flat : s.t
       let k = first + c in
       let at = byte_of s (x + c) y 0 in
       let phase : (x + c - x) % 8 ≡ c = omega arith in
-      let value = masked (readPx m s (x + c) y) (maskIn n keep k) (maskIn n flip k) in
-      let wrote : blended keep flip (k * n) at n m ≡ writePx m s (x + c) y value =
+      let value = masked (read_px m s (x + c) y) (mask_in n keep k) (mask_in n flip k) in
+      let wrote : blended keep flip (k * n) at n m ≡ write_px m s (x + c) y value =
       pixel-blended keep flip (k * n) at n m bk bf b
-      ∙ ap (λ (d : ℕ). writeBytes (λ j. at + j) 0 n (masked d (maskIn n keep k) (maskIn n flip k)) m) (read-run s (in_rows flat) (x + c) y at refl m)
-      ∙ write-run s (in_rows flat) (x + c) y at refl value m in
-      let did = step s (x + c) y (maskIn n keep k) (maskIn n flip k) (get_or adds k 0) st few b (sound c (omega arith)) in
-      let st₁ = dab s (px (x + c) y) (byMask (maskIn n keep k) (maskIn n flip k) (get_or adds k 0) (readPx m s (x + c) y)) st in
+      ∙ ap (λ (d : ℕ). write_bytes (λ j. at + j) 0 n (masked d (mask_in n keep k) (mask_in n flip k)) m) (read-run s (in-rows flat) (x + c) y at refl m)
+      ∙ write-run s (in-rows flat) (x + c) y at refl value m in
+      let did = step s (x + c) y (mask_in n keep k) (mask_in n flip k) (get_or adds k 0) st few b (sound c (omega arith)) in
+      let st₁ = dab s (px (x + c) y) (by_mask (mask_in n keep k) (mask_in n flip k) (get_or adds k 0) (read_px m s (x + c) y)) st in
       let next : x + c + 1 ≡ x + (c + 1) = omega arith in
       let more : first + c + 1 ≡ first + (c + 1) = omega arith in
       let table : (first + (c + 1)) * n ≡ k * n + n = ap (λ (u : ℕ). u * n) (sym more) ∙ add-mul k 1 n ∙ ap (λ (u : ℕ). k * n + u) (one-mul n) in
       let place : byte_of s (x + (c + 1)) y 0 ≡ at + n = ap (λ (u : ℕ). byte_of s u y 0) (sym next) ∙ sym (run-pixel s flat (x + c) y at refl 1) ∙ ap (λ (u : ℕ). at + u) (one-mul n) in
       let bytes : suc w * n ≡ n + w * n = suc-mul w n ∙ add_comm (w * n) n in
-      let rest = pixels (c + 1) w st₁ (omega arith) (subst Bytes (sym did.0) (write_bytes s (x + c) y value m b)) in (
+      let rest = pixels (c + 1) w st₁ (omega arith) (subst Bytes (sym did.0) (write-bytes s (x + c) y value m b)) in (
         rw (phase, next, bytes, blended-append keep flip (k * n) at n (w * n) m, ← table, ← place)
             (rest.0 ∙ ap (blended keep flip ((first + (c + 1)) * n) (byte_of s (x + (c + 1)) y 0) (w * n)) (did.0 ∙ sym wrote)),
         rw (phase, next, more) (omega (arith, rest.1, did.1)),

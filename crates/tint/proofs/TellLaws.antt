@@ -11,7 +11,7 @@ use Rattle.surface.specs.Place.{byte_of}
 use Rattle.surface.specs.Pixels.{across, rect}
 use Rattle.surface.proofs.OnLaws.{on-column}
 use Rattle.surface.proofs.Rects.{Distinct, in-across, rect-distinct}
-use Rattle.surface.proofs.Run.{in_rows, pixel-held, run-byte, run-pixel}
+use Rattle.surface.proofs.Run.{in-rows, pixel-held, run-byte, run-pixel}
 use Rattle.paint.specs.declared.Tally.{Tally}
 use Rattle.paint.specs.Tally.{tally, noted}
 use Rattle.paint.specs.Paint.{State, tallied, state, Touch, paint, changing, summed}
@@ -36,7 +36,7 @@ row_on {s} {x = x} {y = y} can at e = record {
   some = can.colour.some;
   few = can.colour.small.bytes;
   wide = omega (arith, can.on.wide);
-  held = λ i l. pixel-held (in_rows can.flat) (can.on.on (x + i) (omega arith) (omega arith)) _ (run-pixel s can.flat x y at e i);
+  held = λ i l. pixel-held (in-rows can.flat) (can.on.on (x + i) (omega arith) (omega arith)) _ (run-pixel s can.flat x y at e i);
 }
 
 module _ {s : Surface} {keep flip adds : List ℕ} {first x w y : ℕ} {m₀ m o old : List ℕ} {count c : ℕ} (can : CanTint s keep flip adds first (length m₀) x w y)

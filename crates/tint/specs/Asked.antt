@@ -4,7 +4,7 @@ use Rattle.std.specs.Prelude.{◌≡◌, false, List, ℕ, ◌+◌, ◌*◌, ◌
 use Rattle.surface.specs.declared.Surface.{Surface}
 use Rattle.surface.specs.Asked.{Colour}
 use Rattle.runs.specs.Asked.{RowOn}
-use Rattle.tint.specs.Masking.{ones, maskIn, Tables}
+use Rattle.tint.specs.Masking.{ones, mask_in, Tables}
 
 -- as long as 64 masks want, of four bytes at most
 pub record Whole (t : Tables) : Type 0 where
@@ -20,7 +20,7 @@ pub record Sound (n keep flip adds : ℕ) : Type 0 where
 -- those that h rows of pixels want are
 pub record RowsSound (s : Surface) (keep flip adds : List ℕ) (h : ℕ) : Type 0 where
   pub sound : (j : ℕ) → j < h → (i : ℕ) → i < 8
-      → Sound s.bytes (maskIn s.bytes keep (j % 8 * 8 + i)) (maskIn s.bytes flip (j % 8 * 8 + i)) (get_or adds (j % 8 * 8 + i) 0)
+      → Sound s.bytes (mask_in s.bytes keep (j % 8 * 8 + i)) (mask_in s.bytes flip (j % 8 * 8 + i)) (get_or adds (j % 8 * 8 + i) 0)
 
 -- w pixels of row y from x on can be tinted
 pub record CanTint (s : Surface) (keep flip adds : List ℕ) (first len x w y : ℕ) : Type 0 where
@@ -30,4 +30,4 @@ pub record CanTint (s : Surface) (keep flip adds : List ℕ) (first len x w y : 
   pub eight : first ≤ 56
   pub keeps : length keep ≡ 256
   pub flips : length flip ≡ 256
-  pub sound : (i : ℕ) → i < 8 → Sound s.bytes (maskIn s.bytes keep (first + i)) (maskIn s.bytes flip (first + i)) (get_or adds (first + i) 0)
+  pub sound : (i : ℕ) → i < 8 → Sound s.bytes (mask_in s.bytes keep (first + i)) (mask_in s.bytes flip (first + i)) (get_or adds (first + i) 0)

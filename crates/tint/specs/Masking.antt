@@ -3,14 +3,14 @@
 use Rattle.std.specs.Prelude.{◌≡◌, Bool, true, false, cond, List, map, ℕ, zero, suc, ◌+◌, ◌-◌, ◌*◌, ◌/◌, ◌%◌, ◌^◌, ◌<◌, ◌≤◌, eqb, ltb, length, get_or, set}
 use Rattle.std.proofs.Math.Option.{Option, none, some}
 use Rattle.std.specs.Int.Bits.{bit_and, bit_xor}
-use Rattle.raster.specs.Rop.{ropBits}
+use Rattle.raster.specs.Rop.{rop_bits}
 use Rattle.surface.specs.declared.Surface.{Surface}
-use Rattle.surface.specs.Place.{readBytes, readPx}
+use Rattle.surface.specs.Place.{read_bytes, read_px}
 use Rattle.surface.specs.Pixels.{Px}
 use Rattle.ink.specs.declared.Ink.{Ink}
 use Rattle.paint.specs.Paint.{state, Touch, touch, paint}
-use Rattle.paint.specs.Mix.{fillSource}
-use Rattle.ink.specs.Pattern.{patternColumn, patternRow, patternBit, patternIn}
+use Rattle.paint.specs.Mix.{fill_source}
+use Rattle.ink.specs.Pattern.{pattern_column, pattern_row, pattern_bit, pattern_in}
 use Rattle.tint.specs.declared.Mask.{Mask}
 
 -- all the bits of a pixel
@@ -22,52 +22,52 @@ unfoldable pub masked : ℕ → ℕ → ℕ → ℕ
 masked old keep flip = bit_xor (bit_and old keep) flip
 
 -- what a mask gives the pixel: nothing where it adds no pixel to the count
-unfoldable pub byMask : ℕ → ℕ → ℕ → ℕ → Option ℕ
-byMask keep flip adds old = cond (eqb adds 0) none (some (masked old keep flip))
+unfoldable pub by_mask : ℕ → ℕ → ℕ → ℕ → Option ℕ
+by_mask keep flip adds old = cond (eqb adds 0) none (some (masked old keep flip))
 
 -- a mask of its three numbers
 abbrev pub mask : ℕ → ℕ → ℕ → Mask
 mask keep flip adds = record { keep = keep; flip = flip; adds = adds }
 
 -- the mask by what becomes of a 1 and of a 0 at each bit; a pixel that is left keeps all its bits, and is not counted
-abbrev pub maskBy : Bool → ℕ → ℕ → Mask
-maskBy true fromOnes fromZeros = mask ones 0 0
-maskBy false fromOnes fromZeros = mask (bit_xor fromOnes fromZeros) fromZeros 1
+abbrev pub mask_by : Bool → ℕ → ℕ → Mask
+mask_by true from_ones from_zeros = mask ones 0 0
+mask_by false from_ones from_zeros = mask (bit_xor from_ones from_zeros) from_zeros 1
 
 -- what a fill without a target key makes of an old pixel where the pattern has this value
 abbrev pub becomes : Ink → ℕ → ℕ → ℕ
-becomes ink value old = ropBits 32 ink.rop0 value ink.fore old
+becomes ink value old = rop_bits 32 ink.rop0 value ink.fore old
 
 -- its mask there, for a pattern that has this bit if it is mono
-unfoldable pub maskFor : Ink → ℕ → ℕ → Mask
-maskFor ink value bit = maskBy (fillSource ink bit).left (becomes ink value ones) (becomes ink value 0)
+unfoldable pub mask_for : Ink → ℕ → ℕ → Mask
+mask_for ink value bit = mask_by (fill_source ink bit).left (becomes ink value ones) (becomes ink value 0)
 
 -- the mask at a column and a row of the pattern
 abbrev pub mask_of : Ink → List ℕ → ℕ → ℕ → Mask
-mask_of ink pattern column row = maskFor ink (patternIn ink pattern column row) (patternBit pattern column row)
+mask_of ink pattern column row = mask_for ink (pattern_in ink pattern column row) (pattern_bit pattern column row)
 
 -- ---- masks as bytes, in a table for pixels of n bytes
 
 -- mask number k of the table
-abbrev pub maskIn : ℕ → List ℕ → ℕ → ℕ
-maskIn n table k = readBytes table (λ j. k * n + j) 0 n
+abbrev pub mask_in : ℕ → List ℕ → ℕ → ℕ
+mask_in n table k = read_bytes table (λ j. k * n + j) 0 n
 
 -- what pixel p is given by the eight masks from number `first` on, the first of them at column x
 unfoldable pub tinting : Surface → List ℕ → List ℕ → List ℕ → ℕ → ℕ → List ℕ → Px → Option ℕ
 tinting s keep flip adds first x now p =
-    byMask (maskIn s.bytes keep (first + (p.x - x) % 8)) (maskIn s.bytes flip (first + (p.x - x) % 8)) (get_or adds (first + (p.x - x) % 8) 0)
-    (readPx now s p.x p.y)
+    by_mask (mask_in s.bytes keep (first + (p.x - x) % 8)) (mask_in s.bytes flip (first + (p.x - x) % 8)) (get_or adds (first + (p.x - x) % 8) 0)
+    (read_px now s p.x p.y)
 
 -- each pixel in its turn
 abbrev pub tintings : Surface → List ℕ → List ℕ → List ℕ → ℕ → ℕ → List Px → List Touch
 tintings s keep flip adds first x ps = map (λ p. touch p (λ now. tinting s keep flip adds first x now p)) ps
 
 -- the same of a rectangle from (x, y) on, whose rows have their eight masks by eights
-abbrev pub downTint : Surface → List ℕ → List ℕ → List ℕ → ℕ → ℕ → List ℕ → Px → Option ℕ
-downTint s keep flip adds x y now p = tinting s keep flip adds ((p.y - y) % 8 * 8) x now p
+abbrev pub down_tint : Surface → List ℕ → List ℕ → List ℕ → ℕ → ℕ → List ℕ → Px → Option ℕ
+down_tint s keep flip adds x y now p = tinting s keep flip adds ((p.y - y) % 8 * 8) x now p
 
-abbrev pub downTints : Surface → List ℕ → List ℕ → List ℕ → ℕ → ℕ → List Px → List Touch
-downTints s keep flip adds x y ps = map (λ p. touch p (λ now. downTint s keep flip adds x y now p)) ps
+abbrev pub down_tints : Surface → List ℕ → List ℕ → List ℕ → ℕ → ℕ → List Px → List Touch
+down_tints s keep flip adds x y ps = map (λ p. touch p (λ now. down_tint s keep flip adds x y now p)) ps
 
 -- the memory with n bytes from `at` on changed by the tables' bytes from `from` on
 unfoldable pub blended : List ℕ → List ℕ → ℕ → ℕ → ℕ → List ℕ → List ℕ
@@ -79,18 +79,18 @@ abbrev pub Painted : Surface → List Touch → List ℕ → List ℕ → ℕ �
 Painted s ts m m' count = (changed : ℕ) × (state m' count changed ≡ paint s ts (state m 0 0))
 
 -- how many rows of masks h rows of pixels want: they repeat after eight
-unfoldable pub maskRows : ℕ → ℕ
-maskRows h = cond (ltb h 8) h 8
+unfoldable pub mask_rows : ℕ → ℕ
+mask_rows h = cond (ltb h 8) h 8
 
 -- ---- what functions give
 
 -- the mask of pixel (x + k % 8, y + k / 8)
-abbrev pub maskHere : Ink → List ℕ → ℕ → ℕ → ℕ → Mask
-maskHere ink pattern x y k = mask_of ink pattern (patternColumn ink (x + k % 8)) (patternRow ink (y + k / 8))
+abbrev pub mask_here : Ink → List ℕ → ℕ → ℕ → ℕ → Mask
+mask_here ink pattern x y k = mask_of ink pattern (pattern_column ink (x + k % 8)) (pattern_row ink (y + k / 8))
 
 -- a table for pixels of n bytes whose first masks have become these, so many; the bytes after them are as they were, and bytes stay bytes
 pub record Table (n many : ℕ) (masks : ℕ → ℕ) (old new : List ℕ) : Type 0 where
-  pub made : (k : ℕ) → k < many → maskIn n new k ≡ masks k % 256 ^ n
+  pub made : (k : ℕ) → k < many → mask_in n new k ≡ masks k % 256 ^ n
   pub rest : (a : ℕ) → many * n ≤ a → get_or new a 0 ≡ get_or old a 0
   pub long : length new ≡ length old
   pub bytes : ((a : ℕ) → get_or old a 0 < 256) → (a : ℕ) → get_or new a 0 < 256
@@ -112,9 +112,9 @@ tables keep flip adds = record { keep = keep; flip = flip; adds = adds }
 
 -- tables whose first masks have become those of pixels from (x, y) on, so many in rows of eight
 pub record MadeOf (ink : Ink) (pattern : List ℕ) (x y many : ℕ) (old new : Tables) : Type 0 where
-  pub keep : Table ink.target.bytes many (λ k. (maskHere ink pattern x y k).keep) old.keep new.keep
-  pub flip : Table ink.target.bytes many (λ k. (maskHere ink pattern x y k).flip) old.flip new.flip
-  pub adds : Numbers many (λ k. (maskHere ink pattern x y k).adds) old.adds new.adds
+  pub keep : Table ink.target.bytes many (λ k. (mask_here ink pattern x y k).keep) old.keep new.keep
+  pub flip : Table ink.target.bytes many (λ k. (mask_here ink pattern x y k).flip) old.flip new.flip
+  pub adds : Numbers many (λ k. (mask_here ink pattern x y k).adds) old.adds new.adds
 
 -- the first rows of them
 abbrev pub MasksOf : Ink → List ℕ → ℕ → ℕ → ℕ → Tables → Tables → Type 0

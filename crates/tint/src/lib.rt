@@ -5,7 +5,7 @@ ghost use Rattle.surface.specs.Pixels.{across, rect};
 ghost use Rattle.paint.specs.Paint.{state, tallied, paint};
 ghost use Rattle.paint.specs.Asked.{Room};
 ghost use Rattle.runs.specs.Asked.{RectOn};
-ghost use Rattle.tint.specs.Masking.{blended, maskFor, maskRows, tintings, downTints, tables, MasksOf, Painted};
+ghost use Rattle.tint.specs.Masking.{blended, mask_for, mask_rows, tintings, down_tints, tables, MasksOf, Painted};
 ghost use Rattle.tint.specs.Asked.{Whole, RowsSound, CanTint};
 
 use ink::Ink;
@@ -28,7 +28,7 @@ fn wide(x: u8) -> u32
 
 // The mask of a fill where the pattern has this value, and this bit if it is mono.
 fn mask_of(ink: Ink, value: u32, bit: u32) -> Mask
-    ensures { result ≡ maskFor ink value bit }
+    ensures { result ≡ mask_for ink value bit }
 {
     if ink.clear & (ink.mono & (bit == 0)) {
         return Mask {
@@ -82,7 +82,7 @@ pub fn masks_at(
 
 // How many rows of masks h rows of pixels want.
 pub fn mask_rows(h: u32) -> u32
-    ensures { result ≡ maskRows h }
+    ensures { result ≡ mask_rows h }
 {
     if h < 8 {
         return h;
@@ -265,7 +265,7 @@ pub fn tint_rows(
     h: u32,
 ) -> Tally
     requires { (s.tiled ≡ false) × (RectOn s (length mem.old) x y w h × RowsSound s keep.now flip.now adds.now h) }
-    ensures { tallied mem.new result ≡ paint s (downTints s keep.now flip.now adds.now x y (rect false false x y w h)) (state mem.old 0 0) }
+    ensures { tallied mem.new result ≡ paint s (down_tints s keep.now flip.now adds.now x y (rect false false x y w h)) (state mem.old 0 0) }
 {
     let mut old = [0u8; 1024];
     let mut n = Tally {

@@ -1,14 +1,14 @@
 // The pages of the pixels that a command has written, marked after it.
 ghost use Rattle.std.specs.Prelude.{◌≡◌, ◌*◌, length};
-ghost use Rattle.cuts.specs.Cut.{number, clipOf, fillCut, covered};
-ghost use Rattle.command.specs.Decode.{target, line_of, feedOf};
+ghost use Rattle.cuts.specs.Cut.{number, clip_of, fill_cut, covered};
+ghost use Rattle.command.specs.Decode.{target, line_of, feed_of};
 ghost use Rattle.pages.specs.Pages.{marking};
 ghost use Rattle.sift.specs.Sift.{chosen, wet};
 ghost use Rattle.sift.specs.Asked.{Siftable};
-ghost use Rattle.dots.specs.Dots.{lineBox};
-ghost use Rattle.drips.specs.Drips.{dataBox};
-ghost use Rattle.acts.specs.Deed.{bankOf};
-ghost use Rattle.trail.specs.Trail.{wetBy, boxBy, extentBy, sieveOf};
+ghost use Rattle.dots.specs.Dots.{line_box};
+ghost use Rattle.drips.specs.Drips.{data_box};
+ghost use Rattle.acts.specs.Deed.{bank_of};
+ghost use Rattle.trail.specs.Trail.{wet_by, box_by, extent_by, sieve_of};
 ghost use Rattle.trail.specs.Asked.{Gone, Went};
 
 use acts::Blit;
@@ -20,19 +20,19 @@ use sift::Sieve;
 use sweep::Task;
 
 fn no_scale() -> Scale
-    ensures { result ≡ record { to = 0; size = 0; from = 0; sourceSize = 0 } }
+    ensures { result ≡ record { to = 0; size = 0; from = 0; source_size = 0 } }
 {
     Scale {
         to: 0,
         size: 0,
         from: 0,
-        sourceSize: 0,
+        source_size: 0,
     }
 }
 
 // The work of a copy, a stretch or a fill, pixel by pixel.
 fn sieve_of(r: Regs) -> Sieve
-    ensures { result ≡ sieveOf r }
+    ensures { result ≡ sieve_of r }
 {
     let number = r.command % 16;
     if number == 1 {
@@ -95,13 +95,13 @@ fn mark_some(
 // A rectangle that holds what n words of a host blit write; and one that holds what a line does.
 fn data_cut(r: Regs, taken: u32, n: u32) -> Cut
     requires { Gone r taken n × (number r ≡ 3) }
-    ensures { result ≡ dataBox (feedOf r) (fillCut r) taken n }
+    ensures { result ≡ data_box (feed_of r) (fill_cut r) taken n }
 {
     drips::data_box(command::decode_feed(r), cuts::fill_cut(r), taken, n)
 }
 
 fn line_cut(r: Regs) -> Cut
-    ensures { result ≡ lineBox (line_of r) (clipOf r) }
+    ensures { result ≡ line_box (line_of r) (clip_of r) }
 {
     dots::line_box(command::decode_line(r), cuts::decode_clip(r))
 }
@@ -109,7 +109,7 @@ fn line_cut(r: Regs) -> Cut
 // A rectangle that holds what a command writes.
 fn box_of(r: Regs, taken: u32, n: u32) -> Cut
     requires { Gone r taken n }
-    ensures { result ≡ boxBy r taken n }
+    ensures { result ≡ box_by r taken n }
 {
     let number = r.command % 16;
     if number == 1 {
@@ -127,7 +127,7 @@ fn box_of(r: Regs, taken: u32, n: u32) -> Cut
 // The pages that a command may have written, where it wrote `count` pixels, and whether all of them are to be marked.
 pub fn extent_of(r: Regs, taken: u32, n: u32, count: u32) -> Extent
     requires { Gone r taken n }
-    ensures { result ≡ extentBy r taken n count }
+    ensures { result ≡ extent_by r taken n count }
 {
     let c = box_of(r, taken, n);
     pages::extent_of(command::target_surface(r), c.x, c.y, c.w, c.h, count)
@@ -143,8 +143,8 @@ pub fn walk(
     words: &[u32],
     count: u32,
 )
-    requires { Went (bankOf r pattern.now) blit words.now mem.now count }
-    ensures { marks.new ≡ marking (target r) (wetBy (bankOf r pattern.now) blit words.now mem.now) marks.old }
+    requires { Went (bank_of r pattern.now) blit words.now mem.now count }
+    ensures { marks.new ≡ marking (target r) (wet_by (bank_of r pattern.now) blit words.now mem.now) marks.old }
 {
     let number = r.command % 16;
     if number == 3 {
@@ -159,7 +159,7 @@ pub fn walk(
         let clip = cuts::decode_clip(r);
         let line = command::decode_line(r);
         let pen = command::decode_pen(r);
-        dots::mark_dots(marks, ink, clip, line, pen, r.lineStyle);
+        dots::mark_dots(marks, ink, clip, line, pen, r.line_style);
         return;
     }
     let v = sieve_of(r);
@@ -180,8 +180,8 @@ pub fn mark(
     words: &[u32],
     count: u32,
 )
-    requires { Went (bankOf r pattern.now) blit words.now mem.now count }
-    ensures { marks.new ≡ marking (target r) (wetBy (bankOf r pattern.now) blit words.now mem.now) marks.old }
+    requires { Went (bank_of r pattern.now) blit words.now mem.now count }
+    ensures { marks.new ≡ marking (target r) (wet_by (bank_of r pattern.now) blit words.now mem.now) marks.old }
 {
     let e = extent_of(r, blit.taken, words.len() as u32, count);
     if e.whole {

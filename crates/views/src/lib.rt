@@ -1,10 +1,10 @@
 // The view of some pixels of a row.
 ghost use Rattle.std.specs.Prelude.{◌≡◌, ◌+◌, ◌-◌, ◌<◌, length};
-ghost use Rattle.views.specs.View.{viewAnswer, viewStart, viewed, further};
+ghost use Rattle.views.specs.View.{view_answer, view_start, viewed, further};
 
 // The answer to a view of some pixels of a row: 0, or the number of the refusal.
 pub fn view_answer(len: usize, base: u32, format: u32, x: u32, y: u32, width: u32) -> u32
-    ensures { result ≡ viewAnswer len base format x y width }
+    ensures { result ≡ view_answer len base format x y width }
 {
     if 0x100_0000 < len {
         return 1;
@@ -24,7 +24,7 @@ pub fn view_answer(len: usize, base: u32, format: u32, x: u32, y: u32, width: u3
 
 // The bytes of some pixels of a row, as a part of the lent memory itself; none where the view is refused.
 pub fn row_view(mem: &[u8], base: u32, format: u32, x: u32, y: u32, width: u32) -> &[u8]
-    ensures { (result.now ≡ viewed mem.now base format x y width) × (result.ref_ptr ≡ further mem.entry.ref_ptr (viewStart (length mem.now) base format x y width)) }
+    ensures { (result.now ≡ viewed mem.now base format x y width) × (result.ref_ptr ≡ further mem.entry.ref_ptr (view_start (length mem.now) base format x y width)) }
 {
     let answer = view_answer(mem.len(), base, format, x, y, width);
     if answer != 0 {

@@ -8,7 +8,7 @@ use native.Mathlib.Omega.{arith}
 use native.Mathlib.Decide.{ℕ_discrete}
 use lib.ListN.{length, get_or, set, length-set}
 use lib.Seq.{get_or-set_same, get_or-set_other, lt-length-set}
-use Rattle.surface.specs.Place.{readBytes, writeBytes}
+use Rattle.surface.specs.Place.{read_bytes, write_bytes}
 use Rattle.surface.proofs.Bytes.{written-other}
 use Rattle.surface.proofs.Lists.{by_cases}
 use Rattle.paint.proofs.Frame.{Bytes}
@@ -52,17 +52,17 @@ module _ (keep flip : List ℕ) where
 module _ (at of : ℕ → ℕ) (m keep flip : List ℕ) (bm : Bytes m) (bk : Bytes keep) (bf : Bytes flip) where
   pub masked-byte : (k n : ℕ) (m' : List ℕ) (j : ℕ) → k ≤ j → j < k + n → ((a b : ℕ) → a < k + n → b < k + n → at a ≡ at b → a ≡ b)
       → ((b : ℕ) → b < k + n → at b < length m')
-      → get_or (writeBytes at k n (masked (readBytes m at k n) (readBytes keep of k n) (readBytes flip of k n)) m') (at j) 0
+      → get_or (write_bytes at k n (masked (read_bytes m at k n) (read_bytes keep of k n) (read_bytes flip of k n)) m') (at j) 0
       ≡ masked (get_or m (at j) 0) (get_or keep (of j) 0) (get_or flip (of j) 0)
-  unfolding readBytes writeBytes
+  unfolding read_bytes write_bytes
   masked-byte k zero m' j l u differ inside = absurd (omega arith)
   masked-byte k (suc n) m' j l u differ inside =
       let d₀ = get_or m (at k) 0 in
       let k₀ = get_or keep (of k) 0 in
       let f₀ = get_or flip (of k) 0 in
-      let d₁ = readBytes m at (suc k) n in
-      let k₁ = readBytes keep of (suc k) n in
-      let f₁ = readBytes flip of (suc k) n in
+      let d₁ = read_bytes m at (suc k) n in
+      let k₁ = read_bytes keep of (suc k) n in
+      let f₁ = read_bytes flip of (suc k) n in
       let v = masked (d₀ + 256 * d₁) (k₀ + 256 * k₁) (f₀ + 256 * f₁) in
       let dl : (d₀ + 256 * d₁) % 256 ≡ d₀ = omega (arith, bm (at k)) in
       let kl : (k₀ + 256 * k₁) % 256 ≡ k₀ = omega (arith, bk (of k)) in
@@ -74,9 +74,9 @@ module _ (at of : ℕ → ℕ) (m keep flip : List ℕ) (bm : Bytes m) (bk : Byt
       let high : v / 256 ≡ masked d₁ k₁ f₁ = masked-high (d₀ + 256 * d₁) (k₀ + 256 * k₁) (f₀ + 256 * f₁) ∙ rw (dh, kh, fh) refl in
       let m₁ = set m' (at k) (v % 256) in
       by_cases (ℕ_discrete k j)
-      (λ e. subst (λ (i : ℕ). get_or (writeBytes at (suc k) n (v / 256) m₁) (at i) 0 ≡ masked (get_or m (at i) 0) (get_or keep (of i) 0) (get_or flip (of i) 0)) e
+      (λ e. subst (λ (i : ℕ). get_or (write_bytes at (suc k) n (v / 256) m₁) (at i) 0 ≡ masked (get_or m (at i) 0) (get_or keep (of i) 0) (get_or flip (of i) 0)) e
       (written-other at (suc k) n (v / 256) m₁ (at k) (λ i f g w. let q : k ≡ i = differ k i (omega arith) (omega arith) w in omega arith)
       ∙ get_or-set_same m' (at k) (v % 256) 0 (inside k (omega arith)) ∙ low))
-      (λ e. ap (λ (r : ℕ). get_or (writeBytes at (suc k) n r m₁) (at j) 0) high
+      (λ e. ap (λ (r : ℕ). get_or (write_bytes at (suc k) n r m₁) (at j) 0) high
       ∙ masked-byte (suc k) n m₁ j (omega arith) (omega arith) (λ a b f g. differ a b (omega arith) (omega arith))
       (λ i f. lt-length-set m' (at k) (v % 256) (inside i (omega arith))))

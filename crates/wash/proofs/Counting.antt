@@ -60,10 +60,10 @@ module _ (adds : List ℕ) (w : ℕ) where
 -- ---- as many as pixels by pixels
 module _ (adds : List ℕ) (x y : ℕ) where
   -- what the mask of a pixel adds
-  abbrev pub addsAt : Px → ℕ
-  addsAt p = get_or adds ((p.y - y) % 8 * 8 + (p.x - x) % 8) 0
+  abbrev pub adds_at : Px → ℕ
+  adds_at p = get_or adds ((p.y - y) % 8 * 8 + (p.x - x) % 8) 0
 
-  row-summed : (j i w : ℕ) → summed addsAt (across false (x + i) w (y + j)) ≡ counting adds (j % 8 * 8) i w
+  row-summed : (j i w : ℕ) → summed adds_at (across false (x + i) w (y + j)) ≡ counting adds (j % 8 * 8) i w
   unfolding summed across counting
   row-summed j i zero = refl
   row-summed j i (suc w) =
@@ -72,14 +72,14 @@ module _ (adds : List ℕ) (x y : ℕ) where
       let g : x + i + 1 ≡ x + (i + 1) = omega arith in
       rw (e, f, g) (ap (λ (k : ℕ). get_or adds (j % 8 * 8 + i % 8) 0 + k) (row-summed j (i + 1) w))
 
-  rows-summed : (w j h : ℕ) → summed addsAt (rect false false x (y + j) w h) ≡ countings adds w j h
+  rows-summed : (w j h : ℕ) → summed adds_at (rect false false x (y + j) w h) ≡ countings adds w j h
   unfolding rect countings summed
   rows-summed w j zero = refl
   rows-summed w j (suc h) =
       let e : y + j + 1 ≡ y + (j + 1) = omega arith in
       let f : x ≡ x + 0 = omega arith in
-      summed-append addsAt (across false x w (y + j)) (rect false false x (y + j + 1) w h)
-      ∙ ap₂ ◌+◌ (ap (λ (c : ℕ). summed addsAt (across false c w (y + j))) f ∙ row-summed j 0 w) (ap (λ (r : ℕ). summed addsAt (rect false false x r w h)) e ∙ rows-summed w (j + 1) h)
+      summed-append adds_at (across false x w (y + j)) (rect false false x (y + j + 1) w h)
+      ∙ ap₂ ◌+◌ (ap (λ (c : ℕ). summed adds_at (across false c w (y + j))) f ∙ row-summed j 0 w) (ap (λ (r : ℕ). summed adds_at (rect false false x r w h)) e ∙ rows-summed w (j + 1) h)
 
-  pub rect-summed : (w h : ℕ) → summed addsAt (rect false false x y w h) ≡ countings adds w 0 h
-  rect-summed w h = let e : y ≡ y + 0 = omega arith in ap (λ (r : ℕ). summed addsAt (rect false false x r w h)) e ∙ rows-summed w 0 h
+  pub rect-summed : (w h : ℕ) → summed adds_at (rect false false x y w h) ≡ countings adds w 0 h
+  rect-summed w h = let e : y ≡ y + 0 = omega arith in ap (λ (r : ℕ). summed adds_at (rect false false x r w h)) e ∙ rows-summed w 0 h

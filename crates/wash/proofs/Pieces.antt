@@ -7,14 +7,14 @@ use native.Mathlib.Nat.{mod-lt, mod-le, mod-add-mod, add-mul, mul_assoc, add-mul
 use native.Mathlib.Omega.{arith}
 use lib.ListN.{length, get_or}
 use Rattle.surface.specs.declared.Surface.{Surface}
-use Rattle.surface.specs.Place.{rowBytes, byte_at}
+use Rattle.surface.specs.Place.{row_bytes, byte_at}
 use Rattle.surface.specs.Pixels.{Px, px, Inside}
-use Rattle.surface.proofs.Rows.{byteAt-inj}
+use Rattle.surface.proofs.Rows.{byte_at-inj}
 use Rattle.tint.specs.Masking.{masked, blended}
 use Rattle.blocks.specs.Blocks.{Put}
 use Rattle.blocks.specs.Asked.{Columns, Rows}
 use Rattle.blocks.proofs.Blocks.{block_at, put-beside, put-below}
-use Rattle.wash.specs.Wash.{washed, in_row, inRows}
+use Rattle.wash.specs.Wash.{washed, in_row, in_rows}
 use Rattle.wash.specs.Asked.{Again, Period}
 use Rattle.wash.proofs.Blend.{blended-length, blended-other, blended-byte}
 
@@ -50,7 +50,7 @@ module _ (s : Surface) (keep flip : List ℕ) (x y n : ℕ) (edge : x % 128 + n 
 -- ---- one more
 module _ (s : Surface) (keep flip : List ℕ) where
   -- what is changed after other bytes were is changed as it was at the start
-  later : (number number' : Px → ℕ) (x y k l x' y' n' h' : ℕ) {value : Px → ℕ} {m₀ m m₁ : List ℕ} → x + k ≤ rowBytes s → x' + n' ≤ rowBytes s
+  later : (number number' : Px → ℕ) (x y k l x' y' n' h' : ℕ) {value : Px → ℕ} {m₀ m m₁ : List ℕ} → x + k ≤ row_bytes s → x' + n' ≤ row_bytes s
       → ((p : Px) → Inside x y k l p → get_or keep (number' p) 0 ≡ get_or keep (number p) 0)
       → ((p : Px) → Inside x y k l p → get_or flip (number' p) 0 ≡ get_or flip (number p) 0)
       → ((p q : Px) → Inside x y k l p → Inside x' y' n' h' q → p.x ≡ q.x → p.y ≡ q.y → ⊥)
@@ -58,7 +58,7 @@ module _ (s : Surface) (keep flip : List ℕ) where
   later number number' x y k l x' y' n' h' {value} {m₀} {m} {m₁} wide wide' keeps flips apart done put = record {
     inside = λ p i.
         let old : get_or m (byte_at s p.x p.y) 0 ≡ get_or m₀ (byte_at s p.x p.y) 0 =
-        done.others (byte_at s p.x p.y) (λ q j e. let same = byteAt-inj s p.x p.y q.x q.y (omega arith) (omega arith) e in apart p q i j same.1 same.0) in
+        done.others (byte_at s p.x p.y) (λ q j e. let same = byte_at-inj s p.x p.y q.x q.y (omega arith) (omega arith) e in apart p q i j same.1 same.0) in
         put.inside p i ∙ ap (λ (d : ℕ). masked d (get_or keep (number' p) 0) (get_or flip (number' p) 0)) old
         ∙ ap₂ (masked (get_or m₀ (byte_at s p.x p.y) 0)) (keeps p i) (flips p i);
     others = put.others;
@@ -66,7 +66,7 @@ module _ (s : Surface) (keep flip : List ℕ) where
   }
 
   -- a piece
-  module _ (first period x y n i k : ℕ) (steps : Period period) (wide : x + n ≤ rowBytes s) (part : i + k ≤ n) (short : k ≤ 128) where
+  module _ (first period x y n i k : ℕ) (steps : Period period) (wide : x + n ≤ row_bytes s) (part : i + k ≤ n) (short : k ≤ 128) where
     -- the masks go on as the row's do
     goes_on : {table : List ℕ} → Again table first period n → (p : Px) → Inside (x + i) y k 1 p
         → get_or table (first + i % period + (p.x - (x + i))) 0 ≡ get_or table (in_row first period x p) 0
@@ -87,7 +87,7 @@ module _ (s : Surface) (keep flip : List ℕ) where
         (goes_on keeps) (goes_on flips) (λ p q u v e f. omega arith) done put)
 
   -- so many pixels of a row, after eights of them: the masks begin again there
-  module _ (first x y i k : ℕ) (wide : x * s.bytes + (i + k) * s.bytes ≤ rowBytes s) (eights : i % 8 ≡ 0) where
+  module _ (first x y i k : ℕ) (wide : x * s.bytes + (i + k) * s.bytes ≤ row_bytes s) (eights : i % 8 ≡ 0) where
     begins-again : (p : Px) → Inside (x * s.bytes + i * s.bytes) y (k * s.bytes) 1 p
         → in_row first (8 * s.bytes) (x * s.bytes + i * s.bytes) p ≡ in_row first (8 * s.bytes) (x * s.bytes) p
     begins-again p j =
@@ -110,14 +110,14 @@ module _ (s : Surface) (keep flip : List ℕ) where
         (subst (λ (n : ℕ). Put s (washed s keep flip (in_row first (8 * b) n) m) n y (k * b) 1 m m₁) (add-mul x i b) put))
 
   -- a row
-  module _ (period x y n j : ℕ) (wide : x + n ≤ rowBytes s) where
-    pub row_more : {m₀ m m₁ : List ℕ} → Put s (washed s keep flip (inRows 160 period x y) m₀) x y n j m₀ m
+  module _ (period x y n j : ℕ) (wide : x + n ≤ row_bytes s) where
+    pub row_more : {m₀ m m₁ : List ℕ} → Put s (washed s keep flip (in_rows 160 period x y) m₀) x y n j m₀ m
         → Put s (washed s keep flip (in_row (j % 8 * 160) period x) m) x (y + j) n 1 m m₁
-        → Put s (washed s keep flip (inRows 160 period x y) m₀) x y n (j + 1) m₀ m₁
+        → Put s (washed s keep flip (in_rows 160 period x y) m₀) x y n (j + 1) m₀ m₁
     row_more {m₀} done put =
-        put-below s (washed s keep flip (inRows 160 period x y) m₀) x y n (j + 1) wide j 1 (omega arith) (omega arith) done
-        (later (inRows 160 period x y) (in_row (j % 8 * 160) period x) x (y + j) n 1 x y n j wide wide
+        put-below s (washed s keep flip (in_rows 160 period x y) m₀) x y n (j + 1) wide j 1 (omega arith) (omega arith) done
+        (later (in_rows 160 period x y) (in_row (j % 8 * 160) period x) x (y + j) n 1 x y n j wide wide
         (λ p i. ap (λ (a : ℕ). get_or keep a 0) (row_number p i)) (λ p i. ap (λ (a : ℕ). get_or flip a 0) (row_number p i)) (λ p q u v e f. omega arith) done put)
       where
-        row_number : (p : Px) → Inside x (y + j) n 1 p → in_row (j % 8 * 160) period x p ≡ inRows 160 period x y p
+        row_number : (p : Px) → Inside x (y + j) n 1 p → in_row (j % 8 * 160) period x p ≡ in_rows 160 period x y p
         row_number p i = let e : j ≡ p.y - y = omega arith in ap (λ (r : ℕ). r % 8 * 160 + (p.x - x) % period) e

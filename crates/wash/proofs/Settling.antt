@@ -10,7 +10,7 @@ use native.Mathlib.Omega.{arith}
 use lib.Arith.{digits_mod, digits_lt}
 use lib.ListN.{length, get_or}
 use Rattle.surface.specs.declared.Surface.{Surface}
-use Rattle.surface.specs.Place.{byte_at, byte_of, readPx, writePx}
+use Rattle.surface.specs.Place.{byte_at, byte_of, read_px, write_px}
 use Rattle.surface.specs.Asked.{OnColour}
 use Rattle.surface.specs.Pixels.{Px, px, rect, Inside}
 use Rattle.surface.proofs.OnLaws.{colour-byte, on-column}
@@ -25,19 +25,19 @@ use Rattle.paint.proofs.Changes.{summed_same}
 use Rattle.runs.specs.Runs.{Given}
 use Rattle.runs.specs.Asked.{RectOn}
 use Rattle.runs.proofs.Runs.{given-once}
-use Rattle.tint.specs.Masking.{masked, byMask, maskIn, tinting, downTint, downTints}
+use Rattle.tint.specs.Masking.{masked, by_mask, mask_in, tinting, down_tint, down_tints}
 use Rattle.tint.specs.Asked.{Sound}
 use Rattle.tint.proofs.RowLaws.{step}
 use Rattle.blocks.specs.Blocks.{Put}
 use Rattle.blocks.proofs.Pixels.{put-given}
-use Rattle.wash.specs.Wash.{washed, inRows}
+use Rattle.wash.specs.Wash.{washed, in_rows}
 use Rattle.wash.specs.Count.{countings}
 use Rattle.wash.proofs.Blend.{masked-byte}
-use Rattle.wash.proofs.Counting.{addsAt, rect-summed}
+use Rattle.wash.proofs.Counting.{adds_at, rect-summed}
 
 -- a mask counts the pixel that it gives something
-counts-one : (keep flip adds old : ℕ) → adds ≤ 1 → counted (byMask keep flip adds old) ≡ adds
-unfolding byMask
+counts-one : (keep flip adds old : ℕ) → adds ≤ 1 → counted (by_mask keep flip adds old) ≡ adds
+unfolding by_mask
 counts-one keep flip zero old h = refl
 counts-one keep flip (suc zero) old h = refl
 counts-one keep flip (suc (suc adds)) old h = absurd (omega arith)
@@ -50,7 +50,7 @@ in-period b d k l =
     rw e (digits_mod (d / 8) (digits_lt {q = d % 8} {m = 8} {r = k} {c = b} (omega arith) l))
 
 module _ (s : Surface) (keep flip adds : List ℕ) (x y w h : ℕ) (m : List ℕ) (on : RectOn s (length m) x y w h) (bm : Bytes m) (bk : Bytes keep) (bf : Bytes flip)
-    (sound : (j : ℕ) → j < h → (i : ℕ) → i < 8 → Sound s.bytes (maskIn s.bytes keep (j % 8 * 8 + i)) (maskIn s.bytes flip (j % 8 * 8 + i)) (get_or adds (j % 8 * 8 + i) 0)) where
+    (sound : (j : ℕ) → j < h → (i : ℕ) → i < 8 → Sound s.bytes (mask_in s.bytes keep (j % 8 * 8 + i)) (mask_in s.bytes flip (j % 8 * 8 + i)) (get_or adds (j % 8 * 8 + i) 0)) where
   abbrev b : ℕ
   b = s.bytes
 
@@ -61,7 +61,7 @@ module _ (s : Surface) (keep flip adds : List ℕ) (x y w h : ℕ) (m : List ℕ
   ps = rect false false x y w h
 
   abbrev whole : State
-  whole = paint s (downTints s keep flip adds x y ps) (state m 0 0)
+  whole = paint s (down_tints s keep flip adds x y ps) (state m 0 0)
 
   -- the number of a pixel's mask
   abbrev number : Px → ℕ
@@ -74,25 +74,25 @@ module _ (s : Surface) (keep flip adds : List ℕ) (x y w h : ℕ) (m : List ℕ
   pixel-on : (p : Px) → Inside x y w h p → OnColour s (length m) p.x p.y
   pixel-on p i = on.on p.x p.y i.left i.right i.top i.bottom
 
-  its-sound : (p : Px) → Inside x y w h p → Sound b (maskIn b keep (number p)) (maskIn b flip (number p)) (get_or adds (number p) 0)
+  its-sound : (p : Px) → Inside x y w h p → Sound b (mask_in b keep (number p)) (mask_in b flip (number p)) (get_or adds (number p) 0)
   its-sound p i = sound (p.y - y) (omega arith) ((p.x - x) % 8) (omega arith)
 
-  here : Settled s (λ was now p. downTint s keep flip adds x y now p) m ps (state m 0 0) whole
+  here : Settled s (λ was now p. down_tint s keep flip adds x y now p) m ps (state m 0 0) whole
   unfolding tinting
   here =
-      settled s colour (λ was now p. downTint s keep flip adds x y now p) (λ p a. ⊥)
-      (record { same = λ p a c now now' f g. ap (byMask (maskIn b keep (number p)) (maskIn b flip (number p)) (get_or adds (number p) 0)) (read-px s colour p now now' g) })
+      settled s colour (λ was now p. down_tint s keep flip adds x y now p) (λ p a. ⊥)
+      (record { same = λ p a c now now' f g. ap (by_mask (mask_in b keep (number p)) (mask_in b flip (number p)) (get_or adds (number p) 0)) (read-px s colour p now now' g) })
       m ps (tally 0 0) (rect-distinct false false x y w h)
       (λ p i. on-column s (length m) p.x p.y (pixel-on p (in-rect false false x y w h p i)).on)
 
   given : Given s byte x y w h m whole.mem
-  unfolding tinting readPx writePx
+  unfolding tinting read_px write_px
   given = record {
     inside = λ p i k l.
         let column = on-column s (length m) p.x p.y (pixel-on p i).on in
         here.given p (rect-in false false x y w h p i) (byte_of s p.x p.y k) (byte-of s colour p k l)
         ∙ ap (λ (l : List ℕ). get_or l (byte_of s p.x p.y k) 0)
-        (step s p.x p.y (maskIn b keep (number p)) (maskIn b flip (number p)) (get_or adds (number p) 0) (state m 0 0) on.colour.small.bytes bm (its-sound p i)).0
+        (step s p.x p.y (mask_in b keep (number p)) (mask_in b flip (number p)) (get_or adds (number p) 0) (state m 0 0) on.colour.small.bytes bm (its-sound p i)).0
         ∙ masked-byte (byte_of s p.x p.y) (λ j. number p * b + j) m keep flip bm bk bf 0 b m k (omega arith) (omega arith)
         (λ a c f g e. (same_byte s p.x p.y a p.x p.y c column column (omega arith) (omega arith) e).2)
         (λ c f. (colour-byte (pixel-on p i) c (omega arith)).inside);
@@ -104,24 +104,24 @@ module _ (s : Surface) (keep flip adds : List ℕ) (x y w h : ℕ) (m : List ℕ
   unfolding tinting
   counts =
       here.counts ∙ zero-add _
-      ∙ summed_same (λ p. counted (downTint s keep flip adds x y m p)) (addsAt adds x y) ps
-      (λ p i. counts-one (maskIn b keep (number p)) (maskIn b flip (number p)) (get_or adds (number p) 0) (readPx m s p.x p.y) (its-sound p (in-rect false false x y w h p i)).few)
+      ∙ summed_same (λ p. counted (down_tint s keep flip adds x y m p)) (adds_at adds x y) ps
+      (λ p i. counts-one (mask_in b keep (number p)) (mask_in b flip (number p)) (get_or adds (number p) 0) (read_px m s p.x p.y) (its-sound p (in-rect false false x y w h p i)).few)
       ∙ rect-summed adds x y w h
 
   -- ---- the same, from bytes
-  value-number : (p : Px) (k : ℕ) → Inside x y w h p → k < b → inRows (8 * b) (8 * b) (x * b) y (px (p.x * b + k) p.y) ≡ number p * b + k
+  value-number : (p : Px) (k : ℕ) → Inside x y w h p → k < b → in_rows (8 * b) (8 * b) (x * b) y (px (p.x * b + k) p.y) ≡ number p * b + k
   value-number p k i l =
       let d = p.x - x in
       let e : p.x ≡ x + d = omega arith in
       let f : p.x * b + k - x * b ≡ d * b + k = omega (arith, ap (λ (n : ℕ). n * b) e, add-mul x d b) in
       rw (f, in-period b d k l) (omega (arith, add-mul ((p.y - y) % 8 * 8) (d % 8) b, mul_assoc ((p.y - y) % 8) 8 b))
 
-  pub washed-whole : {m' : List ℕ} {r c : ℕ} → Put s (washed s keep flip (inRows (8 * b) (8 * b) (x * b) y) m) (x * b) y (w * b) h m m' → r ≡ countings adds w 0 h
+  pub washed-whole : {m' : List ℕ} {r c : ℕ} → Put s (washed s keep flip (in_rows (8 * b) (8 * b) (x * b) y) m) (x * b) y (w * b) h m m' → r ≡ countings adds w 0 h
       → c ≡ summed (changing s m m') ps → state m' r c ≡ whole
   unfolding byte_of
   washed-whole {m'} {r} {c} put count sum =
       let bytes : Given s byte x y w h m m' =
-      put-given s colour byte (washed s keep flip (inRows (8 * b) (8 * b) (x * b) y) m) x y w h m m'
+      put-given s colour byte (washed s keep flip (in_rows (8 * b) (8 * b) (x * b) y) m) x y w h m m'
       (λ p k i l. ap (λ (a : ℕ). masked (get_or m (byte_at s (p.x * b + k) p.y) 0) (get_or keep a 0) (get_or flip a 0)) (value-number p k i l)) put in
       let left : m' ≡ whole.mem = given-once bytes given in
       let written : r ≡ whole.tally.count = count ∙ sym counts in

@@ -8,7 +8,7 @@ use native.Mathlib.Nat.{mod-lt, div-add-mod'}
 use native.Mathlib.Omega.{arith}
 use lib.ListN.{get_or}
 use Rattle.surface.specs.declared.Surface.{Surface}
-use Rattle.surface.specs.Place.{byte_at, byte_of, rowPixels}
+use Rattle.surface.specs.Place.{byte_at, byte_of, row_pixels}
 use Rattle.surface.specs.Pixels.{Px, px, across, rect, Inside}
 use Rattle.surface.proofs.Lists.{In}
 use Rattle.surface.proofs.Pixels.{same_byte}
@@ -22,8 +22,8 @@ use Rattle.blocks.proofs.Pixels.{pixel-of}
 
 module _ (s : Surface) (some : 0 < s.bytes) where
   -- a pixel that is none of the rectangle's keeps its bytes
-  put-leaves : {value : Px → ℕ} {m m' : List ℕ} (x y w h : ℕ) → ((q : Px) → Inside x y w h q → q.x < rowPixels s) → Put s value (x * s.bytes) y (w * s.bytes) h m m'
-      → (p : Px) → p.x < rowPixels s → (Inside x y w h p → ⊥) → (k : ℕ) → k < s.bytes → get_or m' (byte_of s p.x p.y k) 0 ≡ get_or m (byte_of s p.x p.y k) 0
+  put-leaves : {value : Px → ℕ} {m m' : List ℕ} (x y w h : ℕ) → ((q : Px) → Inside x y w h q → q.x < row_pixels s) → Put s value (x * s.bytes) y (w * s.bytes) h m m'
+      → (p : Px) → p.x < row_pixels s → (Inside x y w h p → ⊥) → (k : ℕ) → k < s.bytes → get_or m' (byte_of s p.x p.y k) 0 ≡ get_or m (byte_of s p.x p.y k) 0
   unfolding byte_of
   put-leaves x y w h columns put p column out k l =
       put.others (byte_of s p.x p.y k) (λ q i e.
@@ -36,7 +36,7 @@ module _ (s : Surface) (some : 0 < s.bytes) where
       place q = ap (λ (c : ℕ). byte_at s c q.y) (sym (div-add-mod' q.x s.bytes))
 
   module _ {value value' : Px → ℕ} {m₀ m m' : List ℕ} where
-    both-sum : (x y w h x' y' w' h' : ℕ) → ((p : Px) → Inside x y w h p → p.x < rowPixels s) → ((p : Px) → Inside x' y' w' h' p → p.x < rowPixels s)
+    both-sum : (x y w h x' y' w' h' : ℕ) → ((p : Px) → Inside x y w h p → p.x < row_pixels s) → ((p : Px) → Inside x' y' w' h' p → p.x < row_pixels s)
         → ((p : Px) → Inside x y w h p → Inside x' y' w' h' p → ⊥) → Put s value (x * s.bytes) y (w * s.bytes) h m₀ m → Put s value' (x' * s.bytes) y' (w' * s.bytes) h' m m'
         → (ps qs : List Px) → ((p : Px) → In p ps → Inside x y w h p) → ((p : Px) → In p qs → Inside x' y' w' h' p)
         → summed (changing s m₀ m') (ps ++ qs) ≡ summed (changing s m₀ m) ps + summed (changing s m m') qs
@@ -48,7 +48,7 @@ module _ (s : Surface) (some : 0 < s.bytes) where
         subst (λ (n : ℕ). get_or m n 0 ≡ get_or m₀ n 0) (sym f.1) (put-leaves x y w h columns done q (columns' q (ins' q i)) (λ j. apart q j (ins' q i)) b.k f.0))
 
     -- some more pixels of a row
-    pub part-sum : (x y i k : ℕ) → ((c : ℕ) → x ≤ c → c < x + (i + k) → c < rowPixels s) → Put s value (x * s.bytes) y (i * s.bytes) 1 m₀ m
+    pub part-sum : (x y i k : ℕ) → ((c : ℕ) → x ≤ c → c < x + (i + k) → c < row_pixels s) → Put s value (x * s.bytes) y (i * s.bytes) 1 m₀ m
         → Put s value' ((x + i) * s.bytes) y (k * s.bytes) 1 m m'
         → summed (changing s m₀ m') (across false x (i + k) y) ≡ summed (changing s m₀ m) (across false x i y) + summed (changing s m m') (across false (x + i) k y)
     part-sum x y i k columns done put =
@@ -57,7 +57,7 @@ module _ (s : Surface) (some : 0 < s.bytes) where
         (across false x i y) (across false (x + i) k y) (λ p j. let r = in-across false x i y p j in omega arith) (λ p j. let r = in-across false (x + i) k y p j in omega arith)
 
     -- a row more
-    pub row-sum : (x y w j : ℕ) → ((c : ℕ) → x ≤ c → c < x + w → c < rowPixels s) → Put s value (x * s.bytes) y (w * s.bytes) j m₀ m
+    pub row-sum : (x y w j : ℕ) → ((c : ℕ) → x ≤ c → c < x + w → c < row_pixels s) → Put s value (x * s.bytes) y (w * s.bytes) j m₀ m
         → Put s value' (x * s.bytes) (y + j) (w * s.bytes) 1 m m'
         → summed (changing s m₀ m') (rect false false x y w (j + 1)) ≡ summed (changing s m₀ m) (rect false false x y w j) + summed (changing s m m') (across false x w (y + j))
     row-sum x y w j columns done put =

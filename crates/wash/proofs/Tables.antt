@@ -15,7 +15,7 @@ use Rattle.runs.specs.Asked.{RectOn}
 use Rattle.tint.specs.Masking.{masked}
 use Rattle.blocks.specs.Blocks.{Put}
 use Rattle.blocks.proofs.Pixels.{byte-held, bytes-wide}
-use Rattle.wash.specs.Wash.{washed, inRows, Widened}
+use Rattle.wash.specs.Wash.{washed, in_rows, Widened}
 use Rattle.wash.specs.Asked.{Again, Period, CanWash}
 
 pub period-of : {s : Surface} → Colour s → Period (8 * s.bytes)
@@ -49,8 +49,8 @@ module _ (s : Surface) {x y w h rows wide : ℕ} {keep flip keep' flip' : List �
         flips = again steps enough flips (j % 8) (lines j l);
       }
 
-  pub as-tables : {m m' : List ℕ} → Put s (washed s keep' flip' (inRows 160 (8 * s.bytes) (x * s.bytes) y) m) (x * s.bytes) y (w * s.bytes) h m m'
-      → Put s (washed s keep flip (inRows (8 * s.bytes) (8 * s.bytes) (x * s.bytes) y) m) (x * s.bytes) y (w * s.bytes) h m m'
+  pub as-tables : {m m' : List ℕ} → Put s (washed s keep' flip' (in_rows 160 (8 * s.bytes) (x * s.bytes) y) m) (x * s.bytes) y (w * s.bytes) h m m'
+      → Put s (washed s keep flip (in_rows (8 * s.bytes) (8 * s.bytes) (x * s.bytes) y) m) (x * s.bytes) y (w * s.bytes) h m m'
   as-tables {m} put =
       let steps = period-of on.colour in
       record {

@@ -2,7 +2,7 @@
 -- Assumes nothing.
 use Rattle.std.specs.Prelude.{List, ◌≡◌, true, ℕ, ◌+◌, ◌%◌, ◌<◌, ◌≤◌, ◌^◌, get_or}
 use Rattle.surface.specs.declared.Surface.{Surface}
-use Rattle.surface.specs.Place.{rowBytes, byte_at}
+use Rattle.surface.specs.Place.{row_bytes, byte_at}
 use Rattle.surface.specs.Asked.{Small}
 
 -- eight masks that count one pixel at most
@@ -23,7 +23,7 @@ pub record Period (period : ℕ) : Type 0 where
 pub record CanWash (s : Surface) (keep flip : List ℕ) (first period x y n len : ℕ) : Type 0 where
   pub tiled : s.tiled ≡ true
   pub small : Small s
-  pub wide : x + n ≤ rowBytes s
+  pub wide : x + n ≤ row_bytes s
   pub high : y < 2 ^ 32
   pub steps : Period period
   pub room : first + 160 ≤ 1280

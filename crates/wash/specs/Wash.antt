@@ -15,8 +15,8 @@ abbrev pub in_row : ℕ → ℕ → ℕ → Px → ℕ
 in_row first period x q = first + (q.x - x) % period
 
 -- a rectangle's are eight such rows, `pitch` bytes apart, again and again from row y on
-abbrev pub inRows : ℕ → ℕ → ℕ → ℕ → Px → ℕ
-inRows pitch period x y q = (q.y - y) % 8 * pitch + (q.x - x) % period
+abbrev pub in_rows : ℕ → ℕ → ℕ → ℕ → Px → ℕ
+in_rows pitch period x y q = (q.y - y) % 8 * pitch + (q.x - x) % period
 
 -- ---- tables whose rows are wide: 160 bytes, so that 128 of them can begin anywhere in a period
 

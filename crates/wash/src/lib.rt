@@ -5,7 +5,7 @@ ghost use Rattle.paint.specs.Paint.{state, tallied, paint, changing, summed};
 ghost use Rattle.runs.specs.Asked.{RowOn, RectOn};
 ghost use Rattle.blocks.specs.Blocks.{Put};
 ghost use Rattle.tint.specs.Tint.{fillings};
-ghost use Rattle.wash.specs.Wash.{washed, in_row, inRows, Spread, Widened};
+ghost use Rattle.wash.specs.Wash.{washed, in_row, in_rows, Spread, Widened};
 ghost use Rattle.wash.specs.Asked.{Period, CanWash, Ones};
 ghost use Rattle.wash.specs.Count.{counting, countings};
 
@@ -142,7 +142,7 @@ fn wash_lines(
     h: u32,
 ) -> u32
     requires { RectOn s (length mem.old) x y w h × ((j : ℕ) → j < h → CanWash s keep.now flip.now (j % 8 * 160) (8 * s.bytes) (x * s.bytes) (y + j) (w * s.bytes) (length mem.old)) }
-    ensures { Put s (washed s keep.now flip.now (inRows 160 (8 * s.bytes) (x * s.bytes) y) mem.old) (x * s.bytes) y (w * s.bytes) h mem.old mem.new × (result ≡ summed (changing s mem.old mem.new) (rect false false x y w h)) }
+    ensures { Put s (washed s keep.now flip.now (in_rows 160 (8 * s.bytes) (x * s.bytes) y) mem.old) (x * s.bytes) y (w * s.bytes) h mem.old mem.new × (result ≡ summed (changing s mem.old mem.new) (rect false false x y w h)) }
 {
     let mut old = [0u8; 1024];
     let mut new = [0u8; 1024];
@@ -205,7 +205,7 @@ fn wash_masks(
     h: u32,
 ) -> u32
     requires { RectOn s (length mem.old) x y w h × ((s.tiled ≡ true) × (((0 < w) × (0 < h)) × ((rows ≤ 8) × ((j : ℕ) → j < h → j % 8 < rows)))) }
-    ensures { Put s (washed s keeps.now flips.now (inRows (8 * s.bytes) (8 * s.bytes) (x * s.bytes) y) mem.old) (x * s.bytes) y (w * s.bytes) h mem.old mem.new × (result ≡ summed (changing s mem.old mem.new) (rect false false x y w h)) }
+    ensures { Put s (washed s keeps.now flips.now (in_rows (8 * s.bytes) (8 * s.bytes) (x * s.bytes) y) mem.old) (x * s.bytes) y (w * s.bytes) h mem.old mem.new × (result ≡ summed (changing s mem.old mem.new) (rect false false x y w h)) }
 {
     let bytes = s.bytes as usize;
     let period = 8 * bytes;
@@ -225,7 +225,7 @@ pub fn wash_rows(
     w: u32,
     h: u32,
 ) -> Tally
-    requires { RectOn ink.target (length mem.old) x y w h × ((ink.target.tiled ≡ true → (0 < w) × (0 < h)) × (ink.dstKey ≡ false)) }
+    requires { RectOn ink.target (length mem.old) x y w h × ((ink.target.tiled ≡ true → (0 < w) × (0 < h)) × (ink.dst_key ≡ false)) }
     ensures { tallied mem.new result ≡ paint ink.target (fillings ink pattern (rect false false x y w h)) (state mem.old 0 0) }
 {
     let rows = tint::mask_rows(h);

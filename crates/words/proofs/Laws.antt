@@ -10,13 +10,13 @@ use Rattle.paint.specs.Paint.{tallied, state}
 use Rattle.bank.specs.declared.Bank.{Bank}
 use Rattle.acts.specs.declared.Act.{Act}
 use Rattle.acts.specs.declared.Blit.{Blit}
-use Rattle.acts.specs.Deed.{made, withEnds, Deed, deed, judged, carrying, aimed, starting}
+use Rattle.acts.specs.Deed.{made, with_ends, Deed, deed, judged, carrying, aimed, starting}
 use Rattle.acts.proofs.Cases.{by-test}
 use Rattle.acts.proofs.Numbers.{aimed-starts}
 use Rattle.engine.specs.declared.Answer.TheVariants.{Memory}
 use Rattle.engine.specs.Step.{Step, step, making, number_of, regs, launched, written}
 use Rattle.engine.proofs.Commands.{launched-number}
-use Rattle.words.specs.Words.{Ran, launching, is_taken, further, halted, stopped, ranFrom}
+use Rattle.words.specs.Words.{Ran, launching, is_taken, further, halted, stopped, ran_from}
 
 -- row 1 refuses no word
 pub record Fits (t : Ran) : Type 0 where
@@ -30,8 +30,8 @@ worded t w = cond (is_taken (launching t w)) (further t (launching t w)) (stoppe
 -- from s to s' some words of the run were taken, and the words after them give what was left to give; or it is stopped
 pub record Went (ws : List ℕ) (s s' : Ran) : Type 0 where
   pub more : s'.number ≡ 0 → s.taken < s'.taken
-  pub goes : s'.number ≡ 0 → ranFrom s' (drop s'.taken ws) ≡ ranFrom s (drop s.taken ws)
-  pub stops : (s'.number ≡ 0 → ⊥) → s' ≡ ranFrom s (drop s.taken ws)
+  pub goes : s'.number ≡ 0 → ran_from s' (drop s'.taken ws) ≡ ran_from s (drop s.taken ws)
+  pub stops : (s'.number ≡ 0 → ⊥) → s' ≡ ran_from s (drop s.taken ws)
 
 -- the offset that stands for them all
 pub launch-80 : place_of 0x80 ≡ Launch
@@ -101,7 +101,7 @@ module _ (t : Ran) (w : ℕ) (fits : Fits t) (other : number (regs t.engine) ≡
 
   pub start-goes : a.number ≡ 0
       → record {
-        engine = record { bank = withEnds t.engine.bank a.ends; blit = a.blit; opened = t.engine.opened; rooms = t.engine.rooms };
+        engine = record { bank = with_ends t.engine.bank a.ends; blit = a.blit; opened = t.engine.opened; rooms = t.engine.rooms };
         memory = m';
         number = 0;
         taken = t.taken + 1;
@@ -112,8 +112,8 @@ module _ (t : Ran) (w : ℕ) (fits : Fits t) (other : number (regs t.engine) ≡
   start-goes z =
       let zero' : begun.verdict ≡ 0 = sym begun-number ∙ z in
       let taken : judged begun (aimed t.engine.bank w) t.engine.blit t.memory ≡ begun = rw zero' in
-      let made' : begun.makes ≡ made (withEnds t.engine.bank a.ends) a.blit (tallied m' a.tally) = ap (λ (d : Deed). d.makes) (sym (begun-judged ∙ taken)) in
-      let here : launching t w ≡ making t.engine (made (withEnds t.engine.bank a.ends) a.blit (tallied m' a.tally)) = fits-launched t w fits ∙ rw (zero', made') in
+      let made' : begun.makes ≡ made (with_ends t.engine.bank a.ends) a.blit (tallied m' a.tally) = ap (λ (d : Deed). d.makes) (sym (begun-judged ∙ taken)) in
+      let here : launching t w ≡ making t.engine (made (with_ends t.engine.bank a.ends) a.blit (tallied m' a.tally)) = fits-launched t w fits ∙ rw (zero', made') in
       rw here
 
 -- ---- a turn of the loop
@@ -121,8 +121,8 @@ module _ (ws : List ℕ) (s : Ran) (some : s.taken < length ws) where
   next : Step
   next = launching s (get_or ws s.taken 0)
 
-  opened : ranFrom s (drop s.taken ws) ≡ cond (is_taken next) (ranFrom (further s next) (drop (s.taken + 1) ws)) (stopped s next)
-  unfolding ranFrom next
+  opened : ran_from s (drop s.taken ws) ≡ cond (is_taken next) (ran_from (further s next) (drop (s.taken + 1) ws)) (stopped s next)
+  unfolding ran_from next
   opened = rw (drop-cons ws s.taken 0 some, add-one)
 
   pub went-word : {s' : Ran} → s' ≡ worded s (get_or ws s.taken 0) → Went ws s s'
@@ -132,15 +132,15 @@ module _ (ws : List ℕ) (s : Ran) (some : s.taken < length ws) where
       (by-test (λ t. is_taken next ≡ t → Went ws s (cond t (further s next) (stopped s next))) (is_taken next)
       (λ _ f. record {
         more = λ _. omega arith;
-        goes = λ _. sym (opened ∙ ap (λ t. cond t (ranFrom (further s next) (drop (s.taken + 1) ws)) (stopped s next)) f);
+        goes = λ _. sym (opened ∙ ap (λ t. cond t (ran_from (further s next) (drop (s.taken + 1) ws)) (stopped s next)) f);
         stops = λ no'. absurd (no' refl);
       })
       (λ _ f. record {
         more = λ z. absurd (true≢false (sym (eq-eqb _ 0 z) ∙ f));
         goes = λ z. absurd (true≢false (sym (eq-eqb _ 0 z) ∙ f));
-        stops = λ _. sym (opened ∙ ap (λ t. cond t (ranFrom (further s next) (drop (s.taken + 1) ws)) (stopped s next)) f);
+        stops = λ _. sym (opened ∙ ap (λ t. cond t (ran_from (further s next) (drop (s.taken + 1) ws)) (stopped s next)) f);
       }) refl)
 
-pub ran_ends : (ws : List ℕ) (t : Ran) → length ws ≤ t.taken → t ≡ ranFrom t (drop t.taken ws)
-unfolding ranFrom
+pub ran_ends : (ws : List ℕ) (t : Ran) → length ws ≤ t.taken → t ≡ ran_from t (drop t.taken ws)
+unfolding ran_from
 ran_ends ws t h = rw (drop_of_length-le ws h)

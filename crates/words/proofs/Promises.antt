@@ -2,7 +2,7 @@
 -- Assumes nothing.
 use Rattle.std.proofs.Common.{◌≡◌, ℕ, zero, suc, ◌+◌, ◌*◌, ◌%◌, ◌^◌, ◌<◌, ◌≤◌, true, false, cond, List, [], ◌∷◌, ◌++◌, map, length, get_or, take, sym, refl, ap, ◌∙◌, true≢false, append-nil, mod-eq_of_lt, zero-add, arith, length-take, eq-eqb, eqb-true}
 use native.Mathlib.Nat.{add-mod-mod}
-use Rattle.table.specs.Table.{hostVerdict}
+use Rattle.table.specs.Table.{host_verdict}
 use Rattle.acts.proofs.Cases.{by-test, picked}
 use Rattle.engine.specs.declared.Engine.{Engine}
 use Rattle.engine.specs.Step.{number_of, regs, written}
@@ -10,7 +10,7 @@ use Rattle.engine.specs.Writes.{Run, played, counted, changes}
 use Rattle.engine.proofs.Count.{no-more-changed}
 use Rattle.basics.proofs.One.{settled}
 use Rattle.engine.proofs.Most.{count_fits}
-use Rattle.words.specs.Words.{Ran, started, launching, is_taken, further, stopped, ranFrom, ran}
+use Rattle.words.specs.Words.{Ran, started, launching, is_taken, further, stopped, ran_from, ran}
 use Rattle.words.specs.Promises.{OneRun, EmptyRun, AnyLaunch, RunPlayed, SumsWhole, RunStops, joined, RunSplit, RestOfBlit}
 use Rattle.words.proofs.Laws.{launch-80, sum-joins}
 use Rattle.words.proofs.Feeds.{Ready, all-feed}
@@ -19,7 +19,7 @@ pub one-run : OneRun
 one-run e m ws x y = settled (ran e m ws) x y
 
 pub empty-run : EmptyRun
-unfolding ranFrom
+unfolding ran_from
 empty-run e m = refl
 
 pub any-launch : AnyLaunch
@@ -93,8 +93,8 @@ module _ (t : Ran) (w : ℕ) (ws : List ℕ) where
 further-going : (t : Ran) (w : ℕ) → Going (further t (launching t w))
 further-going t w = record { number = refl; count = omega arith; changed = omega arith }
 
-ran-from : (ws : List ℕ) (t : Ran) → Going t → From t ws (ranFrom t ws)
-unfolding ranFrom played counted changes
+ran-from : (ws : List ℕ) (t : Ran) → Going t → From t ws (ran_from t ws)
+unfolding ran_from played counted changes
 ran-from [] t g = record {
   k = 0;
   taken = omega arith;
@@ -159,13 +159,13 @@ sums-whole e m ws few =
 -- ---- a run in two calls
 
 -- one from u on, after x
-joined-on : (ws : List ℕ) (x u : Ran) → ranFrom (joined x u) ws ≡ joined x (ranFrom u ws)
-unfolding ranFrom
+joined-on : (ws : List ℕ) (x u : Ran) → ran_from (joined x u) ws ≡ joined x (ran_from u ws)
+unfolding ran_from
 joined-on [] x u = refl
 joined-on (w ∷ ws) x u =
     by-test
-    (λ t. cond t (ranFrom (further (joined x u) (launching u w)) ws) (stopped (joined x u) (launching u w)) ≡ joined x (cond t (ranFrom (further u (launching u w)) ws) (stopped u (launching u w))))
-    (is_taken (launching u w)) (λ _. ap (λ (t : Ran). ranFrom t ws) (go_on (launching u w)) ∙ joined-on ws x (further u (launching u w))) (λ _. refl)
+    (λ t. cond t (ran_from (further (joined x u) (launching u w)) ws) (stopped (joined x u) (launching u w)) ≡ joined x (cond t (ran_from (further u (launching u w)) ws) (stopped u (launching u w))))
+    (is_taken (launching u w)) (λ _. ap (λ (t : Ran). ran_from t ws) (go_on (launching u w)) ∙ joined-on ws x (further u (launching u w))) (λ _. refl)
   where
     sum : (a b c : ℕ) → ((a + b) % 2 ^ 64 + c) % 2 ^ 64 ≡ (a + (b + c) % 2 ^ 64) % 2 ^ 64
     sum a b c = sum-joins a b c ∙ sym (add-mod-mod a (b + c) (2 ^ 64))
@@ -183,20 +183,20 @@ itself x g =
     let changed : x.changed ≡ (x.changed + 0) % 2 ^ 64 = omega (arith, g.changed) in
     rw (← words, ← count, ← changed, ← g.number)
 
-split-whole : (us vs : List ℕ) (t : Ran) → (ranFrom t us).number ≡ 0 → ranFrom t (us ++ vs) ≡ ranFrom (ranFrom t us) vs
-unfolding ranFrom
+split-whole : (us vs : List ℕ) (t : Ran) → (ran_from t us).number ≡ 0 → ran_from t (us ++ vs) ≡ ran_from (ran_from t us) vs
+unfolding ran_from
 split-whole [] vs t = λ _. refl
 split-whole (w ∷ us) vs t =
-    by-test (λ u. is_taken (launching t w) ≡ u → (cond u (ranFrom (further t (launching t w)) us) (stopped t (launching t w))).number ≡ 0
-    → cond u (ranFrom (further t (launching t w)) (us ++ vs)) (stopped t (launching t w)) ≡ ranFrom (cond u (ranFrom (further t (launching t w)) us) (stopped t (launching t w))) vs)
+    by-test (λ u. is_taken (launching t w) ≡ u → (cond u (ran_from (further t (launching t w)) us) (stopped t (launching t w))).number ≡ 0
+    → cond u (ran_from (further t (launching t w)) (us ++ vs)) (stopped t (launching t w)) ≡ ran_from (cond u (ran_from (further t (launching t w)) us) (stopped t (launching t w))) vs)
     (is_taken (launching t w)) (λ _ _. split-whole us vs (further t (launching t w))) (λ _ f z. absurd (not_taken t w us f z)) refl
 
-split-part : (us vs : List ℕ) (t : Ran) → t.number ≡ 0 → ((ranFrom t us).number ≡ 0 → ⊥) → ranFrom t (us ++ vs) ≡ ranFrom t us
-unfolding ranFrom
+split-part : (us vs : List ℕ) (t : Ran) → t.number ≡ 0 → ((ran_from t us).number ≡ 0 → ⊥) → ran_from t (us ++ vs) ≡ ran_from t us
+unfolding ran_from
 split-part [] vs t z = λ no'. absurd (no' z)
 split-part (w ∷ us) vs t z =
-    by-test (λ u. ((cond u (ranFrom (further t (launching t w)) us) (stopped t (launching t w))).number ≡ 0 → ⊥)
-    → cond u (ranFrom (further t (launching t w)) (us ++ vs)) (stopped t (launching t w)) ≡ cond u (ranFrom (further t (launching t w)) us) (stopped t (launching t w)))
+    by-test (λ u. ((cond u (ran_from (further t (launching t w)) us) (stopped t (launching t w))).number ≡ 0 → ⊥)
+    → cond u (ran_from (further t (launching t w)) (us ++ vs)) (stopped t (launching t w)) ≡ cond u (ran_from (further t (launching t w)) us) (stopped t (launching t w)))
     (is_taken (launching t w)) (λ _. split-part us vs (further t (launching t w)) refl) (λ _ _. refl)
 
 pub run-split : RunSplit
@@ -206,16 +206,16 @@ run-split e m us vs =
     record {
       whole = λ z.
           let going : Going x = record { number = z; count = omega (arith, f.count); changed = omega (arith, f.changed) } in
-          split-whole us vs (started e m) z ∙ ap (λ (t : Ran). ranFrom t vs) (itself x going) ∙ joined-on vs x (started x.engine x.memory);
+          split-whole us vs (started e m) z ∙ ap (λ (t : Ran). ran_from t vs) (itself x going) ∙ joined-on vs x (started x.engine x.memory);
       part = split-part us vs (started e m) refl;
     }
 
 -- ---- the rest of a blit
 pub rest-of-blit : RestOfBlit
-unfolding ranFrom
+unfolding ran_from
 rest-of-blit e m [] sound w small same h = (refl, refl)
 rest-of-blit e m (v ∷ ws) sound w small same h =
     let held = sound.waits w in
-    let r : Ready (started e m) = record { fits = record { limit = small; opened = same }; host = held.0; fine = ap (hostVerdict (regs e)) same ∙ held.1.0 } in
-    let p = ap (ranFrom (started e m)) (sym (append-nil (v ∷ ws))) ∙ all-feed (v ∷ ws) [] (started e m) (omega arith) r h in
+    let r : Ready (started e m) = record { fits = record { limit = small; opened = same }; host = held.0; fine = ap (host_verdict (regs e)) same ∙ held.1.0 } in
+    let p = ap (ran_from (started e m)) (sym (append-nil (v ∷ ws))) ∙ all-feed (v ∷ ws) [] (started e m) (omega arith) r h in
     (ap (λ (t : Ran). t.number) p, ap (λ (t : Ran). t.taken) p ∙ omega arith)

@@ -5,7 +5,7 @@ use Rattle.std.specs.Prelude.{◌≡◌, ℕ, ◌+◌, ◌%◌, ◌^◌, ◌<◌
 use Rattle.registers.specs.declared.Place.TheVariants.{Launch}
 use Rattle.registers.specs.Offsets.{place_of}
 use Rattle.host.specs.Host.{words_of}
-use Rattle.command.specs.Decode.{feedOf}
+use Rattle.command.specs.Decode.{feed_of}
 use Rattle.engine.specs.declared.Engine.{Engine}
 use Rattle.engine.specs.Step.{written, number_of, regs}
 use Rattle.engine.specs.Writes.{Run, played, counted, changes}
@@ -80,4 +80,4 @@ RunSplit = (e : Engine) (m us vs : List ℕ) → Split e m us vs
 -- ---- the words that a waiting blit still needs are all taken, where row 1 does not refuse
 abbrev pub RestOfBlit : Type 0
 RestOfBlit = (e : Engine) (m ws : List ℕ) → Sound e → e.blit.waiting ≡ true → length m ≤ 2 ^ 24 → length m ≡ e.opened
-    → e.blit.taken + length ws ≤ words_of (feedOf (regs e)) → ((ran e m ws).number ≡ 0) × ((ran e m ws).taken ≡ length ws)
+    → e.blit.taken + length ws ≤ words_of (feed_of (regs e)) → ((ran e m ws).number ≡ 0) × ((ran e m ws).taken ≡ length ws)

@@ -2,7 +2,7 @@
 -- Assumes nothing.
 use Rattle.std.specs.Prelude.{ℕ, ◌+◌, ◌%◌, ◌^◌, Bool, cond, List, [], ◌∷◌, ◌==◌}
 use Rattle.engine.specs.declared.Engine.{Engine}
-use Rattle.engine.specs.Step.{Step, written, number_of, count_of, changedOf}
+use Rattle.engine.specs.Step.{Step, written, number_of, count_of, changed_of}
 use Rattle.words.specs.declared.Run.{Run}
 
 -- the engine and the memory after the words taken, the number of the answer that stopped the run, or 0, how many words were taken, and the sums of their counts
@@ -33,7 +33,7 @@ further t s = record {
   number = 0;
   taken = t.taken + 1;
   count = (t.count + count_of s.answer) % 2 ^ 64;
-  changed = (t.changed + changedOf s.answer) % 2 ^ 64;
+  changed = (t.changed + changed_of s.answer) % 2 ^ 64;
 }
 
 -- stopped by the answer of that number, all else as it was
@@ -44,13 +44,13 @@ halted t n = record { engine = t.engine; memory = t.memory; number = n; taken = 
 abbrev pub stopped : Ran → Step → Ran
 stopped t s = halted t (number_of s.answer)
 
-unfoldable pub ranFrom : Ran → List ℕ → Ran
-ranFrom t [] = t
-ranFrom t (w ∷ ws) = cond (is_taken (launching t w)) (ranFrom (further t (launching t w)) ws) (stopped t (launching t w))
+unfoldable pub ran_from : Ran → List ℕ → Ran
+ran_from t [] = t
+ran_from t (w ∷ ws) = cond (is_taken (launching t w)) (ran_from (further t (launching t w)) ws) (stopped t (launching t w))
 
 abbrev pub ran : Engine → List ℕ → List ℕ → Ran
-ran e m ws = ranFrom (started e m) ws
+ran e m ws = ran_from (started e m) ws
 
 -- what a function of this crate left
-abbrev pub ranOf : Run → List ℕ → Ran
-ranOf r m = record { engine = r.engine; memory = m; number = r.number; taken = r.sums.taken; count = r.sums.count; changed = r.sums.changed }
+abbrev pub ran_of : Run → List ℕ → Ran
+ran_of r m = record { engine = r.engine; memory = m; number = r.number; taken = r.sums.taken; count = r.sums.count; changed = r.sums.changed }

@@ -1,6 +1,6 @@
 // Runs of words for the launch area: launch writes in order, up to the first that is refused.
 ghost use Rattle.std.specs.Prelude.{◌≡◌, ◌+◌, ◌%◌, ◌^◌, ◌<◌};
-ghost use Rattle.words.specs.Words.{ran, ranOf};
+ghost use Rattle.words.specs.Words.{ran, ran_of};
 
 use acts::Blit;
 use bank::Bank;
@@ -53,7 +53,7 @@ fn ended(bank: Bank, blit: Blit, opened: usize, rooms: Rooms, number: u32, sums:
 
 // The words of a run, each a launch write: those up to the end of a host blit at a time, or one of another command.
 pub fn take_run(e: Engine, mem: &mut [u8], words: &[u32]) -> Run
-    ensures { ranOf result mem.new ≡ ran e mem.old words.now }
+    ensures { ran_of result mem.new ≡ ran e mem.old words.now }
 {
     let opened = e.opened;
     let rooms = e.rooms;

@@ -3,8 +3,8 @@
 use borrow.Author.Rules.{rules}
 use mathlib.Core.Path.{◌≡◌, ◌∙◌}
 use mathlib.Core.Logic.{⊎_elim}
-use Rattle.registers.specs.Regs.{putReg}
-use Rattle.acts.proofs.Numbers.{toSource, sourced, aimed-target, aimed-source}
+use Rattle.registers.specs.Regs.{put_reg}
+use Rattle.acts.proofs.Numbers.{to_source, sourced, aimed-target, aimed-source}
 use Rattle.acts.proofs.aim.Statement.{statement}
 use Rattle.acts.proofs.aim.Tie as tie
 
@@ -15,12 +15,12 @@ kept-bits-requires-2 : tie.Need-kept-bits-requires-2
 kept-bits-requires-2 c κs = search rules
 
 -- the registers after the first test
-first : (c : tie.Joined1) → let a = c.before.before.args in c.if1.next ≡ sourced a.regs a.word (toSource a.regs)
-unfolding putReg
+first : (c : tie.Joined1) → let a = c.before.before.args in c.if1.next ≡ sourced a.regs a.word (to_source a.regs)
+unfolding put_reg
 first c = ⊎_elim (λ w. w.2 ∙ rw (w.0.taken, w.1.ensures)) (λ w. w.1 ∙ rw w.0.left) c.if1.branch
 
 returns : tie.Need-returns
-unfolding putReg
+unfolding put_reg
 returns c p =
     let a = c.before.before.before.before.args in
     aimed-target a.regs p a.word (first c.before.before) c.before.if2.true c.kept-bits2.ensures

@@ -4,7 +4,7 @@ use borrow.Author.Rules.{rules}
 use mathlib.Core.Path.{ap, ◌∙◌}
 use borrow.Author.Tests.{lt-ltb, le-ltb}
 use Rattle.acts.specs.declared.Act.{Act}
-use Rattle.acts.specs.Deed.{bankOf, deed}
+use Rattle.acts.specs.Deed.{bank_of, deed}
 use Rattle.acts.proofs.Laws.{judged-no, judged-yes, feed-ready}
 use Rattle.acts.proofs.begin.Statement.{statement}
 use Rattle.acts.proofs.begin.Tie as tie
@@ -21,7 +21,7 @@ unpainted-requires c κs = search rules
 returns : tie.Need-returns
 returns c p =
     let a = c.before.before.before.before.before.args in
-    let b = bankOf a.regs p in
+    let b = bank_of a.regs p in
     ap (λ (r : Act). deed b r a.mem.now) c.unpainted.ensures
     ∙ judged-no _ b a.blit a.mem.now c.before.before.before.host-verdict.result c.before.before.before.host-verdict.ensures (c.before.ends_of.ensures p) c.before.before.if1.true
 
@@ -40,7 +40,7 @@ unpainted-requires-2 c κs = search rules
 returns-2 : tie.Need-returns-2
 returns-2 c p =
     let a = c.before.before.before.before.before.before.before.before.args in
-    let b = bankOf a.regs p in
+    let b = bank_of a.regs p in
     ap (λ (r : Act). deed b r a.mem.now) c.unpainted2.ensures
     ∙ judged-yes _ b a.blit a.mem.now c.before.before.before.before.before.before.host-verdict.result c.before.before.before.before.before.before.host-verdict.ensures _ c.before.before.before.before.before.if1.false
     (rw (← c.before.before.before.before.decode-feed.ensures, ← c.before.before.before.words-needed.ensures, lt-ltb _ _ c.before.before.if2.true, c.before.ends-of2.ensures p))
@@ -57,7 +57,7 @@ unpainted-requires-3 c κs = search rules
 returns-3 : tie.Need-returns-3
 returns-3 c p =
     let a = c.before.before.before.before.before.before.before.before.before.args in
-    let b = bankOf a.regs p in
+    let b = bank_of a.regs p in
     ap (λ (r : Act). deed b r a.mem.now) c.unpainted3.ensures
     ∙ judged-yes _ b a.blit a.mem.now c.before.before.before.before.before.before.before.host-verdict.result c.before.before.before.before.before.before.before.host-verdict.ensures _ c.before.before.before.before.before.before.if1.false
     (rw (← c.before.before.before.before.before.decode-feed.ensures, ← c.before.before.before.before.words-needed.ensures, le-ltb _ _ c.before.before.before.if2.false, c.before.before.end-rect.ensures p, c.before.no-blit.ensures))

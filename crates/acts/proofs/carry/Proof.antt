@@ -7,7 +7,7 @@ use native.Mathlib.Omega.{arith}
 use Rattle.bank.specs.declared.Bank.{Bank}
 use Rattle.acts.proofs.Cases.{unbuilt-low, unbuilt-high}
 use Rattle.acts.specs.declared.Act.{Act}
-use Rattle.acts.specs.Deed.{bankOf, Deed, deed, judged, idling, unbuilt}
+use Rattle.acts.specs.Deed.{bank_of, Deed, deed, judged, idling, unbuilt}
 use Rattle.acts.proofs.Numbers.{carry-idle, carry-copy, carry-stretch, carry-host, carry-fill, carry-line, carry-other}
 use Rattle.acts.proofs.carry.Statement.{statement}
 use Rattle.acts.proofs.carry.Tie as tie
@@ -43,7 +43,7 @@ returns : tie.Need-returns
 unfolding judged
 returns c =
     let a = c.before.before.before.before.before.args in
-    let b = bankOf a.regs a.pattern.now in
+    let b = bank_of a.regs a.pattern.now in
     ap (λ (r : Act). deed b r a.mem.now) c.unpainted.ensures
     ∙ ap (λ (x : Bank). idling x a.blit a.mem.now) (c.before.ends_of.ensures a.pattern.now)
     ∙ ap (λ (d : Deed). judged d b a.blit a.mem.now) (sym (carry-idle b a.blit a.mem.now c.before.before.match.keys1))
@@ -54,7 +54,7 @@ same_length c = search rules
 returns-2 : tie.Need-returns-2
 returns-2 c =
     let a = c.before.before.before.before.before.before.before.args in
-    let b = bankOf a.regs a.pattern.now in
+    let b = bank_of a.regs a.pattern.now in
     c.before.before.copy.ensures ∙ ap (λ (d : Deed). judged d b a.blit a.mem.now) (sym (carry-copy b a.blit a.mem.now c.before.before.before.before.match.keys2))
 
 same-length-2 : tie.Need-same-length-2
@@ -63,7 +63,7 @@ same-length-2 c = search rules
 returns-3 : tie.Need-returns-3
 returns-3 c =
     let a = c.before.before.before.before.before.before.before.args in
-    let b = bankOf a.regs a.pattern.now in
+    let b = bank_of a.regs a.pattern.now in
     c.before.before.stretch.ensures ∙ ap (λ (d : Deed). judged d b a.blit a.mem.now) (sym (carry-stretch b a.blit a.mem.now c.before.before.before.before.match.keys3))
 
 same-length-3 : tie.Need-same-length-3
@@ -72,7 +72,7 @@ same-length-3 c = search rules
 returns-4 : tie.Need-returns-4
 returns-4 c =
     let a = c.before.before.before.before.before.args in
-    let b = bankOf a.regs a.pattern.now in
+    let b = bank_of a.regs a.pattern.now in
     c.begin.ensures a.pattern.now ∙ ap (λ (d : Deed). judged d b a.blit a.mem.now) (sym (carry-host b a.blit a.mem.now c.before.before.match.keys4))
 
 same-length-4 : tie.Need-same-length-4
@@ -81,7 +81,7 @@ same-length-4 c = search rules
 returns-5 : tie.Need-returns-5
 returns-5 c =
     let a = c.before.before.before.before.before.before.before.args in
-    let b = bankOf a.regs a.pattern.now in
+    let b = bank_of a.regs a.pattern.now in
     c.before.before.fill.ensures ∙ ap (λ (d : Deed). judged d b a.blit a.mem.now) (sym (carry-fill b a.blit a.mem.now c.before.before.before.before.match.keys5))
 
 same-length-5 : tie.Need-same-length-5
@@ -90,7 +90,7 @@ same-length-5 c = search rules
 returns-6 : tie.Need-returns-6
 returns-6 c =
     let a = c.before.before.before.before.before.before.before.before.before.args in
-    let b = bankOf a.regs a.pattern.now in
+    let b = bank_of a.regs a.pattern.now in
     c.before.before.draw.ensures ∙ ap (λ (d : Deed). judged d b a.blit a.mem.now) (sym (carry-line b a.blit a.mem.now (omega (arith, c.before.before.before.before.before.if1.false)) (omega (arith, c.before.before.before.before.if2.true))))
 
 returns-7 : tie.Need-returns-7
@@ -98,7 +98,7 @@ unfolding judged
 returns-7 c =
     let n = c.before.before.before.match.rest in
     let a = c.before.before.before.before.before.before.args in
-    let b = bankOf a.regs a.pattern.now in
+    let b = bank_of a.regs a.pattern.now in
     ap (λ (r : Act). deed b r a.mem.now) c.unpainted2.ensures
     ∙ ap (λ (x : Bank). unbuilt x a.blit a.mem.now) (c.before.ends-of2.ensures a.pattern.now)
     ∙ ap (λ (d : Deed). judged d b a.blit a.mem.now) (sym (carry-other b a.blit a.mem.now

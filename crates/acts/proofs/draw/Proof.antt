@@ -3,18 +3,18 @@
 use borrow.Author.Rules.{rules}
 use mathlib.Core.Path.{ap, ap₂, ◌∙◌}
 use lib.ListN.{length}
-use Rattle.command.specs.Decode.{target, inkOf}
-use Rattle.cuts.specs.Cut.{clipOf}
+use Rattle.command.specs.Decode.{target, ink_of}
+use Rattle.cuts.specs.Cut.{clip_of}
 use Rattle.ink.specs.declared.Ink.{Ink}
 use Rattle.paint.specs.declared.Clip.{Clip}
 use Rattle.paint.specs.Paint.{state, paint}
 use Rattle.line.specs.declared.Line.{Line}
 use Rattle.line.specs.declared.Pen.{Pen}
-use Rattle.line.specs.Line.{points, pointCount}
-use Rattle.line.specs.Stipple.{styleAfter}
-use Rattle.line.specs.Draw.{lineTouches}
+use Rattle.line.specs.Line.{points, point_count}
+use Rattle.line.specs.Stipple.{style_after}
+use Rattle.line.specs.Draw.{line_touches}
 use Rattle.acts.specs.declared.Act.{Act}
-use Rattle.acts.specs.Deed.{bankOf, deed, lineEnded}
+use Rattle.acts.specs.Deed.{bank_of, deed, line_ended}
 use Rattle.acts.proofs.Laws.{judged-no, judged-yes, carried-out, line-ready}
 use Rattle.acts.proofs.draw.Statement.{statement}
 use Rattle.acts.proofs.draw.Tie as tie
@@ -31,7 +31,7 @@ unpainted-requires c κs = search rules
 returns : tie.Need-returns
 returns c =
     let a = c.before.before.before.before.before.args in
-    let b = bankOf a.regs a.pattern.now in
+    let b = bank_of a.regs a.pattern.now in
     ap (λ (r : Act). deed b r a.mem.now) c.unpainted.ensures
     ∙ judged-no _ b a.blit a.mem.now c.before.before.before.line-verdict.result c.before.before.before.line-verdict.ensures (c.before.ends_of.ensures a.pattern.now) c.before.before.if1.true
 
@@ -59,20 +59,20 @@ same_length : tie.Need-same-length
 same_length c = search rules
 
 returns-2 : tie.Need-returns-2
-unfolding inkOf
+unfolding ink_of
 returns-2 c =
     let a = c.before.before.before.before.before.before.before.before.before.before.before.before.before.args in
     let r = a.regs in
-    let b = bankOf r a.pattern.now in
+    let b = bank_of r a.pattern.now in
     let i = c.before.before.before.before.before.before.before.before.before.decode-ink.result in
     let p = c.before.before.before.before.before.before.decode-pen.result in
     let l = c.before.before.before.before.before.before.before.decode-line.result in
     judged-yes _ b a.blit a.mem.now c.before.before.before.before.before.before.before.before.before.before.before.line-verdict.result c.before.before.before.before.before.before.before.before.before.before.before.line-verdict.ensures _ c.before.before.before.before.before.before.before.before.before.before.if1.false
     (carried-out a.blit
-    (c.end_line.ensures a.pattern.now ∙ ap (lineEnded b) (c.before.before.before.before.paint-line.ensures.1 ∙ ap₂ (λ (p : Pen) (l : Line). styleAfter p (pointCount l) r.lineStyle) c.before.before.before.before.before.before.decode-pen.ensures c.before.before.before.before.before.before.before.decode-line.ensures))
+    (c.end_line.ensures a.pattern.now ∙ ap (line_ended b) (c.before.before.before.before.paint-line.ensures.1 ∙ ap₂ (λ (p : Pen) (l : Line). style_after p (point_count l) r.line_style) c.before.before.before.before.before.before.decode-pen.ensures c.before.before.before.before.before.before.before.decode-line.ensures))
     (c.before.before.before.before.paint-line.ensures.0
-    ∙ ap₂ (λ (i : Ink) (k : Clip). paint i.target (lineTouches i a.pattern.now k p r.lineStyle (points l)) (state a.mem.now 0 0)) c.before.before.before.before.before.before.before.before.before.decode-ink.ensures c.before.before.before.before.before.before.before.before.decode-clip.ensures
-    ∙ ap₂ (λ (p : Pen) (l : Line). paint (target r) (lineTouches (inkOf r) a.pattern.now (clipOf r) p r.lineStyle (points l)) (state a.mem.now 0 0)) c.before.before.before.before.before.before.decode-pen.ensures c.before.before.before.before.before.before.before.decode-line.ensures))
+    ∙ ap₂ (λ (i : Ink) (k : Clip). paint i.target (line_touches i a.pattern.now k p r.line_style (points l)) (state a.mem.now 0 0)) c.before.before.before.before.before.before.before.before.before.decode-ink.ensures c.before.before.before.before.before.before.before.before.decode-clip.ensures
+    ∙ ap₂ (λ (p : Pen) (l : Line). paint (target r) (line_touches (ink_of r) a.pattern.now (clip_of r) p r.line_style (points l)) (state a.mem.now 0 0)) c.before.before.before.before.before.before.decode-pen.ensures c.before.before.before.before.before.before.before.decode-line.ensures))
 
 pub draw-spec : {M : Type 1} → statement M
 draw-spec =

@@ -2,12 +2,12 @@
 -- Assumes nothing.
 use borrow.Author.Rules.{rules}
 use mathlib.Core.Path.{◌∙◌}
-use Rattle.acts.specs.Fed.{feedEnded}
+use Rattle.acts.specs.Fed.{feed_ended}
 use Rattle.acts.proofs.end_feed.Statement.{statement}
 use Rattle.acts.proofs.end_feed.Tie as tie
 
 returns : tie.Need-returns
-unfolding feedEnded
+unfolding feed_ended
 returns c = rw c.if1.true
 
 end-rect-requires : tie.Need-end-rect-requires
@@ -17,7 +17,7 @@ with-ends-requires : tie.Need-with-ends-requires
 with-ends-requires c κs = search rules
 
 returns-2 : tie.Need-returns-2
-unfolding feedEnded
+unfolding feed_ended
 returns-2 c = let p = c.before.before.before.before.before.args.bank.pattern in rw c.before.before.before.before.if1.false (c.with-ends.ensures p ∙ c.before.end-rect.ensures p)
 
 pub end-feed-spec : {M : Type 1} → statement M

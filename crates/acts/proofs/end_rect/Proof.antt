@@ -1,9 +1,9 @@
 -- `acts::end_rect` meets its contract: the step of dstXY, stored.
 -- Assumes nothing.
 use borrow.Author.Rules.{rules}
-use Rattle.registers.specs.Regs.{putReg}
+use Rattle.registers.specs.Regs.{put_reg}
 use Rattle.bank.specs.Bank.{stored}
-use Rattle.acts.specs.Deed.{rectEnded, withEnds}
+use Rattle.acts.specs.Deed.{rect_ended, with_ends}
 use Rattle.acts.proofs.end_rect.Statement.{statement}
 use Rattle.acts.proofs.end_rect.Tie as tie
 
@@ -14,7 +14,7 @@ kept-bits-requires : tie.Need-kept-bits-requires
 kept-bits-requires c κs = search rules
 
 returns : tie.Need-returns
-unfolding rectEnded withEnds stored putReg
+unfolding rect_ended with_ends stored put_reg
 returns c p = rw (c.kept-bits.ensures, c.before.step-xy.ensures)
 
 pub end-rect-spec : {M : Type 1} → statement M

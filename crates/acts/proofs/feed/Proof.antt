@@ -6,7 +6,7 @@ use native.Mathlib.Omega.{arith}
 use borrow.Author.Tests.{lt-ltb, le-ltb}
 use Rattle.host.specs.Host.{words_of}
 use Rattle.acts.specs.declared.Act.{Act}
-use Rattle.acts.specs.Deed.{bankOf, deed}
+use Rattle.acts.specs.Deed.{bank_of, deed}
 use Rattle.acts.proofs.Laws.{judged-no, judged-yes, feed-ready}
 use Rattle.acts.proofs.feed.Statement.{statement}
 use Rattle.acts.proofs.feed.Tie as tie
@@ -23,7 +23,7 @@ unpainted-requires c κs = search rules
 returns : tie.Need-returns
 returns c =
     let a = c.before.before.before.before.before.args in
-    let b = bankOf a.regs a.pattern in
+    let b = bank_of a.regs a.pattern in
     ap (λ (r : Act). deed b r a.mem.now) c.unpainted.ensures
     ∙ judged-no _ b a.blit a.mem.now c.before.before.before.host-verdict.result c.before.before.before.host-verdict.ensures (c.before.ends_of.ensures a.pattern) c.before.before.if1.true
 
@@ -45,7 +45,7 @@ unpainted-requires-2 c κs = search rules
 returns-2 : tie.Need-returns-2
 returns-2 c =
     let a = c.before.before.before.before.before.before.before.before.before.args in
-    let b = bankOf a.regs a.pattern in
+    let b = bank_of a.regs a.pattern in
     ap (λ (r : Act). deed b r a.mem.now) c.unpainted2.ensures
     ∙ judged-yes _ b a.blit a.mem.now c.before.before.before.before.before.before.before.host-verdict.result c.before.before.before.before.before.before.before.host-verdict.ensures _ c.before.before.before.before.before.before.if1.false
     (rw (← c.before.before.before.before.before.decode-feed.ensures, ← c.before.before.before.before.words-needed.ensures, le-ltb _ _ c.before.before.before.if2.true, c.before.before.end-rect.ensures a.pattern, c.before.no-blit.ensures))
@@ -74,7 +74,7 @@ same_length c = search rules
 returns-3 : tie.Need-returns-3
 returns-3 c =
     let a = c.before.before.before.before.before.before.before.before.before.before.before.before.args in
-    let b = bankOf a.regs a.pattern in
+    let b = bank_of a.regs a.pattern in
     judged-yes _ b a.blit a.mem.now c.before.before.before.before.before.before.before.before.before.before.host-verdict.result c.before.before.before.before.before.before.before.before.before.before.host-verdict.ensures _ c.before.before.before.before.before.before.before.before.before.if1.false
     (rw (c.before.before.before.before.paint-word.ensures, ← c.before.before.before.before.before.before.before.before.decode-feed.ensures, ← c.before.before.before.before.before.before.before.words-needed.ensures, lt-ltb _ _ c.before.before.before.before.before.before.if2.false, lt-ltb _ _ c.before.if3.true, c.ends-of2.ensures a.pattern))
 
@@ -90,7 +90,7 @@ same-length-2 c = search rules
 returns-4 : tie.Need-returns-4
 returns-4 c =
     let a = c.before.before.before.before.before.before.before.before.before.before.before.before.before.args in
-    let b = bankOf a.regs a.pattern in
+    let b = bank_of a.regs a.pattern in
     judged-yes _ b a.blit a.mem.now c.before.before.before.before.before.before.before.before.before.before.before.host-verdict.result c.before.before.before.before.before.before.before.before.before.before.before.host-verdict.ensures _ c.before.before.before.before.before.before.before.before.before.before.if1.false
     (rw (c.before.before.before.before.before.paint-word.ensures, ← c.before.before.before.before.before.before.before.before.before.decode-feed.ensures, ← c.before.before.before.before.before.before.before.before.words-needed.ensures, lt-ltb _ _ c.before.before.before.before.before.before.before.if2.false, le-ltb _ _ c.before.before.if3.false, c.before.end-rect2.ensures a.pattern, c.no-blit2.ensures))
 

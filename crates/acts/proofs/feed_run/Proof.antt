@@ -3,7 +3,7 @@
 use borrow.Author.Rules.{rules}
 use mathlib.Core.Path.{◌≡◌, sym, ap, ◌∙◌}
 use Rattle.host.specs.Host.{words_of}
-use Rattle.command.specs.Decode.{feedOf}
+use Rattle.command.specs.Decode.{feed_of}
 use Rattle.acts.specs.declared.Fed.{Fed}
 use Rattle.acts.specs.Fed.{fed}
 use Rattle.acts.proofs.Laws.{feed-ready}
@@ -31,7 +31,7 @@ words-needed-requires : tie.Need-words-needed-requires
 words-needed-requires c κs = feed-ready c.before.before.before.before.before.before.args.t1.regs c.decode-feed.ensures
 
 -- the words that the blit needs
-needed : (c : tie.After-words-needed) → c.words-needed.result ≡ words_of (feedOf c.before.before.before.before.before.before.before.args.t1.regs)
+needed : (c : tie.After-words-needed) → c.words-needed.result ≡ words_of (feed_of c.before.before.before.before.before.before.before.args.t1.regs)
 needed c = c.words-needed.ensures ∙ ap words_of c.before.decode-feed.ensures
 
 no-blit-requires : tie.Need-no-blit-requires

@@ -2,7 +2,7 @@
 -- Assumes nothing.
 use borrow.Author.Rules.{rules}
 use mathlib.Core.Path.{ap, ◌∙◌}
-use Rattle.acts.specs.Deed.{bankOf, Deed, judged, aimed, starting}
+use Rattle.acts.specs.Deed.{bank_of, Deed, judged, aimed, starting}
 use Rattle.acts.proofs.Numbers.{aimed-starts}
 use Rattle.acts.proofs.launch.Statement.{statement}
 use Rattle.acts.proofs.launch.Tie as tie
@@ -26,7 +26,7 @@ same-length-2 c = search rules
 returns-2 : tie.Need-returns-2
 returns-2 c =
     let a = c.before.before.before.before.before.before.before.before.args in
-    let b = bankOf a.regs a.pattern in
+    let b = bank_of a.regs a.pattern in
     c.before.before.start.ensures
     ∙ ap (λ (d : Deed). judged d (aimed b a.word) a.blit a.mem.now) (aimed-starts b a.blit a.mem.now a.word c.before.before.before.before.before.if1.false)
 

@@ -3,7 +3,7 @@
 use borrow.Author.Rules.{rules}
 use lib.ListN.{length}
 use native.Mathlib.Omega.{arith}
-use Rattle.host.specs.Host.{byRun}
+use Rattle.host.specs.Host.{by_run}
 use Rattle.table.proofs.Verdicts.{words-few}
 use Rattle.acts.proofs.Laws.{ink-opened, plain-opened, ink-drawn, plain-drawn}
 use Rattle.acts.proofs.paint_words.Statement.{statement}
@@ -34,7 +34,7 @@ same_length c = search rules
 returns : tie.Need-returns
 returns c =
     let a = c.before.before.before.before.before.before.before.before.before.before.before.args in
-    plain-drawn a.regs a.pattern.now a.mem.now (λ f. byRun f a.blit.last a.words.now a.blit.taken) _ c.before.before.before.before.before.before.before.decode-clip.ensures c.before.before.before.before.before.before.before.before.decode-feed.ensures
+    plain-drawn a.regs a.pattern.now a.mem.now (λ f. by_run f a.blit.last a.words.now a.blit.taken) _ c.before.before.before.before.before.before.before.decode-clip.ensures c.before.before.before.before.before.before.before.before.decode-feed.ensures
     c.before.before.before.before.before.before.is_plain.ensures c.before.before.before.before.before.if1.true c.before.before.before.before.decode-plain.ensures c.before.before.plain-words.ensures
 
 decode-ink-requires : tie.Need-decode-ink-requires
@@ -53,7 +53,7 @@ same-length-2 c = search rules
 returns-2 : tie.Need-returns-2
 returns-2 c =
     let a = c.before.before.before.before.before.before.before.before.before.before.before.before.args in
-    ink-drawn a.regs a.pattern.now a.mem.now (λ f. byRun f a.blit.last a.words.now a.blit.taken) _ c.before.before.before.before.before.before.before.before.decode-clip.ensures c.before.before.before.before.before.before.before.before.before.decode-feed.ensures
+    ink-drawn a.regs a.pattern.now a.mem.now (λ f. by_run f a.blit.last a.words.now a.blit.taken) _ c.before.before.before.before.before.before.before.before.decode-clip.ensures c.before.before.before.before.before.before.before.before.before.decode-feed.ensures
     c.before.before.before.before.before.decode-ink.ensures c.before.before.host-words.ensures
 
 pub paint-words-spec : {M : Type 1} → statement M

@@ -3,9 +3,9 @@
 use borrow.Author.Rules.{rules}
 use mathlib.Core.Path.{ap, ◌∙◌}
 use lib.ListN.{length}
-use Rattle.command.specs.Decode.{inkOf, stretchOf}
+use Rattle.command.specs.Decode.{ink_of, stretch_of}
 use Rattle.acts.specs.declared.Act.{Act}
-use Rattle.acts.specs.Deed.{bankOf, deed}
+use Rattle.acts.specs.Deed.{bank_of, deed}
 use Rattle.acts.proofs.Laws.{judged-no, judged-yes, carried-out, stretched-as, stretch-ready}
 use Rattle.acts.proofs.stretch.Statement.{statement}
 use Rattle.acts.proofs.stretch.Tie as tie
@@ -22,7 +22,7 @@ unpainted-requires c κs = search rules
 returns : tie.Need-returns
 returns c =
     let a = c.before.before.before.before.before.args in
-    let b = bankOf a.regs a.pattern.now in
+    let b = bank_of a.regs a.pattern.now in
     ap (λ (r : Act). deed b r a.mem.now) c.unpainted.ensures
     ∙ judged-no _ b a.blit a.mem.now c.before.before.before.stretch-verdict.result c.before.before.before.stretch-verdict.ensures (c.before.ends_of.ensures a.pattern.now) c.before.before.if1.true
 
@@ -44,10 +44,10 @@ same_length : tie.Need-same-length
 same_length c = search rules
 
 returns-2 : tie.Need-returns-2
-unfolding stretchOf inkOf
+unfolding stretch_of ink_of
 returns-2 c =
     let a = c.before.before.before.before.before.before.before.before.before.before.before.args in
-    let b = bankOf a.regs a.pattern.now in
+    let b = bank_of a.regs a.pattern.now in
     judged-yes _ b a.blit a.mem.now c.before.before.before.before.before.before.before.before.before.stretch-verdict.result c.before.before.before.before.before.before.before.before.before.stretch-verdict.ensures _ c.before.before.before.before.before.before.before.before.if1.false
     (carried-out a.blit (c.end-rect.ensures a.pattern.now)
     (stretched-as a.pattern.now a.mem.now c.before.before.before.before.before.before.decode-stretch.ensures c.before.before.before.before.before.before.before.fill-cut.ensures c.before.before.before.paint-stretch.ensures))

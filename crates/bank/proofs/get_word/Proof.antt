@@ -2,7 +2,7 @@
 -- Assumes nothing.
 use borrow.Author.Rules.{rules}
 use borrow.Author.Tests.{le-leb, lt-leb}
-use Rattle.bank.specs.Bank.{getWord}
+use Rattle.bank.specs.Bank.{get_word}
 use Rattle.bank.proofs.get_word.Statement.{statement}
 use Rattle.bank.proofs.get_word.Tie as tie
 
@@ -58,7 +58,7 @@ add-result-3 : tie.Need-overflow-add-result-3
 add-result-3 c = search rules
 
 returns : tie.Need-returns
-unfolding getWord
+unfolding get_word
 returns c =
     simp (
       le-leb _ _ c.before.before.before.before.if1.true,
@@ -69,7 +69,7 @@ returns c =
     )
 
 returns-2 : tie.Need-returns-2
-unfolding getWord
+unfolding get_word
 returns-2 c = simp (lt-leb _ _ c.if1.false)
 
 pub get-word-spec : {M : Type 1} → statement M

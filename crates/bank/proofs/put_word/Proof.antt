@@ -2,7 +2,7 @@
 -- Assumes nothing.
 use borrow.Author.Rules.{rules}
 use borrow.Author.Tests.{le-leb, lt-leb}
-use Rattle.bank.specs.Bank.{putWord}
+use Rattle.bank.specs.Bank.{put_word}
 use Rattle.bank.proofs.put_word.Statement.{statement}
 use Rattle.bank.proofs.put_word.Tie as tie
 
@@ -40,11 +40,11 @@ array-write-p-4 : tie.Need-array-write-p-4
 array-write-p-4 c = search rules
 
 returns : tie.Need-returns
-unfolding putWord
+unfolding put_word
 returns c = simp (le-leb _ _ c.if1.true)
 
 returns-2 : tie.Need-returns-2
-unfolding putWord
+unfolding put_word
 returns-2 c = simp (lt-leb _ _ c.if1.false)
 
 pub put-word-spec : {M : Type 1} → statement M

@@ -4,7 +4,7 @@ use borrow.Author.Rules.{rules}
 use mathlib.Core.Path.{refl}
 use native.Mathlib.Omega.{arith}
 use lib.ListN.{length-set}
-use Rattle.basics.specs.Word.{withWord}
+use Rattle.basics.specs.Word.{with_word}
 use Rattle.basics.proofs.put_word.Statement.{statement}
 use Rattle.basics.proofs.put_word.Tie as tie
 
@@ -45,7 +45,7 @@ same_length : tie.Need-same-length
 same_length c = search rules
 
 returns : tie.Need-returns
-unfolding withWord
+unfolding with_word
 returns c = (refl, simp length-set)
 
 pub put-word-spec : {M : Type 1} → statement M

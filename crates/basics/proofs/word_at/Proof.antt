@@ -1,7 +1,7 @@
 -- `word_at` meets its contract: a word is the sum of its four bytes.
 -- Assumes nothing.
 use borrow.Author.Rules.{rules}
-use Rattle.basics.specs.Word.{wordAt}
+use Rattle.basics.specs.Word.{word_at}
 use Rattle.basics.proofs.word_at.Statement.{statement}
 use Rattle.basics.proofs.word_at.Tie as tie
 
@@ -57,7 +57,7 @@ add-result-3 : tie.Need-overflow-add-result-3
 add-result-3 c = search rules
 
 returns : tie.Need-returns
-unfolding wordAt
+unfolding word_at
 returns c = simp (c.wide4.ensures.0, c.before.before.wide3.ensures.0, c.before.before.before.before.wide2.ensures.0, c.before.before.before.before.before.before.wide.ensures.0)
 
 pub word-at-spec : {M : Type 1} → statement M

@@ -5,14 +5,14 @@ use mathlib.Core.Logic.{⊎_elim}
 use Prim.Native.Nat.{◌-◌}
 use borrow.Author.Rules.{rules}
 use lib.ListN.{length}
-use Rattle.bitmap.specs.Bits.{withMarks}
+use Rattle.bitmap.specs.Bits.{with_marks}
 use Rattle.bitmap.proofs.BitLaws.{bit_length}
 use Rattle.bitmap.proofs.Turns.{mark-turn, no-mark-turn, marks-done}
 use Rattle.bitmap.proofs.add_marks.Statement.{statement}
 use Rattle.bitmap.proofs.add_marks.Tie as tie
 
 abbrev invariant-loop : tie.invariant-loop
-invariant-loop s₀ at marks first past k₀ s k = (withMarks s at marks k (past - k) ≡ withMarks s₀ at marks first (past - first)) × (length s ≡ length s₀)
+invariant-loop s₀ at marks first past k₀ s k = (with_marks s at marks k (past - k) ≡ with_marks s₀ at marks first (past - first)) × (length s ≡ length s₀)
 
 abbrev decreases-loop : tie.decreases-loop
 decreases-loop s₀ at marks first past k₀ s k = past - k

@@ -4,15 +4,15 @@ use mathlib.Core.Path.{◌≡◌}
 use Prim.Native.Nat.{◌+◌, ◌-◌, ◌≤◌}
 use native.Mathlib.Omega.{arith}
 use borrow.Author.Rules.{rules}
-use Rattle.pages.specs.Pages.{countFrom}
+use Rattle.pages.specs.Pages.{count_from}
 use Rattle.pages.proofs.Search.{count_none}
-use Rattle.bitmap.specs.Bits.{bitsIn}
+use Rattle.bitmap.specs.Bits.{bits_in}
 use Rattle.bitmap.proofs.Turns.{count-skip, count-rest}
 use Rattle.bitmap.proofs.count_bits.Statement.{statement}
 use Rattle.bitmap.proofs.count_bits.Tie as tie
 
 abbrev invariant-loop : tie.invariant-loop
-invariant-loop s at n₀ k₀ n k = (n + countFrom (bitsIn s at) k (4096 - k) ≡ countFrom (bitsIn s at) 0 4096) × (n ≤ k)
+invariant-loop s at n₀ k₀ n k = (n + count_from (bits_in s at) k (4096 - k) ≡ count_from (bits_in s at) 0 4096) × (n ≤ k)
 
 abbrev decreases-loop : tie.decreases-loop
 decreases-loop s at n₀ k₀ n k = 4096 - k
@@ -56,7 +56,7 @@ loop-again-2 c =
 returns : tie.Need-returns invariant-loop decreases-loop
 returns c =
     let args = c.before.before.before.args in
-    omega (arith, count_none (bitsIn args.s.now args.at) c.before.loop.k 4096 c.loop-test.false)
+    omega (arith, count_none (bits_in args.s.now args.at) c.before.loop.k 4096 c.loop-test.false)
 
 pub count-bits-spec : {M : Type 1} → statement M
 count-bits-spec =

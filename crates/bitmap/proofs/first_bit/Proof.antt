@@ -4,15 +4,15 @@ use mathlib.Core.Path.{◌≡◌, ◌∙◌}
 use Prim.Native.Nat.{◌-◌}
 use borrow.Author.Rules.{rules}
 use borrow.Author.Tests.{eq-eqb, ne_eqb}
-use Rattle.pages.specs.Pages.{firstFrom}
+use Rattle.pages.specs.Pages.{first_from}
 use Rattle.pages.proofs.Search.{first-here, first-later, first-none}
-use Rattle.bitmap.specs.Bits.{bitsIn}
+use Rattle.bitmap.specs.Bits.{bits_in}
 use Rattle.bitmap.proofs.Turns.{rest-bit, first-skip}
 use Rattle.bitmap.proofs.first_bit.Statement.{statement}
 use Rattle.bitmap.proofs.first_bit.Tie as tie
 
 abbrev invariant-loop : tie.invariant-loop
-invariant-loop s at page k₀ k = firstFrom (bitsIn s at) k (4096 - k) ≡ firstFrom (bitsIn s at) page (4096 - page)
+invariant-loop s at page k₀ k = first_from (bits_in s at) k (4096 - k) ≡ first_from (bits_in s at) page (4096 - page)
 
 abbrev decreases-loop : tie.decreases-loop
 decreases-loop s at page k₀ k = 4096 - k

@@ -6,13 +6,13 @@ use mathlib.Core.Path.{refl}
 use mathlib.Core.Bool.{false}
 use Prim.Native.Nat.{◌+◌, ◌-◌}
 use Rattle.paint.proofs.Loops.{RowsLeft, rows-begin, rows-room, rows-go-on, rows-ended}
-use Rattle.bits.specs.Bits.{monoGiving}
+use Rattle.bits.specs.Bits.{mono_giving}
 use Rattle.bits.proofs.BitLaws.{mono-line}
 use Rattle.bits.proofs.mono_rows.Statement.{statement}
 use Rattle.bits.proofs.mono_rows.Tie as tie
 
 abbrev invariant-loop : tie.invariant-loop
-invariant-loop mem₀ t w h n₀ j₀ mem n j = RowsLeft t.plain.target (λ q now. monoGiving t now q) false false t.x t.y w h mem₀ j mem n
+invariant-loop mem₀ t w h n₀ j₀ mem n j = RowsLeft t.plain.target (λ q now. mono_giving t now q) false false t.x t.y w h mem₀ j mem n
 
 abbrev decreases-loop : tie.decreases-loop
 decreases-loop mem₀ t w h n₀ j₀ mem n j = h - j

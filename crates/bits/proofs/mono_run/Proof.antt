@@ -8,13 +8,13 @@ use Prim.Native.Nat.{◌+◌, ◌-◌}
 use Rattle.paint.specs.Paint.{tallied}
 use Rattle.paint.proofs.Tallies.{room-left}
 use Rattle.paint.proofs.Loops.{RowLeft, row-begins, row-takes, row-ended}
-use Rattle.bits.specs.Bits.{monoGiving}
+use Rattle.bits.specs.Bits.{mono_giving}
 use Rattle.bits.proofs.BitLaws.{byte-once}
 use Rattle.bits.proofs.mono_run.Statement.{statement}
 use Rattle.bits.proofs.mono_run.Tie as tie
 
 abbrev invariant-loop : tie.invariant-loop
-invariant-loop mem₀ t n w j y sy r₀ i₀ mem r i = RowLeft t.plain.target (λ q now. monoGiving t now q) false t.x w (t.y + j) mem₀ r₀ i mem r
+invariant-loop mem₀ t n w j y sy r₀ i₀ mem r i = RowLeft t.plain.target (λ q now. mono_giving t now q) false t.x w (t.y + j) mem₀ r₀ i mem r
 
 abbrev decreases-loop : tie.decreases-loop
 decreases-loop mem₀ t n w j y sy r₀ i₀ mem r i = w - i
@@ -39,7 +39,7 @@ mono-in-rows-requires c κs =
     let p = c.before.before.before.before.before.before.requires in
     let row = p.0 in
     let k = c.before.before.before.before.loop in
-    rw (k.invariant.left.long, p.1.1.1) (record { small = row.small; mono = row.mono; on = row.source k.i c.before.before.before.loop-test.true }, row.fromFlat)
+    rw (k.invariant.left.long, p.1.1.1) (record { small = row.small; mono = row.mono; on = row.source k.i c.before.before.before.loop-test.true }, row.from_flat)
 
 add-put-run : tie.Need-overflow-add-put-run invariant-loop decreases-loop
 add-put-run c = omega (arith, c.before.before.before.before.before.before.loop-test.true, c.before.before.before.before.before.before.before.before.before.requires.0.target.wide)

@@ -7,7 +7,7 @@ use mathlib.Core.Logic.{⊎_elim}
 use mathlib.Core.Option.{Option, none, some}
 use Prim.Native.Nat.{ℕ}
 use lib.Dec.{eqb}
-use Rattle.paint.specs.Paint.{tallied, dabAt}
+use Rattle.paint.specs.Paint.{tallied, dab_at}
 use Rattle.bits.specs.Bits.{coloured}
 use Rattle.bits.proofs.put_bit.Statement.{statement}
 use Rattle.bits.proofs.put_bit.Tie as tie
@@ -26,7 +26,7 @@ returns c =
     let o : cond (a.p.clear && not (eqb a.bit 1)) none (some v.v) ≡ coloured a.p a.bit =
     ⊎_elim (λ w. let e : eqb a.bit 1 ≡ true = w.0.taken in rw (w.1, e, and-false a.p.clear))
     (λ w. let e : eqb a.bit 1 ≡ false = w.0.left in rw (w.1, e, and-true a.p.clear)) v.branch in
-    c.before.before.put-value-at.ensures ∙ ap (λ (u : Option ℕ). dabAt a.at a.n u (tallied a.mem.now a.tally)) o
+    c.before.before.put-value-at.ensures ∙ ap (λ (u : Option ℕ). dab_at a.at a.n u (tallied a.mem.now a.tally)) o
 
 pub put-bit-spec : {M : Type 1} → statement M
 put-bit-spec = tie.close (tie.spec put-value-at-requires same_length returns)

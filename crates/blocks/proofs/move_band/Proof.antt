@@ -4,13 +4,13 @@ use mathlib.Core.Path.{◌≡◌, refl, subst}
 use Prim.Native.Nat.{ℕ, ◌+◌, ◌-◌, ◌≤◌}
 use native.Mathlib.Omega.{arith}
 use borrow.Author.Rules.{rules}
-use Rattle.blocks.specs.Blocks.{Put, originByte}
+use Rattle.blocks.specs.Blocks.{Put, origin_byte}
 use Rattle.blocks.proofs.Blocks.{row_small, put-none, put-beside, Part, part-goes, part-put}
 use Rattle.blocks.proofs.move_band.Statement.{statement}
 use Rattle.blocks.proofs.move_band.Tie as tie
 
 abbrev invariant-loop : tie.invariant-loop
-invariant-loop mem₀ b n h to from i₀ mem i = Put b.to (originByte b mem₀) b.x b.y i h mem₀ mem × (i ≤ n)
+invariant-loop mem₀ b n h to from i₀ mem i = Put b.to (origin_byte b mem₀) b.x b.y i h mem₀ mem × (i ≤ n)
 
 abbrev decreases-loop : tie.decreases-loop
 decreases-loop mem₀ b n h to from i₀ mem i = n - i
@@ -18,7 +18,7 @@ decreases-loop mem₀ b n h to from i₀ mem i = n - i
 loop-holds : tie.Need-loop-init invariant-loop decreases-loop
 loop-holds c =
     let a = c.before.before.before.args in
-    (put-none a.b.to (originByte a.b a.mem.now) a.b.x a.b.y 0 a.h a.mem.now (λ p i. omega arith), omega arith)
+    (put-none a.b.to (origin_byte a.b a.mem.now) a.b.x a.b.y 0 a.h a.mem.now (λ p i. omega arith), omega arith)
 
 add-x : tie.Need-overflow-add-x invariant-loop decreases-loop
 add-x c = let g = c.before.before.before.before.before.before.requires.0 in omega (arith, g.wide, row_small _ g.small)
@@ -68,7 +68,7 @@ loop-again c =
     let fits : i + r ≤ a.n = omega (arith, inner.0, k.0) in
     let part : Part a.b a.n a.h (a.b.x + i) a.b.y (a.b.sx + i) a.b.sy i 0 r a.h =
     record { left = refl; top = omega arith; left' = refl; top' = omega arith; wide = fits; high = omega arith } in (
-      put-beside a.b.to (originByte a.b a.mem.now) a.b.x a.b.y (i + r) a.h (omega (arith, p.0.wide)) i r (omega arith) (omega arith) inv.0
+      put-beside a.b.to (origin_byte a.b a.mem.now) a.b.x a.b.y (i + r) a.h (omega (arith, p.0.wide)) i r (omega arith) (omega arith) inv.0
           (part-put a.b p.0 part a.b.x a.b.y i a.h (λ q j. omega arith) inv.0 c.before.before.move-block.ensures),
       fits,
     )
@@ -81,7 +81,7 @@ returns c =
     let a = c.before.before.before.before.before.args in
     let k = c.before.loop in
     let end : k.i ≡ a.n = omega (arith, c.loop-test.false) in
-    subst (λ (i : ℕ). Put a.b.to (originByte a.b a.mem.now) a.b.x a.b.y i a.h a.mem.now k.mem) end k.invariant.0
+    subst (λ (i : ℕ). Put a.b.to (origin_byte a.b a.mem.now) a.b.x a.b.y i a.h a.mem.now k.mem) end k.invariant.0
 
 pub move-band-spec : {M : Type 1} → statement M
 move-band-spec =

@@ -4,13 +4,13 @@ use mathlib.Core.Path.{◌≡◌, refl, subst}
 use Prim.Native.Nat.{ℕ, ◌+◌, ◌-◌, ◌≤◌}
 use native.Mathlib.Omega.{arith}
 use borrow.Author.Rules.{rules}
-use Rattle.blocks.specs.Blocks.{Put, originByte}
+use Rattle.blocks.specs.Blocks.{Put, origin_byte}
 use Rattle.blocks.proofs.Blocks.{put-none, put-below, Part, part-goes, part-put}
 use Rattle.blocks.proofs.move_blocks.Statement.{statement}
 use Rattle.blocks.proofs.move_blocks.Tie as tie
 
 abbrev invariant-loop : tie.invariant-loop
-invariant-loop mem₀ b n h to from j₀ mem j = Put b.to (originByte b mem₀) b.x b.y n j mem₀ mem × (j ≤ h)
+invariant-loop mem₀ b n h to from j₀ mem j = Put b.to (origin_byte b mem₀) b.x b.y n j mem₀ mem × (j ≤ h)
 
 abbrev decreases-loop : tie.decreases-loop
 decreases-loop mem₀ b n h to from j₀ mem j = h - j
@@ -18,7 +18,7 @@ decreases-loop mem₀ b n h to from j₀ mem j = h - j
 loop-holds : tie.Need-loop-init invariant-loop decreases-loop
 loop-holds c =
     let a = c.before.before.before.args in
-    (put-none a.b.to (originByte a.b a.mem.now) a.b.x a.b.y a.n 0 a.mem.now (λ p i. omega arith), omega arith)
+    (put-none a.b.to (origin_byte a.b a.mem.now) a.b.x a.b.y a.n 0 a.mem.now (λ p i. omega arith), omega arith)
 
 add-y : tie.Need-overflow-add-y invariant-loop decreases-loop
 add-y c = omega (arith, c.before.before.before.before.before.before.requires.high)
@@ -68,7 +68,7 @@ loop-again c =
     let fits : j + r ≤ a.h = omega (arith, inner.0, k.0) in
     let part : Part a.b a.n a.h a.b.x (a.b.y + j) a.b.sx (a.b.sy + j) 0 j a.n r =
     record { left = omega arith; top = refl; left' = omega arith; top' = refl; wide = omega arith; high = fits } in (
-      put-below a.b.to (originByte a.b a.mem.now) a.b.x a.b.y a.n (j + r) p.wide j r (omega arith) (omega arith) inv.0
+      put-below a.b.to (origin_byte a.b a.mem.now) a.b.x a.b.y a.n (j + r) p.wide j r (omega arith) (omega arith) inv.0
           (part-put a.b p part a.b.x a.b.y a.n j (λ q i. omega arith) inv.0 c.before.before.move-band.ensures),
       fits,
     )
@@ -81,7 +81,7 @@ returns c =
     let a = c.before.before.before.before.before.args in
     let k = c.before.loop in
     let end : k.j ≡ a.h = omega (arith, c.loop-test.false) in
-    subst (λ (j : ℕ). Put a.b.to (originByte a.b a.mem.now) a.b.x a.b.y a.n j a.mem.now k.mem) end k.invariant.0
+    subst (λ (j : ℕ). Put a.b.to (origin_byte a.b a.mem.now) a.b.x a.b.y a.n j a.mem.now k.mem) end k.invariant.0
 
 pub move-blocks-spec : {M : Type 1} → statement M
 move-blocks-spec =

@@ -7,7 +7,7 @@ use borrow.Author.Rules.{rules}
 use lib.ListN.{length}
 use Rattle.surface.proofs.Bytes.{product_lt}
 use Rattle.blocks.specs.Blocks.{Put}
-use Rattle.blocks.proofs.Even.{columnByte, even-put, put-even, rows-go, rows_more}
+use Rattle.blocks.proofs.Even.{column_byte, even-put, put-even, rows-go, rows_more}
 use Rattle.blocks.proofs.EvenRows.{Below, below-begins, below_next, below-fits, below_all, row-parts, row-few, row-itself, whole-made}
 use Rattle.blocks.proofs.solid_blocks.Statement.{statement}
 use Rattle.blocks.proofs.solid_blocks.Tie as tie
@@ -19,7 +19,7 @@ abbrev decreases-loop : tie.decreases-loop
 decreases-loop mem s v x0 y0 w h bytes x y n end changed₀ old₀ new₀ row₀ changed old new row = h - row
 
 abbrev invariant-loop2 : tie.invariant-loop2
-invariant-loop2 mem₀ s v x0 y0 w h bytes x y n end changed row j₀ mem j = Put s (columnByte s v) (x0 * s.bytes) y0 (w * s.bytes) j mem₀ mem × (0 < j) × (j ≤ h)
+invariant-loop2 mem₀ s v x0 y0 w h bytes x y n end changed row j₀ mem j = Put s (column_byte s v) (x0 * s.bytes) y0 (w * s.bytes) j mem₀ mem × (0 < j) × (j ≤ h)
 
 abbrev decreases-loop2 : tie.decreases-loop2
 decreases-loop2 mem₀ s v x0 y0 w h bytes x y n end changed row j₀ mem j = h - j
@@ -156,7 +156,7 @@ returns c =
     let end : k.j ≡ a.h = omega (arith, c.loop2-test.false, c.before.before.before.before.before.before.before.before.wide5.ensures) in
     whole-made a.s a.v a.x0 a.y0 a.w a.h a.mem.now p.0 p.1.1 _ c.before.before.before.before.before.before.solid-line.ensures k.mem
     (put-even a.s a.v a.x0 a.y0 a.w a.h p.0 p.1.0 p.1.1 a.h
-    (subst (λ (j : ℕ). Put a.s (columnByte a.s a.v) (a.x0 * a.s.bytes) a.y0 (a.w * a.s.bytes) j c.before.before.before.before.before.before.solid-line.new.0 k.mem) end k.invariant.0))
+    (subst (λ (j : ℕ). Put a.s (column_byte a.s a.v) (a.x0 * a.s.bytes) a.y0 (a.w * a.s.bytes) j c.before.before.before.before.before.before.solid-line.new.0 k.mem) end k.invariant.0))
     (below_all c.before.before.before.loop.invariant.0 c.before.before.loop-test.false)
 
 pub solid-blocks-spec : {M : Type 1} → statement M

@@ -40,7 +40,7 @@ wide-requires-5 : tie.Need-wide-requires-5
 wide-requires-5 c κs = search rules
 
 mul-keep-row-2 : tie.Need-overflow-mul-keep-row-2
-mul-keep-row-2 c = let p = c.before.before.before.before.before.before.before.before.before.before.before.before.before.requires.0 in rw (c.before.before.before.before.before.before.before.before.before.wide.ensures, c.wide5.ensures) (omega (arith, few_bytes {a = c.before.before.before.before.before.before.before.before.before.before.before.before.before.args.sx} (omega (arith, p.sourceRight)) p.target.small.bytes))
+mul-keep-row-2 c = let p = c.before.before.before.before.before.before.before.before.before.before.before.before.before.requires.0 in rw (c.before.before.before.before.before.before.before.before.before.wide.ensures, c.wide5.ensures) (omega (arith, few_bytes {a = c.before.before.before.before.before.before.before.before.before.before.before.before.before.args.sx} (omega (arith, p.source_right)) p.target.small.bytes))
 
 wide-requires-6 : tie.Need-wide-requires-6
 wide-requires-6 c κs = search rules

@@ -28,7 +28,7 @@ add-unlike-part : tie.Need-overflow-add-unlike-part invariant-loop decreases-loo
 add-unlike-part c = omega (arith, c.before.before.before.before.before.before.before.before.requires.0.right, c.before.before.before.before.loop.invariant.0.within)
 
 add-unlike-part-2 : tie.Need-overflow-add-unlike-part-2 invariant-loop decreases-loop
-add-unlike-part-2 c = omega (arith, c.before.before.before.before.before.before.before.before.requires.0.sourceRight, c.before.before.before.before.loop.invariant.0.within)
+add-unlike-part-2 c = omega (arith, c.before.before.before.before.before.before.before.before.requires.0.source_right, c.before.before.before.before.loop.invariant.0.within)
 
 unlike-part-requires : tie.Need-unlike-part-requires invariant-loop decreases-loop
 unlike-part-requires c κs =

@@ -28,7 +28,7 @@ add-unlike-row : tie.Need-overflow-add-unlike-row invariant-loop decreases-loop
 add-unlike-row c = omega (arith, (c.before.before.before.before.before.requires.each c.before.before.before.loop.j c.before.before.loop-test.true).down)
 
 add-unlike-row-2 : tie.Need-overflow-add-unlike-row-2 invariant-loop decreases-loop
-add-unlike-row-2 c = omega (arith, (c.before.before.before.before.before.requires.each c.before.before.before.loop.j c.before.before.loop-test.true).sourceDown)
+add-unlike-row-2 c = omega (arith, (c.before.before.before.before.before.requires.each c.before.before.before.loop.j c.before.before.loop-test.true).source_down)
 
 unlike-row-requires : tie.Need-unlike-row-requires invariant-loop decreases-loop
 unlike-row-requires c κs =

@@ -7,15 +7,15 @@ use native.Mathlib.Omega.{arith}
 use lib.ListN.{length, drop}
 use Rattle.basics.proofs.EachLaws.{each-ends}
 use Rattle.packets.specs.Reader.{next_of}
-use Rattle.packets.specs.Answers.{lent, tookOne, took_all, called}
+use Rattle.packets.specs.Answers.{lent, took_one, took_all, called}
 use Rattle.packets.proofs.CallLaws.{Turned, turned, tested, noting-by, full-stays}
-use Rattle.capi.specs.Packets.{kept, byCall, pieceCall}
+use Rattle.capi.specs.Packets.{kept, by_call, piece_call}
 use Rattle.capi.proofs.feed.Statement.{statement}
 use Rattle.capi.proofs.feed.Tie as tie
 
 abbrev invariant-loop : tie.invariant-loop
 invariant-loop state₀ memory₀ piece answers₀ r₀ used₀ answered₀ state memory answers r used answered =
-    (took_all byCall (drop used piece) (pieceCall r state memory answers used answered) ≡ called byCall r₀ (kept state₀ memory₀) piece answers₀)
+    (took_all by_call (drop used piece) (piece_call r state memory answers used answered) ≡ called by_call r₀ (kept state₀ memory₀) piece answers₀)
     × ((length state ≡ length state₀) × ((length memory ≡ length memory₀) × (length answers ≡ length answers₀)))
 
 abbrev decreases-loop : tie.decreases-loop
@@ -39,8 +39,8 @@ same-length-3 c = search rules
 returns : tie.Need-returns invariant-loop decreases-loop
 returns c =
     let k = c.before.before.before.before.loop in
-    full-stays byCall (drop k.used c.before.before.before.before.before.before.before.before.before.args.piece.now) (pieceCall k.r k.state k.memory k.answers k.used k.answered)
-    (tested byCall k.r (kept k.state k.memory) (lent k.answers k.answered) k.used c.before.before.has_room.ensures c.if1.true) ∙ k.invariant.0
+    full-stays by_call (drop k.used c.before.before.before.before.before.before.before.before.before.args.piece.now) (piece_call k.r k.state k.memory k.answers k.used k.answered)
+    (tested by_call k.r (kept k.state k.memory) (lent k.answers k.answered) k.used c.before.before.has_room.ensures c.if1.true) ∙ k.invariant.0
 
 next-requires : tie.Need-next-requires invariant-loop decreases-loop
 next-requires c κs = search rules
@@ -52,14 +52,14 @@ turn : (c : tie.After-after invariant-loop decreases-loop)
     → let k = c.before.before.before.before.before.before.before.before.before.before.before.before.before.before.before.before.loop in
     let t = c.before.before.before.before.before.before.before.tell in
     let n = c.before.before.before.before.before.before.before.before.before.before.before.next.result in
-    Turned byCall c.before.before.before.before.before.before.before.before.before.before.before.before.before.before.before.before.before.before.before.before.before.args.piece.now (pieceCall k.r k.state k.memory k.answers k.used k.answered) (pieceCall n.reader t.new.0 t.new.1.0 t.new.1.1.0 n.used t.result)
+    Turned by_call c.before.before.before.before.before.before.before.before.before.before.before.before.before.before.before.before.before.before.before.before.before.args.piece.now (piece_call k.r k.state k.memory k.answers k.used k.answered) (piece_call n.reader t.new.0 t.new.1.0 t.new.1.1.0 n.used t.result)
 turn c =
     let k = c.before.before.before.before.before.before.before.before.before.before.before.before.before.before.before.before.loop in
     let piece = c.before.before.before.before.before.before.before.before.before.before.before.before.before.before.before.before.before.before.before.before.before.args.piece.now in
     let n = c.before.before.before.before.before.before.before.before.before.before.before.next.result in
-    turned byCall piece k.r (kept k.state k.memory) (lent k.answers k.answered) k.used c.before.before.before.before.before.before.before.before.before.before.before.before.before.before.before.loop-test.true
-    (tested byCall k.r (kept k.state k.memory) (lent k.answers k.answered) k.used c.before.before.before.before.before.before.before.before.before.before.before.before.before.before.has_room.ensures c.before.before.before.before.before.before.before.before.before.before.before.before.if1.false)
-    (c.before.before.before.before.before.before.before.before.before.before.before.next.ensures ∙ ap (next_of k.r piece k.used) c.before.before.before.before.before.before.before.before.before.before.before.before.before.before.has_room.ensures) (noting-by byCall n.reader n.used c.before.before.before.before.before.before.before.tell.ensures)
+    turned by_call piece k.r (kept k.state k.memory) (lent k.answers k.answered) k.used c.before.before.before.before.before.before.before.before.before.before.before.before.before.before.before.loop-test.true
+    (tested by_call k.r (kept k.state k.memory) (lent k.answers k.answered) k.used c.before.before.before.before.before.before.before.before.before.before.before.before.before.before.has_room.ensures c.before.before.before.before.before.before.before.before.before.before.before.before.if1.false)
+    (c.before.before.before.before.before.before.before.before.before.before.before.next.ensures ∙ ap (next_of k.r piece k.used) c.before.before.before.before.before.before.before.before.before.before.before.before.before.before.has_room.ensures) (noting-by by_call n.reader n.used c.before.before.before.before.before.before.before.tell.ensures)
 
 loop-less : tie.Need-loop-smaller invariant-loop decreases-loop
 loop-less c = omega (arith, (turn c).further, (turn c).within)
@@ -82,7 +82,7 @@ same-length-6 c = search rules
 returns-2 : tie.Need-returns-2 invariant-loop decreases-loop
 returns-2 c =
     let k = c.before.loop in
-    each-ends (tookOne byCall) c.before.before.before.before.before.before.args.piece.now k.used (pieceCall k.r k.state k.memory k.answers k.used k.answered) c.loop-test.false ∙ k.invariant.0
+    each-ends (took_one by_call) c.before.before.before.before.before.before.args.piece.now k.used (piece_call k.r k.state k.memory k.answers k.used k.answered) c.loop-test.false ∙ k.invariant.0
 
 pub feed-spec : {M : Type 1} → statement M
 feed-spec =

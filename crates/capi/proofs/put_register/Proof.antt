@@ -6,7 +6,7 @@ use mathlib.Core.List.{List}
 use Prim.Native.Nat.{ℕ, ◌^◌, ◌≤◌}
 use native.Mathlib.Omega.{arith}
 use Rattle.registers.specs.Kept.{kept}
-use Rattle.basics.specs.Word.{withWord}
+use Rattle.basics.specs.Word.{with_word}
 use Rattle.state.specs.Layout.{followed}
 use Rattle.capi.specs.Calls.{opening, tested, plainly}
 use Rattle.capi.proofs.Writes.{tested-refused, tested-taken}
@@ -26,12 +26,12 @@ returns : tie.Need-returns
 returns c =
     let f = c.before.before.before in
     let a = f.before.before.before.before.args in
-    tested-refused a.s.now a.len _ (followed (withWord a.s.now a.offset (kept a.offset a.word)) a.len a.offset)
+    tested-refused a.s.now a.len _ (followed (with_word a.s.now a.offset (kept a.offset a.word)) a.len a.offset)
     (f.put-plain.ensures ∙ ap (plainly a.s.now a.len a.offset) f.before.before.kept-bits.ensures) c.if1.true
 
 -- past the test the word was let through
 through : (c : tie.Else1) → let f = c.before.before.before in let a = f.before.before.before.before.args in
-    (f.put-plain.new.0 ≡ withWord a.s.now a.offset (kept a.offset a.word)) × (a.len ≤ 2 ^ 24) × ((y : List ℕ) → opening y 0 ≡ tested a.s.now a.len y)
+    (f.put-plain.new.0 ≡ with_word a.s.now a.offset (kept a.offset a.word)) × (a.len ≤ 2 ^ 24) × ((y : List ℕ) → opening y 0 ≡ tested a.s.now a.len y)
 through c =
     let f = c.before.before.before in
     let a = f.before.before.before.before.args in
@@ -51,7 +51,7 @@ returns-2 c =
     let f = c.before.before in
     let t = through f.before.before in
     let a = f.before.before.before.before.before.before.before.before.before.args in
-    rw (f.follow.ensures, t.0) (t.2 (followed (withWord a.s.now a.offset (kept a.offset a.word)) a.len a.offset))
+    rw (f.follow.ensures, t.0) (t.2 (followed (with_word a.s.now a.offset (kept a.offset a.word)) a.len a.offset))
 
 pub put-register-spec : {M : Type 1} → statement M
 put-register-spec =

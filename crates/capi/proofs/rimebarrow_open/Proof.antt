@@ -1,7 +1,7 @@
 -- `rimebarrow_open` meets its contract: a cleared state, and the words that are not 0.
 -- Assumes nothing.
 use borrow.Author.Rules.{rules}
-use Rattle.engine.specs.Step.{freshEngine}
+use Rattle.engine.specs.Step.{fresh_engine}
 use Rattle.state.specs.Layout.{slot}
 use Rattle.capi.proofs.ReadOpen.{not_opened, opened-fresh}
 use Rattle.capi.proofs.rimebarrow_open.Statement.{statement}
@@ -32,7 +32,7 @@ same_length : tie.Need-same-length
 same_length c = search rules
 
 returns-2 : tie.Need-returns-2
-unfolding slot freshEngine
+unfolding slot fresh_engine
 returns-2 c =
     opened-fresh c.before.before.before.before.before.before.before.before.before.before.before.before.before.before.before.before.before.before.args.state.now c.before.before.before.before.before.before.before.before.before.before.before.before.before.before.before.before.before.before.args.size c.before.before.before.before.before.before.before.before.before.before.before.before.before.before.before.before.if1.false (rw (c.before.before.put-word3.ensures.0, c.before.before.before.before.before.before.put-word2.ensures.0, c.before.before.before.before.before.before.before.before.before.before.put_word.ensures.0, c.before.before.before.before.before.before.before.before.before.before.before.before.before.before.clear.ensures))
 

@@ -4,14 +4,14 @@ use borrow.Author.Rules.{rules}
 use mathlib.Core.Path.{◌≡◌, sym, ◌∙◌}
 use mathlib.Core.Bool.{true}
 use borrow.Author.Tests.{not-true, not-false}
-use Rattle.tail.specs.Layout.{isReader}
+use Rattle.tail.specs.Layout.{is_reader}
 use Rattle.tail.proofs.Laws.{valid}
 use Rattle.capi.proofs.Packets.{not-reader, not-state, packets-fed}
 use Rattle.capi.proofs.rimebarrow_packets.Statement.{statement}
 use Rattle.capi.proofs.rimebarrow_packets.Tie as tie
 
 -- past the first test the bytes are a reader's
-reader : (c : tie.Else1) → isReader c.before.before.before.before.before.before.before.before.args.reader.now ≡ true
+reader : (c : tie.Else1) → is_reader c.before.before.before.before.before.before.before.before.args.reader.now ≡ true
 reader c = sym c.before.is-reader.ensures ∙ not-false c.before.is-reader.result c.if1.false
 
 is-reader-requires : tie.Need-is-reader-requires

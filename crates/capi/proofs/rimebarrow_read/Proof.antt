@@ -9,7 +9,7 @@ use native.Mathlib.Omega.{arith}
 use lib.ListN.{length}
 use borrow.Author.Tests.{not-true, not-false}
 use Rattle.registers.proofs.OffsetLaws.{pattern-word}
-use Rattle.state.specs.Layout.{stateSize, isState}
+use Rattle.state.specs.Layout.{state_size, is_state}
 use Rattle.state.proofs.Back.{opened}
 use Rattle.capi.proofs.Writes.{register-word}
 use Rattle.capi.proofs.ReadOpen.{not-read, register-read, pattern-read, launch-read, nowhere-read}
@@ -20,10 +20,10 @@ abbrev S : tie.Else1 → List ℕ
 S c = c.before.before.before.args.state.now
 
 -- past the first test the bytes are a state
-whole : (c : tie.Else1) → isState (S c) ≡ true
+whole : (c : tie.Else1) → is_state (S c) ≡ true
 whole c = sym c.before.is_state.ensures.0 ∙ not-false c.before.is_state.result c.if1.false
 
-size : (c : tie.Else1) → length (S c) ≡ stateSize
+size : (c : tie.Else1) → length (S c) ≡ state_size
 size c = (opened (S c) (whole c) (c.before.is_state.ensures.1 (not-false c.before.is_state.result c.if1.false))).size
 
 is-state-requires : tie.Need-is-state-requires

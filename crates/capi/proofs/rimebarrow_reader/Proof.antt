@@ -2,12 +2,12 @@
 -- Assumes nothing.
 use borrow.Author.Rules.{rules}
 use borrow.Author.Tests.{eq-eqb, ne_eqb}
-use Rattle.capi.specs.Packets.{openedReader}
+use Rattle.capi.specs.Packets.{opened_reader}
 use Rattle.capi.proofs.rimebarrow_reader.Statement.{statement}
 use Rattle.capi.proofs.rimebarrow_reader.Tie as tie
 
 returns : tie.Need-returns
-unfolding openedReader
+unfolding opened_reader
 returns c = rw (ne_eqb _ _ c.if1.true)
 
 open-requires : tie.Need-open-requires
@@ -20,7 +20,7 @@ same_length : tie.Need-same-length
 same_length c = search rules
 
 returns-2 : tie.Need-returns-2
-unfolding openedReader
+unfolding opened_reader
 returns-2 c = rw (eq-eqb _ _ c.before.before.before.before.before.if1.false, c.before.before.save.ensures, c.before.before.before.«open».ensures)
 
 pub rimebarrow-reader-spec : {M : Type 1} → statement M

@@ -7,7 +7,7 @@ use mathlib.Core.List.{List}
 use Prim.Native.Nat.{ℕ}
 use lib.ListN.{length}
 use borrow.Author.Tests.{not-true, not-false}
-use Rattle.state.specs.Layout.{stateSize, isState, Bytes}
+use Rattle.state.specs.Layout.{state_size, is_state, Bytes}
 use Rattle.state.proofs.Back.{opened}
 use Rattle.capi.proofs.Runs.{not-run, state-run}
 use Rattle.capi.proofs.rimebarrow_run.Statement.{statement}
@@ -17,13 +17,13 @@ abbrev S : tie.Else1 → List ℕ
 S c = c.before.before.before.before.before.before.args.state.now
 
 -- past the first test the bytes are a state
-whole : (c : tie.Else1) → isState (S c) ≡ true
+whole : (c : tie.Else1) → is_state (S c) ≡ true
 whole c = sym c.before.is_state.ensures.0 ∙ not-false c.before.is_state.result c.if1.false
 
 each-byte : (c : tie.Else1) → Bytes (S c)
 each-byte c = c.before.is_state.ensures.1 (not-false c.before.is_state.result c.if1.false)
 
-size : (c : tie.Else1) → length (S c) ≡ stateSize
+size : (c : tie.Else1) → length (S c) ≡ state_size
 size c = (opened (S c) (whole c) (each-byte c)).size
 
 is-state-requires : tie.Need-is-state-requires

@@ -9,7 +9,7 @@ use native.Mathlib.Omega.{arith}
 use lib.ListN.{length}
 use borrow.Author.Tests.{not-true, not-false}
 use Rattle.registers.proofs.OffsetLaws.{pattern-word}
-use Rattle.state.specs.Layout.{stateSize, isState, Bytes}
+use Rattle.state.specs.Layout.{state_size, is_state, Bytes}
 use Rattle.state.proofs.Back.{opened}
 use Rattle.capi.proofs.Writes.{not_written, register-word, register-written, pattern-written}
 use Rattle.capi.proofs.Changes.{draws-command, draws-launch, draws-nowhere}
@@ -23,13 +23,13 @@ abbrev M : tie.Else1 → List ℕ
 M c = c.before.before.before.before.before.args.memory.now
 
 -- past the first test the bytes are a state
-whole : (c : tie.Else1) → isState (S c) ≡ true
+whole : (c : tie.Else1) → is_state (S c) ≡ true
 whole c = sym c.before.is_state.ensures.0 ∙ not-false c.before.is_state.result c.if1.false
 
 each-byte : (c : tie.Else1) → Bytes (S c)
 each-byte c = c.before.is_state.ensures.1 (not-false c.before.is_state.result c.if1.false)
 
-size : (c : tie.Else1) → length (S c) ≡ stateSize
+size : (c : tie.Else1) → length (S c) ≡ state_size
 size c = (opened (S c) (whole c) (each-byte c)).size
 
 is-state-requires : tie.Need-is-state-requires

@@ -7,7 +7,7 @@ use Rattle.packets.specs.Delivery.{note, wrote}
 use Rattle.packets.specs.Answers.{lent}
 use Rattle.packets.proofs.CallLaws.{nothing-done, write_done, nine-done}
 use Rattle.capi.specs.Calls.{Call}
-use Rattle.capi.specs.Packets.{kept, byCall}
+use Rattle.capi.specs.Packets.{kept, by_call}
 use Rattle.capi.proofs.tell.Statement.{statement}
 use Rattle.capi.proofs.tell.Tie as tie
 
@@ -38,7 +38,7 @@ put-answer-requires-2 c κs = search rules
 returns : tie.Need-returns
 returns c =
     let a = c.before.before.before.before.before.args in
-    nothing-done byCall (kept a.state.now a.memory.now) (lent a.answers.now a.answered) c.enum_told.given.1
+    nothing-done by_call (kept a.state.now a.memory.now) (lent a.answers.now a.answered) c.enum_told.given.1
 
 same_length : tie.Need-same-length
 same_length c = search rules
@@ -52,7 +52,7 @@ same-length-3 c = search rules
 returns-2 : tie.Need-returns-2
 returns-2 c =
     let a = c.before.before.before.before.before.before.before.before.before.before.before.before.before.before.before.before.before.before.args in
-    write_done byCall (kept a.state.now a.memory.now) (lent a.answers.now a.answered) c.before.before.before.before.before.before.before.before.before.before.before.before.before.event.given.1
+    write_done by_call (kept a.state.now a.memory.now) (lent a.answers.now a.answered) c.before.before.before.before.before.before.before.before.before.before.before.before.before.event.given.1
     (ap (λ (x : Call). wrote (kept x.state x.memory) (note (x.answer / 2 ^ 32) (x.answer % 2 ^ 32) x.changed)) c.before.before.before.before.before.before.before.before.rimebarrow-write.ensures) c.before.before.put-answer.ensures
 
 same-length-4 : tie.Need-same-length-4
@@ -61,7 +61,7 @@ same-length-4 c = search rules
 returns-3 : tie.Need-returns-3
 returns-3 c =
     let a = c.before.before.before.before.before.before.before.before.before.args in
-    nine-done byCall (kept a.state.now a.memory.now) (lent a.answers.now a.answered) c.before.before.before.before.enum-told2.given.1 c.before.before.put-answer2.ensures
+    nine-done by_call (kept a.state.now a.memory.now) (lent a.answers.now a.answered) c.before.before.before.before.enum-told2.given.1 c.before.before.put-answer2.ensures
 
 pub tell-spec : {M : Type 1} → statement M
 tell-spec =

@@ -1,7 +1,7 @@
 -- `command::copy_task` meets its contract.
 -- Assumes nothing.
 use borrow.Author.Rules.{rules}
-use Rattle.command.specs.Decode.{copyTask}
+use Rattle.command.specs.Decode.{copy_task}
 use Rattle.command.proofs.copy_task.Statement.{statement}
 use Rattle.command.proofs.copy_task.Tie as tie
 
@@ -21,7 +21,7 @@ from-origin-requires-2 : tie.Need-from-origin-requires-2
 from-origin-requires-2 c κs = search rules
 
 returns : tie.Need-returns
-unfolding copyTask
+unfolding copy_task
 returns c = rw (c.before.before.before.before.decode-ink.ensures, c.before.from-origin.ensures, c.from-origin2.ensures, c.before.before.before.copy-cut.ensures, c.before.before.source-surface.ensures)
 
 pub copy-task-spec : {M : Type 1} → statement M

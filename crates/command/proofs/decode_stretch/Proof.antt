@@ -1,7 +1,7 @@
 -- `command::decode_stretch` meets its contract.
 -- Assumes nothing.
 use borrow.Author.Rules.{rules}
-use Rattle.command.specs.Decode.{stretchOf}
+use Rattle.command.specs.Decode.{stretch_of}
 use Rattle.command.proofs.decode_stretch.Statement.{statement}
 use Rattle.command.proofs.decode_stretch.Tie as tie
 
@@ -24,7 +24,7 @@ place13-requires-4 : tie.Need-place13-requires-4
 place13-requires-4 c κs = search rules
 
 returns : tie.Need-returns
-unfolding stretchOf
+unfolding stretch_of
 returns c = rw (c.before.before.before.before.before.before.before.before.before.before.before.decode-ink.ensures, c.before.before.before.before.before.before.before.before.before.before.stretch-surface.ensures, c.before.before.before.before.before.before.before.before.before.place13.ensures, c.before.before.before.before.before.before.before.place132.ensures, c.before.before.before.before.place133.ensures, c.before.place134.ensures)
 
 pub decode-stretch-spec : {M : Type 1} → statement M

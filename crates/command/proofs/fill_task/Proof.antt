@@ -1,7 +1,7 @@
 -- `command::fill_task` meets its contract.
 -- Assumes nothing.
 use borrow.Author.Rules.{rules}
-use Rattle.command.specs.Decode.{fillTask}
+use Rattle.command.specs.Decode.{fill_task}
 use Rattle.command.proofs.fill_task.Statement.{statement}
 use Rattle.command.proofs.fill_task.Tie as tie
 
@@ -12,7 +12,7 @@ fill-cut-requires : tie.Need-fill-cut-requires
 fill-cut-requires c κs = search rules
 
 returns : tie.Need-returns
-unfolding fillTask
+unfolding fill_task
 returns c = rw (c.before.decode-ink.ensures, c.fill-cut.ensures)
 
 pub fill-task-spec : {M : Type 1} → statement M

@@ -2,7 +2,7 @@
 -- Assumes nothing.
 use borrow.Author.Rules.{rules}
 use native.Mathlib.Omega.{arith}
-use Rattle.cuts.specs.Cut.{copyCut}
+use Rattle.cuts.specs.Cut.{copy_cut}
 use Rattle.cuts.proofs.CutLaws.{clip-bits}
 use Rattle.cuts.proofs.copy_cut.Statement.{statement}
 use Rattle.cuts.proofs.copy_cut.Tie as tie
@@ -44,7 +44,7 @@ cut-at-requires : tie.Need-cut-at-requires
 cut-at-requires c κs = record { clip = rw c.before.before.before.before.before.before.before.before.before.before.before.before.before.before.decode-clip.ensures (clip-bits c.before.before.before.before.before.before.before.before.before.before.before.before.before.before.before.args.r); x15 = c.before.before.before.before.before.before.before.before.first_of.ensures.1; y15 = c.before.before.before.before.before.first-of2.ensures.1; w13 = omega arith; h13 = omega arith; sx15 = c.before.before.before.first-of3.ensures.1; sy15 = c.first-of4.ensures.1 }
 
 returns : tie.Need-returns
-unfolding copyCut
+unfolding copy_cut
 returns c =
     rw (
       ← c.before.before.before.before.before.before.before.before.before.before.before.before.before.before.before.decode-clip.ensures,

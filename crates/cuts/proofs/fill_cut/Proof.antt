@@ -2,7 +2,7 @@
 -- Assumes nothing.
 use borrow.Author.Rules.{rules}
 use native.Mathlib.Omega.{arith}
-use Rattle.cuts.specs.Cut.{fillCut}
+use Rattle.cuts.specs.Cut.{fill_cut}
 use Rattle.cuts.proofs.CutLaws.{clip-bits}
 use Rattle.cuts.proofs.fill_cut.Statement.{statement}
 use Rattle.cuts.proofs.fill_cut.Tie as tie
@@ -20,7 +20,7 @@ cut-at-requires : tie.Need-cut-at-requires
 cut-at-requires c κs = record { clip = rw c.before.before.before.before.before.decode-clip.ensures (clip-bits c.before.before.before.before.before.before.args.r); x15 = omega (arith, c.before.before.before.before.place13.ensures); y15 = omega (arith, c.before.before.place132.ensures); w13 = omega arith; h13 = omega arith; sx15 = omega arith; sy15 = omega arith }
 
 returns : tie.Need-returns
-unfolding fillCut
+unfolding fill_cut
 returns c = rw (← c.before.before.before.before.before.before.decode-clip.ensures, ← c.before.before.before.before.before.place13.ensures, ← c.before.before.before.place132.ensures) c.cut_at.ensures
 
 pub fill-cut-spec : {M : Type 1} → statement M

@@ -1,7 +1,7 @@
 -- `dots::line_box` meets its contract.
 -- Assumes nothing.
 use borrow.Author.Rules.{rules}
-use Rattle.dots.specs.Dots.{lineBox}
+use Rattle.dots.specs.Dots.{line_box}
 use Rattle.dots.proofs.line_box.Statement.{statement}
 use Rattle.dots.proofs.line_box.Tie as tie
 
@@ -24,7 +24,7 @@ box-size-requires-2 : tie.Need-box-size-requires-2
 box-size-requires-2 c κs = search rules
 
 returns : tie.Need-returns
-unfolding lineBox
+unfolding line_box
 returns c = rw (c.before.before.before.box-low.ensures, c.before.before.box-low2.ensures, c.before.box-size.ensures, c.box-size2.ensures)
 
 pub line-box-spec : {M : Type 1} → statement M

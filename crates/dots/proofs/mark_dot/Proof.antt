@@ -6,15 +6,15 @@ use borrow.Author.Tests.{not-true, not-false}
 use mathlib.Core.Bool.{true}
 use mathlib.Core.Path.{◌≡◌, sym, ap, ◌∙◌}
 use Rattle.paint.specs.declared.Source.{Source}
-use Rattle.paint.specs.Clip.{inClip}
-use Rattle.paint.specs.Mix.{bitSource}
+use Rattle.paint.specs.Clip.{in_clip}
+use Rattle.paint.specs.Mix.{bit_source}
 use Rattle.paint.proofs.ClipLaws.{in-clip}
 use Rattle.line.proofs.DrawLaws.{point-on}
 use Rattle.dots.proofs.DotLaws.{dot-written, dot-left, dot-clipped}
 use Rattle.dots.proofs.mark_dot.Statement.{statement}
 use Rattle.dots.proofs.mark_dot.Tie as tie
 
-inside : (c : tie.Else1) → inClip c.before.before.before.args.c c.before.before.before.args.p.x c.before.before.before.args.p.y ≡ true
+inside : (c : tie.Else1) → in_clip c.before.before.before.args.c c.before.before.before.args.p.x c.before.before.before.args.p.y ≡ true
 inside c = sym c.before.covers.ensures ∙ not-false c.before.covers.result c.if1.false
 
 style-after-requires : tie.Need-style-after-requires
@@ -55,7 +55,7 @@ returns-2 : tie.Need-returns-2
 returns-2 c =
     let a = c.before.before.before.before.before.before.before.before.before.before.before.args in
     let source = c.before.before.before.before.before.before.bit-source in
-    let left = ap (λ (r : Source). r.left) (sym (source.ensures ∙ ap (bitSource a.ink) c.before.before.before.before.before.before.before.stipple-bit.ensures)) in (
+    let left = ap (λ (r : Source). r.left) (sym (source.ensures ∙ ap (bit_source a.ink) c.before.before.before.before.before.before.before.stipple-bit.ensures)) in (
       c.mark-pixel.ensures
           ∙ dot-written a.ink a.c a.pen a.style a.p a.marks.now (inside c.before.before.before.before.before.before.before.before)
           (left ∙ not-true source.result.left c.before.before.before.before.if2.true),
@@ -66,7 +66,7 @@ returns-3 : tie.Need-returns-3
 returns-3 c =
     let a = c.before.before.before.before.before.before.before.args in
     let source = c.before.before.bit-source in
-    let left = ap (λ (r : Source). r.left) (sym (source.ensures ∙ ap (bitSource a.ink) c.before.before.before.stipple-bit.ensures)) in (
+    let left = ap (λ (r : Source). r.left) (sym (source.ensures ∙ ap (bit_source a.ink) c.before.before.before.stipple-bit.ensures)) in (
       dot-left a.ink a.c a.pen a.style a.p a.marks.now (left ∙ not-false source.result.left c.if2.false),
       c.before.before.before.before.before.before.style-after.ensures,
     )

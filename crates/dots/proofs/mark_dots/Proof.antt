@@ -6,10 +6,10 @@ use mathlib.Core.Path.{◌≡◌, sym, ap, ◌∙◌}
 use mathlib.Core.Bool.{true}
 use mathlib.Core.List.{List}
 use Prim.Native.Nat.{ℕ, ◌-◌, ◌<◌, ◌≤◌}
-use Rattle.spans.specs.Span.{allOn}
+use Rattle.spans.specs.Span.{all_on}
 use Rattle.line.specs.declared.Point.{Point}
-use Rattle.line.specs.Line.{pointsFrom, points}
-use Rattle.line.specs.Draw.{coveredPoints}
+use Rattle.line.specs.Line.{points_from, points}
+use Rattle.line.specs.Draw.{covered_points}
 use Rattle.line.proofs.PointLaws.{from_start}
 use Rattle.line.proofs.TreadLaws.{OnWay, way-starts, way-placed, way-point, way-small, way-goes}
 use Rattle.line.proofs.DrawLaws.{on-left}
@@ -21,8 +21,8 @@ use Rattle.dots.proofs.mark_dots.Tie as tie
 
 abbrev invariant-loop : tie.invariant-loop
 invariant-loop marks₀ ink c l pen style n m total word₀ t₀ i₀ marks word t i =
-    (marking ink.target (dotted ink c pen word (pointsFrom l i (total - i))) marks ≡ marking ink.target (dotted ink c pen style (points l)) marks₀)
-    × ((len : ℕ) → allOn ink.target len (coveredPoints c (points l)) ≡ true → allOn ink.target len (coveredPoints c (pointsFrom l i (total - i))) ≡ true)
+    (marking ink.target (dotted ink c pen word (points_from l i (total - i))) marks ≡ marking ink.target (dotted ink c pen style (points l)) marks₀)
+    × ((len : ℕ) → all_on ink.target len (covered_points c (points l)) ≡ true → all_on ink.target len (covered_points c (points_from l i (total - i))) ≡ true)
     × (i < total → OnWay l n m i t)
     × (i ≤ total)
 
@@ -43,7 +43,7 @@ loop-holds c =
     let a = c.before.before.before.args in
     let q = from_start a.l _ c.point-count.ensures in (
       ap (λ (ps : List Point). marking a.ink.target (dotted a.ink a.c a.pen a.style ps) a.marks.now) q,
-      (λ len h. ap (λ (ps : List Point). allOn a.ink.target len (coveredPoints a.c ps)) q ∙ h),
+      (λ len h. ap (λ (ps : List Point). all_on a.ink.target len (covered_points a.c ps)) q ∙ h),
       (λ _. way-starts c.before.before.long-side.ensures c.before.short-side.ensures),
       omega arith,
     )

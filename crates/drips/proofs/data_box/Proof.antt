@@ -2,7 +2,7 @@
 -- Assumes nothing.
 use borrow.Author.Rules.{rules}
 use native.Mathlib.Omega.{arith}
-use Rattle.drips.specs.Drips.{dataBox}
+use Rattle.drips.specs.Drips.{data_box}
 use Rattle.drips.proofs.Reach.{first_small, past-small}
 use Rattle.drips.proofs.data_box.Statement.{statement}
 use Rattle.drips.proofs.data_box.Tie as tie
@@ -44,7 +44,7 @@ less-requires-3 : tie.Need-less-requires-3
 less-requires-3 c κs = search rules
 
 returns : tie.Need-returns
-unfolding dataBox
+unfolding data_box
 returns c =
     let past = c.before.before.before.before in
     let low = past.before in

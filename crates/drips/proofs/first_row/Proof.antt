@@ -2,7 +2,7 @@
 -- Assumes nothing.
 use borrow.Author.Rules.{rules}
 use mathlib.Core.Path.{refl}
-use Rattle.drips.specs.Drips.{firstRow}
+use Rattle.drips.specs.Drips.{first_row}
 use Rattle.drips.proofs.first_row.Statement.{statement}
 use Rattle.drips.proofs.first_row.Tie as tie
 
@@ -13,7 +13,7 @@ div-result : tie.Need-nonzero-div-result
 div-result c = search rules
 
 returns : tie.Need-returns
-unfolding firstRow
+unfolding first_row
 returns c = refl
 
 pub first-row-spec : {M : Type 1} → statement M

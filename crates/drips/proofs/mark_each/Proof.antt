@@ -5,14 +5,14 @@ use mathlib.Core.Path.{◌≡◌, ap, ◌∙◌}
 use mathlib.Core.List.{List}
 use Prim.Native.Nat.{◌+◌, ◌-◌}
 use lib.ListN.{length, drop, get_or}
-use Rattle.host.specs.Host.{Pixel, by_word, byRun}
+use Rattle.host.specs.Host.{Pixel, by_word, by_run}
 use Rattle.drips.proofs.Marks.{dripping, none-drips, drip-takes, run-turn, run-start, run-done}
 use Rattle.drips.proofs.mark_each.Statement.{statement}
 use Rattle.drips.proofs.mark_each.Tie as tie
 
 abbrev invariant-loop : tie.invariant-loop
 invariant-loop marks₀ ink c feed taken last words before₀ i₀ marks before i =
-    dripping ink c feed (byRun feed before (drop i words) (taken + i)) marks ≡ dripping ink c feed (byRun feed last words taken) marks₀
+    dripping ink c feed (by_run feed before (drop i words) (taken + i)) marks ≡ dripping ink c feed (by_run feed last words taken) marks₀
 
 abbrev decreases-loop : tie.decreases-loop
 decreases-loop marks₀ ink c feed taken last words before₀ i₀ marks before i = length words - i
@@ -56,7 +56,7 @@ loop-again c =
     let a = l.before.before.args in
     let i = l.loop.i in
     let last = l.loop.before in
-    drip-takes a.ink a.c a.feed (byRun a.feed last (drop i a.words.now) (a.taken + i)) (by_word a.feed last (get_or a.words.now i 0) (a.taken + i))
+    drip-takes a.ink a.c a.feed (by_run a.feed last (drop i a.words.now) (a.taken + i)) (by_word a.feed last (get_or a.words.now i 0) (a.taken + i))
     _ _ (run-turn a.feed a.words.now last a.taken i c.before.before.before.loop-test.true) c.mark-word.ensures
     ∙ l.loop.invariant
 

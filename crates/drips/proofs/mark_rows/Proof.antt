@@ -6,16 +6,16 @@ use mathlib.Core.Path.{◌≡◌}
 use Prim.Native.Nat.{◌+◌, ◌-◌, ◌*◌, min}
 use Rattle.pages.specs.Pages.{marking}
 use Rattle.host.proofs.Places.{step-some}
-use Rattle.drips.specs.Drips.{firstRow, pastRow}
-use Rattle.drips.specs.Rows.{rowsDrips}
+use Rattle.drips.specs.Drips.{first_row, past_row}
+use Rattle.drips.specs.Rows.{rows_drips}
 use Rattle.drips.proofs.RowLaws.{rows_take, rows-done}
 use Rattle.drips.proofs.mark_rows.Statement.{statement}
 use Rattle.drips.proofs.mark_rows.Tie as tie
 
 abbrev invariant-loop : tie.invariant-loop
 invariant-loop marks₀ ink c feed taken n from past end j₀ marks j =
-    marking ink.target (rowsDrips c feed (4 * taken) (4 * (taken + n)) j (end - j)) marks
-    ≡ marking ink.target (rowsDrips c feed (4 * taken) (4 * (taken + n)) (firstRow feed taken) (min feed.height (pastRow feed taken n) - firstRow feed taken)) marks₀
+    marking ink.target (rows_drips c feed (4 * taken) (4 * (taken + n)) j (end - j)) marks
+    ≡ marking ink.target (rows_drips c feed (4 * taken) (4 * (taken + n)) (first_row feed taken) (min feed.height (past_row feed taken n) - first_row feed taken)) marks₀
 
 abbrev decreases-loop : tie.decreases-loop
 decreases-loop marks₀ ink c feed taken n from past end j₀ marks j = end - j

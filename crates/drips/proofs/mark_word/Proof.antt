@@ -4,14 +4,14 @@ use native.Mathlib.Omega.{arith}
 use mathlib.Core.Path.{◌≡◌, ap, ◌∙◌}
 use mathlib.Core.List.{List}
 use Prim.Native.Nat.{◌+◌, ◌-◌, ◌*◌}
-use Rattle.host.specs.Host.{Pixel, by_byte, byBytes, by_word}
+use Rattle.host.specs.Host.{Pixel, by_byte, by_bytes, by_word}
 use Rattle.drips.proofs.Marks.{dripping, none-drips, drip-takes, bytes-turn, bytes-start, bytes-done}
 use Rattle.drips.proofs.mark_word.Statement.{statement}
 use Rattle.drips.proofs.mark_word.Tie as tie
 
 abbrev invariant-loop : tie.invariant-loop
 invariant-loop marks₀ ink c feed taken last word t₀ marks t =
-    dripping ink c feed (byBytes feed last word (4 * taken + t) (4 - t)) marks ≡ dripping ink c feed (by_word feed last word taken) marks₀
+    dripping ink c feed (by_bytes feed last word (4 * taken + t) (4 - t)) marks ≡ dripping ink c feed (by_word feed last word taken) marks₀
 
 abbrev decreases-loop : tie.decreases-loop
 decreases-loop marks₀ ink c feed taken last word t₀ marks t = 4 - t
@@ -41,7 +41,7 @@ loop-again c =
     let l = c.before.before.before in
     let a = l.before.args in
     let t = l.loop.t in
-    drip-takes a.ink a.c a.feed (byBytes a.feed a.last a.word (4 * a.taken + t) (4 - t)) (by_byte a.feed a.last a.word (4 * a.taken + t))
+    drip-takes a.ink a.c a.feed (by_bytes a.feed a.last a.word (4 * a.taken + t) (4 - t)) (by_byte a.feed a.last a.word (4 * a.taken + t))
     _ _ (bytes-turn a.feed a.last a.word a.taken t c.before.before.loop-test.true) c.mark-byte.ensures
     ∙ l.loop.invariant
 

@@ -2,7 +2,7 @@
 -- Assumes nothing.
 use borrow.Author.Rules.{rules}
 use mathlib.Core.Path.{refl}
-use Rattle.drips.specs.Drips.{pastRow}
+use Rattle.drips.specs.Drips.{past_row}
 use Rattle.drips.proofs.past_row.Statement.{statement}
 use Rattle.drips.proofs.past_row.Tie as tie
 
@@ -22,7 +22,7 @@ div-result : tie.Need-nonzero-div-result
 div-result c = search rules
 
 returns : tie.Need-returns
-unfolding pastRow
+unfolding past_row
 returns c = refl
 
 pub past-row-spec : {M : Type 1} → statement M

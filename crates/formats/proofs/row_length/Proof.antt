@@ -4,7 +4,7 @@ use borrow.Author.Rules.{rules}
 use native.Mathlib.Omega.{arith}
 use Prim.Native.Nat.{◌*◌}
 use borrow.Author.Tests.{eq-eqb, ne_eqb}
-use Rattle.formats.specs.Step.{rowLength}
+use Rattle.formats.specs.Step.{row_length}
 use Rattle.surface.proofs.Bytes.{product_lt}
 use Rattle.formats.proofs.row_length.Statement.{statement}
 use Rattle.formats.proofs.row_length.Tie as tie
@@ -16,7 +16,7 @@ add-result : tie.Need-overflow-add-result
 add-result c = search rules
 
 returns : tie.Need-returns
-unfolding rowLength
+unfolding row_length
 returns c = rw (eq-eqb _ _ c.if1.true)
 
 mul-result-2 : tie.Need-overflow-mul-result-2
@@ -29,7 +29,7 @@ add-result-2 : tie.Need-overflow-add-result-2
 add-result-2 c = omega (arith, product_lt 13 6 {a = c.before.args.width} {b = 8 * c.before.args.bytes} c.before.requires.fits (omega (arith, c.before.requires)))
 
 returns-2 : tie.Need-returns-2
-unfolding rowLength
+unfolding row_length
 returns-2 c = rw (ne_eqb _ _ c.if1.false)
 
 pub row-length-spec : {M : Type 1} → statement M

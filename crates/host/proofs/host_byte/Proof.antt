@@ -8,7 +8,7 @@ use Rattle.paint.specs.Paint.{tallied}
 use Rattle.paint.proofs.Tallies.{room-left}
 use Rattle.paint.proofs.Loops.{Left, left-begins}
 use Rattle.host.specs.Host.{pixel, run, by_byte}
-use Rattle.host.specs.Draw.{hostTouches}
+use Rattle.host.specs.Draw.{host_touches}
 use Rattle.host.proofs.Places.{whole-width, step-some, column-small}
 use Rattle.host.proofs.Drawing.{none-drawn, draw-takes, draw-ended, run-turn, run-done, byte-run, byte-none}
 use Rattle.host.proofs.host_byte.Statement.{statement}
@@ -16,7 +16,7 @@ use Rattle.host.proofs.host_byte.Tie as tie
 
 abbrev invariant-loop : tie.invariant-loop
 invariant-loop mem₀ ink pattern c feed last word o step j column start end r₀ i₀ mem r i =
-    Left ink.target (hostTouches ink pattern c feed (by_byte feed last word o)) mem₀ r₀ (i - start) (hostTouches ink pattern c feed (run feed last word o i (end - i))) mem r
+    Left ink.target (host_touches ink pattern c feed (by_byte feed last word o)) mem₀ r₀ (i - start) (host_touches ink pattern c feed (run feed last word o i (end - i))) mem r
     × (start ≤ i)
 
 abbrev decreases-loop : tie.decreases-loop
@@ -47,7 +47,7 @@ whole-pixels-requires-2 c κs =
 loop-holds : tie.Need-loop-init invariant-loop decreases-loop
 loop-holds c =
     let a = c.before.before.before.before.before.args in (
-      left-begins (ap (hostTouches a.ink a.pattern a.c a.feed)
+      left-begins (ap (host_touches a.ink a.pattern a.c a.feed)
           (byte-run a.feed a.last a.word a.o c.before.before.if1.false c.before.whole-pixels.ensures c.whole-pixels2.ensures)),
       omega arith,
     )

@@ -3,7 +3,7 @@
 use native.Mathlib.Omega.{arith}
 use mathlib.Core.List.{append-nil}
 use Prim.Native.Nat.{◌-◌}
-use Rattle.host.specs.Host.{byBytes}
+use Rattle.host.specs.Host.{by_bytes}
 use Rattle.host.proofs.Drawing.{WordLeft, word-begins, word_room, word-takes, word-ended}
 use Rattle.host.proofs.host_word.Statement.{statement}
 use Rattle.host.proofs.host_word.Tie as tie
@@ -36,7 +36,7 @@ loop-less : tie.Need-loop-smaller invariant-loop decreases-loop
 loop-less c = omega arith
 
 loop-again : tie.Need-loop-preserved invariant-loop decreases-loop
-unfolding byBytes
+unfolding by_bytes
 loop-again c =
     word-takes c.before.before.before.before.before.loop.invariant c.before.before.before.before.before.before.before.requires.0.opened.rows.sizes 1 (omega arith)
     (rw append-nil c.before.before.host-byte.ensures)

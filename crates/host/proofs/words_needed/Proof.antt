@@ -3,7 +3,7 @@
 use borrow.Author.Rules.{rules}
 use native.Mathlib.Omega.{arith}
 use Prim.Native.Nat.{◌+◌, ◌-◌, ◌*◌, ◌^◌, ◌≤◌}
-use Rattle.formats.specs.Step.{dataWords}
+use Rattle.formats.specs.Step.{data_words}
 use Rattle.host.proofs.Needed.{some-needed, narrow, flat, data-small}
 use Rattle.host.proofs.words_needed.Statement.{statement}
 use Rattle.host.proofs.words_needed.Tie as tie
@@ -33,7 +33,7 @@ add-result-2 : tie.Need-overflow-add-result-2
 add-result-2 c = omega (arith, small c)
 
 returns-3 : tie.Need-returns-3
-unfolding dataWords
+unfolding data_words
 returns-3 c =
     let a = c.before.before.before.before.before.before.before.args.feed in
     rw (some-needed a.bytes a.step a.width a.height c.before.before.before.before.before.if1.false c.before.before.before.if2.false, c.before.before.row-length.ensures)

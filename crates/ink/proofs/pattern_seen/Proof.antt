@@ -5,7 +5,7 @@ use mathlib.Core.Path.{sym, ◌∙◌}
 use Prim.Native.Nat.{◌+◌, ◌*◌, ◌<◌}
 use native.Mathlib.Omega.{arith}
 use borrow.Author.Tests.{not-true, not-false, eq-eqb, ne_eqb}
-use Rattle.ink.specs.Pattern.{patternBit, patternPixel, patternIn}
+use Rattle.ink.specs.Pattern.{pattern_bit, pattern_pixel, pattern_in}
 use Rattle.ink.proofs.PatternLaws.{in-pattern}
 use Rattle.ink.proofs.pattern_seen.Statement.{statement}
 use Rattle.ink.proofs.pattern_seen.Tie as tie
@@ -36,7 +36,7 @@ get-bytes-requires : tie.Need-get-bytes-requires
 get-bytes-requires c κs = record { some = c.before.before.before.before.before.requires.some; few = c.before.before.before.before.before.requires.small.bytes; inside = omega (arith, there c) }
 
 returns : tie.Need-returns
-unfolding patternIn patternPixel
+unfolding pattern_in pattern_pixel
 returns c = let a = c.before.before.before.before.before.before.args in
     rw (← c.before.before.before.before.before.pattern-column.ensures.0, ← c.before.before.before.before.pattern-row.ensures.0, not-true a.ink.mono c.before.before.if1.true) c.get-bytes.ensures
 
@@ -53,12 +53,12 @@ bit-of-requires : tie.Need-bit-of-requires
 bit-of-requires c κs = search rules
 
 returns-2 : tie.Need-returns-2
-unfolding patternIn patternBit
+unfolding pattern_in pattern_bit
 returns-2 c = let a = c.before.before.before.before.before.before.before.before.args in
     rw (← c.before.before.before.before.before.before.before.pattern-column.ensures.0, ← c.before.before.before.before.before.before.pattern-row.ensures.0, not-false a.ink.mono c.before.before.before.before.if1.false, ← c.before.before.wide.ensures.0, eq-eqb _ _ (sym c.before.bit-of.ensures ∙ c.if2.true))
 
 returns-3 : tie.Need-returns-3
-unfolding patternIn patternBit
+unfolding pattern_in pattern_bit
 returns-3 c = let a = c.before.before.before.before.before.before.before.before.args in
     rw (← c.before.before.before.before.before.before.before.pattern-column.ensures.0, ← c.before.before.before.before.before.before.pattern-row.ensures.0, not-false a.ink.mono c.before.before.before.before.if1.false, ← c.before.before.wide.ensures.0, ← c.before.bit-of.ensures, ne_eqb _ _ c.if2.false)
 

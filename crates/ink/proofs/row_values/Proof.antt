@@ -6,12 +6,12 @@ use mathlib.Core.Path.{◌≡◌, refl}
 use Prim.Native.Nat.{ℕ, ◌-◌, ◌<◌, ◌≤◌}
 use lib.ListN.{length, get_or, length-set}
 use Rattle.ink.proofs.PatternLaws.{filled_more}
-use Rattle.ink.specs.Pattern.{patternIn}
+use Rattle.ink.specs.Pattern.{pattern_in}
 use Rattle.ink.proofs.row_values.Statement.{statement}
 use Rattle.ink.proofs.row_values.Tie as tie
 
 abbrev invariant-loop : tie.invariant-loop
-invariant-loop ink pattern row values₀ column₀ values column = (column ≤ 8) × (length values ≡ 8) × ((k : ℕ) → k < column → get_or values k 0 ≡ patternIn ink pattern k row)
+invariant-loop ink pattern row values₀ column₀ values column = (column ≤ 8) × (length values ≡ 8) × ((k : ℕ) → k < column → get_or values k 0 ≡ pattern_in ink pattern k row)
 
 abbrev decreases-loop : tie.decreases-loop
 decreases-loop ink pattern row values₀ column₀ values column = 8 - column
@@ -41,7 +41,7 @@ loop-again : tie.Need-loop-preserved invariant-loop decreases-loop
 loop-again c =
     let a = c.before.before.before.args in
     let k = c.before.before.loop in
-    (omega arith, simp length-set k.invariant.1, filled_more k.values k.column _ (λ j. patternIn a.ink a.pattern j a.row) (omega arith) c.pattern-in.ensures k.invariant.2)
+    (omega arith, simp length-set k.invariant.1, filled_more k.values k.column _ (λ j. pattern_in a.ink a.pattern j a.row) (omega arith) c.pattern-in.ensures k.invariant.2)
 
 returns : tie.Need-returns invariant-loop decreases-loop
 returns c = record { at = λ j h. c.before.loop.invariant.2 j (omega arith); long = c.before.loop.invariant.1 }

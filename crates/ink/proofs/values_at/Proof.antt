@@ -10,7 +10,7 @@ use lib.Seq.{get_or-set_other}
 use mir.Val.{Fits}
 use mir.Syntax.{w8}
 use Rattle.ink.specs.declared.Ink.{Ink}
-use Rattle.ink.specs.Pattern.{patternValue, patternIn}
+use Rattle.ink.specs.Pattern.{pattern_value, pattern_in}
 use Rattle.ink.specs.Asked.{Cell}
 use Rattle.ink.proofs.PatternLaws.{in-pattern, value_there, zeros, filled_more}
 use Rattle.ink.proofs.values_at.Statement.{statement}
@@ -19,7 +19,7 @@ use Rattle.ink.proofs.values_at.Tie as tie
 -- the first k of them
 abbrev First : Ink → List ℕ → ℕ → ℕ → ℕ → List ℕ → Type 0
 First ink pattern x y k values =
-    (length values ≡ 64) × ((l : ℕ) → l < k → get_or values l 0 ≡ patternValue ink pattern (x + l % 8) (y + l / 8)) × ((l : ℕ) → k ≤ l → get_or values l 0 ≡ 0)
+    (length values ≡ 64) × ((l : ℕ) → l < k → get_or values l 0 ≡ pattern_value ink pattern (x + l % 8) (y + l / 8)) × ((l : ℕ) → k ≤ l → get_or values l 0 ≡ 0)
 
 abbrev invariant-loop2 : tie.invariant-loop2
 invariant-loop2 ink x y rows pattern n values₀ j row byte i₀ values i = (i ≤ 8) × First ink pattern x y (j * 8 + i) values
@@ -142,17 +142,17 @@ loop2-again c =
     let k = o.j * 8 + l.i in
     let column = d.pattern-column.ensures.0 in
     let row = r.pattern-row.ensures.0 in
-    let value : c.value_of_lem.result ≡ patternValue a.ink a.t2 (a.x + l.i) (a.y + o.j) =
+    let value : c.value_of_lem.result ≡ pattern_value a.ink a.t2 (a.x + l.i) (a.y + o.j) =
     c.value_of_lem.ensures
     ∙ value_there a.ink a.t2 d.pattern-column.result r.pattern-row.result (cell d) (λ i. omega (arith, small c i)) d.before.before.before.wide.ensures.0 c.before.word_of.ensures
-    ∙ ap₂ (patternIn a.ink a.t2) column row in
+    ∙ ap₂ (pattern_in a.ink a.t2) column row in
     let across : l.i ≡ k % 8 = omega (arith, d.before.loop2-test.true) in
     let down : o.j ≡ k / 8 = omega (arith, d.before.loop2-test.true) in
-    let there = value ∙ ap₂ (λ (i j : ℕ). patternValue a.ink a.t2 (a.x + i) (a.y + j)) across down in (
+    let there = value ∙ ap₂ (λ (i j : ℕ). pattern_value a.ink a.t2 (a.x + i) (a.y + j)) across down in (
       omega arith,
       (
         simp length-set l.invariant.1.0,
-        λ m h. filled_more l.values k _ (λ m. patternValue a.ink a.t2 (a.x + m % 8) (a.y + m / 8)) (omega arith) there l.invariant.1.1 m (omega arith),
+        λ m h. filled_more l.values k _ (λ m. pattern_value a.ink a.t2 (a.x + m % 8) (a.y + m / 8)) (omega arith) there l.invariant.1.1 m (omega arith),
         λ m h. get_or-set_other l.values k m _ 0 (λ e. omega arith) ∙ l.invariant.1.2 m (omega arith),
       ),
     )

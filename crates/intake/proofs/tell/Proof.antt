@@ -4,7 +4,7 @@ use borrow.Author.Rules.{rules}
 use mathlib.Core.Path.{ap}
 use Rattle.packets.specs.Answers.{lent}
 use Rattle.packets.proofs.CallLaws.{nothing-done, write_done, nine-done, noting-by}
-use Rattle.intake.specs.Intake.{machine, stepped, byEngine}
+use Rattle.intake.specs.Intake.{machine, stepped, by_engine}
 use Rattle.intake.proofs.tell.Statement.{statement}
 use Rattle.intake.proofs.tell.Tie as tie
 
@@ -38,8 +38,8 @@ put-answer-requires-2 c κs = search rules
 returns : tie.Need-returns
 returns c =
     let a = c.before.before.before.before.args in
-    noting-by byEngine a.reader a.used
-    (nothing-done byEngine (machine a.engine a.mem.now) (lent a.answers.now a.answered) c.enum_told.given.1)
+    noting-by by_engine a.reader a.used
+    (nothing-done by_engine (machine a.engine a.mem.now) (lent a.answers.now a.answered) c.enum_told.given.1)
 
 same_length : tie.Need-same-length
 same_length c = search rules
@@ -51,8 +51,8 @@ returns-2 : tie.Need-returns-2
 returns-2 c =
     let a = c.before.before.before.before.before.before.before.before.before.before.before.before.before.before.before.before.before.args in
     let out = c.before.before.before.before.before.before.before.before.before.before.write in
-    noting-by byEngine a.reader a.used
-    (write_done byEngine (machine a.engine a.mem.now) (lent a.answers.now a.answered) c.before.before.before.before.before.before.before.before.before.before.before.before.before.event.given.1
+    noting-by by_engine a.reader a.used
+    (write_done by_engine (machine a.engine a.mem.now) (lent a.answers.now a.answered) c.before.before.before.before.before.before.before.before.before.before.before.before.before.event.given.1
     (rw (c.before.before.before.before.before.number.ensures, c.before.before.before.before.count.ensures, c.before.before.before.changed.ensures) (ap stepped out.ensures)) c.before.before.put-answer.ensures)
 
 same-length-3 : tie.Need-same-length-3
@@ -61,8 +61,8 @@ same-length-3 c = search rules
 returns-3 : tie.Need-returns-3
 returns-3 c =
     let a = c.before.before.before.before.before.before.before.before.args in
-    noting-by byEngine a.reader a.used
-    (nine-done byEngine (machine a.engine a.mem.now) (lent a.answers.now a.answered) c.before.before.before.before.enum-told2.given.1 c.before.before.put-answer2.ensures)
+    noting-by by_engine a.reader a.used
+    (nine-done by_engine (machine a.engine a.mem.now) (lent a.answers.now a.answered) c.before.before.before.before.enum-told2.given.1 c.before.before.put-answer2.ensures)
 
 pub tell-spec : {M : Type 1} → statement M
 tell-spec =

@@ -4,8 +4,8 @@ use borrow.Author.Rules.{rules}
 use native.Mathlib.Omega.{arith}
 use mathlib.Core.Path.{◌≡◌, sym, ap, ◌∙◌}
 use Prim.Native.Nat.{◌-◌, ◌<◌, ◌≤◌}
-use Rattle.line.specs.Line.{pointsFrom, points}
-use Rattle.line.specs.Draw.{lineOff}
+use Rattle.line.specs.Line.{points_from, points}
+use Rattle.line.specs.Draw.{line_off}
 use Rattle.line.proofs.TreadLaws.{OnWay, way-starts, way-placed, way-point, way-small, way-goes}
 use Rattle.line.proofs.PointLaws.{from_start}
 use Rattle.line.proofs.DrawLaws.{off-left, off-none, box-on}
@@ -14,7 +14,7 @@ use Rattle.line.proofs.line_off.Tie as tie
 
 abbrev invariant-loop : tie.invariant-loop
 invariant-loop len s c l w h n m total t₀ i₀ t i =
-    (lineOff s len c (pointsFrom l i (total - i)) ≡ lineOff s len c (points l)) × (i < total → OnWay l n m i t) × (i ≤ total)
+    (line_off s len c (points_from l i (total - i)) ≡ line_off s len c (points l)) × (i < total → OnWay l n m i t) × (i ≤ total)
 
 abbrev decreases-loop : tie.decreases-loop
 decreases-loop len s c l w h n m total t₀ i₀ t i = total - i
@@ -46,7 +46,7 @@ point-count-requires c κs = search rules
 loop-holds : tie.Need-loop-init invariant-loop decreases-loop
 loop-holds c =
     let a = c.before.before.before.before.before.before.before.args in (
-      ap (lineOff a.s a.len a.c) (from_start a.l _ c.point-count.ensures),
+      ap (line_off a.s a.len a.c) (from_start a.l _ c.point-count.ensures),
       (λ _. way-starts c.before.before.long-side.ensures c.before.short-side.ensures),
       omega arith,
     )

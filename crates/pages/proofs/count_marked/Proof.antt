@@ -5,13 +5,13 @@ use mathlib.Core.Logic.{⊎_elim}
 use Prim.Native.Nat.{◌+◌, ◌-◌, ◌≤◌}
 use native.Mathlib.Omega.{arith}
 use borrow.Author.Rules.{rules}
-use Rattle.pages.specs.Pages.{countFrom}
+use Rattle.pages.specs.Pages.{count_from}
 use Rattle.pages.proofs.Search.{count_set, count-clear, count_none}
 use Rattle.pages.proofs.count_marked.Statement.{statement}
 use Rattle.pages.proofs.count_marked.Tie as tie
 
 abbrev invariant-loop : tie.invariant-loop
-invariant-loop marks n₀ k₀ n k = (n + countFrom marks k (4096 - k) ≡ countFrom marks 0 4096) × (n ≤ k)
+invariant-loop marks n₀ k₀ n k = (n + count_from marks k (4096 - k) ≡ count_from marks 0 4096) × (n ≤ k)
 
 abbrev decreases-loop : tie.decreases-loop
 decreases-loop marks n₀ k₀ n k = 4096 - k

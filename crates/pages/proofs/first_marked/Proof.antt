@@ -3,13 +3,13 @@
 use mathlib.Core.Path.{◌≡◌, ◌∙◌}
 use Prim.Native.Nat.{◌-◌}
 use borrow.Author.Rules.{rules}
-use Rattle.pages.specs.Pages.{firstFrom}
+use Rattle.pages.specs.Pages.{first_from}
 use Rattle.pages.proofs.Search.{first-here, first-later, first-none}
 use Rattle.pages.proofs.first_marked.Statement.{statement}
 use Rattle.pages.proofs.first_marked.Tie as tie
 
 abbrev invariant-loop : tie.invariant-loop
-invariant-loop marks page k₀ k = firstFrom marks k (4096 - k) ≡ firstFrom marks page (4096 - page)
+invariant-loop marks page k₀ k = first_from marks k (4096 - k) ≡ first_from marks page (4096 - page)
 
 abbrev decreases-loop : tie.decreases-loop
 decreases-loop marks page k₀ k = 4096 - k

@@ -4,7 +4,7 @@ use mathlib.Core.Path.{sym, ap₂, ◌∙◌}
 use Prim.Native.Nat.{ℕ, ◌+◌, ◌-◌}
 use native.Mathlib.Omega.{arith}
 use borrow.Author.Rules.{rules}
-use Rattle.pages.specs.Pages.{markedAt}
+use Rattle.pages.specs.Pages.{marked_at}
 use Rattle.pages.specs.Extent.{starts}
 use Rattle.pages.proofs.Bands.{band-marks}
 use Rattle.pages.proofs.RectLaws.{last-page-fits, band-filled}
@@ -27,7 +27,7 @@ returns : tie.Need-returns
 returns c =
     let start = c.before.before.before.before in
     c.mark-pages.ensures
-    ∙ ap₂ (λ (first last : ℕ). markedAt (starts first (last + 1 - first)) start.args.marks.now) c.before.before.before.first-page.ensures c.before.last-page.ensures
+    ∙ ap₂ (λ (first last : ℕ). marked_at (starts first (last + 1 - first)) start.args.marks.now) c.before.before.before.first-page.ensures c.before.last-page.ensures
     ∙ sym (band-marks (band-filled start.requires) start.args.marks.now)
 
 pub mark-band-spec : {M : Type 1} → statement M

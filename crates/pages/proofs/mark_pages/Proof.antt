@@ -3,14 +3,14 @@
 use mathlib.Core.Path.{◌≡◌, refl, sym, ◌∙◌}
 use Prim.Native.Nat.{◌-◌}
 use borrow.Author.Rules.{rules}
-use Rattle.pages.specs.Pages.{markedAt}
+use Rattle.pages.specs.Pages.{marked_at}
 use Rattle.pages.specs.Extent.{starts}
 use Rattle.pages.proofs.MarkLaws.{starts-cons, starts_none}
 use Rattle.pages.proofs.mark_pages.Statement.{statement}
 use Rattle.pages.proofs.mark_pages.Tie as tie
 
 abbrev invariant-loop : tie.invariant-loop
-invariant-loop marks₀ first past page₀ marks page = markedAt (starts page (past - page)) marks ≡ markedAt (starts first (past - first)) marks₀
+invariant-loop marks₀ first past page₀ marks page = marked_at (starts page (past - page)) marks ≡ marked_at (starts first (past - first)) marks₀
 
 abbrev decreases-loop : tie.decreases-loop
 decreases-loop marks₀ first past page₀ marks page = past - page

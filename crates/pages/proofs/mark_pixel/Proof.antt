@@ -5,14 +5,14 @@ use mathlib.Core.List.{[], ◌∷◌}
 use Prim.Native.Nat.{◌+◌, ◌-◌, ◌*◌}
 use borrow.Author.Rules.{rules}
 use Rattle.surface.specs.Pixels.{px}
-use Rattle.spans.specs.Span.{addressesOf}
-use Rattle.pages.specs.Pages.{markedAt, marking}
+use Rattle.spans.specs.Span.{addresses_of}
+use Rattle.pages.specs.Pages.{marked_at, marking}
 use Rattle.pages.proofs.PixelLaws.{pixel-start, pixel-turn, pixel-none, pixel-page}
 use Rattle.pages.proofs.mark_pixel.Statement.{statement}
 use Rattle.pages.proofs.mark_pixel.Tie as tie
 
 abbrev invariant-loop : tie.invariant-loop
-invariant-loop marks₀ s x y n k₀ marks k = markedAt (addressesOf s (x * s.bytes + k) (n - k) y) marks ≡ marking s (px x y ∷ []) marks₀
+invariant-loop marks₀ s x y n k₀ marks k = marked_at (addresses_of s (x * s.bytes + k) (n - k) y) marks ≡ marking s (px x y ∷ []) marks₀
 
 abbrev decreases-loop : tie.decreases-loop
 decreases-loop marks₀ s x y n k₀ marks k = n - k

@@ -1,12 +1,12 @@
 -- `pages::no_marks` meets its contract.
 -- Assumes nothing.
 use mathlib.Core.Path.{refl}
-use Rattle.pages.specs.Pages.{noMarks}
+use Rattle.pages.specs.Pages.{no_marks}
 use Rattle.pages.proofs.no_marks.Statement.{statement}
 use Rattle.pages.proofs.no_marks.Tie as tie
 
 returns : tie.Need-returns
-unfolding noMarks
+unfolding no_marks
 returns c = refl
 
 pub no-marks-spec : {M : Type 1} → statement M

@@ -1,7 +1,7 @@
 -- `paint::colour_source` meets its contract: without the key nothing matches.
 -- Assumes nothing.
 use borrow.Author.Rules.{rules}
-use Rattle.paint.specs.Mix.{colourSource}
+use Rattle.paint.specs.Mix.{colour_source}
 use Rattle.paint.proofs.colour_source.Statement.{statement}
 use Rattle.paint.proofs.colour_source.Tie as tie
 
@@ -12,11 +12,11 @@ key-match-requires : tie.Need-key-match-requires
 key-match-requires c κs = search rules
 
 returns : tie.Need-returns
-unfolding colourSource
+unfolding colour_source
 returns c = rw (c.before.if1.true, c.key-match.ensures, c.before.before.convert.ensures)
 
 returns-2 : tie.Need-returns-2
-unfolding colourSource
+unfolding colour_source
 returns-2 c = rw (c.if1.false, c.before.convert.ensures)
 
 pub colour-source-spec : {M : Type 1} → statement M

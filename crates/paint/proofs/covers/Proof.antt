@@ -2,7 +2,7 @@
 -- Assumes nothing.
 use borrow.Author.Rules.{rules}
 use mathlib.Core.Path.{refl}
-use Rattle.paint.specs.Clip.{inClip}
+use Rattle.paint.specs.Clip.{in_clip}
 use Rattle.paint.proofs.covers.Statement.{statement}
 use Rattle.paint.proofs.covers.Tie as tie
 
@@ -19,7 +19,7 @@ add-result-4 : tie.Need-overflow-add-result-4
 add-result-4 c = search rules
 
 returns : tie.Need-returns
-unfolding inClip
+unfolding in_clip
 returns c = refl
 
 pub covers-spec : {M : Type 1} → statement M

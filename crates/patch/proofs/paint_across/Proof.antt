@@ -4,13 +4,13 @@ use Prim.Native.Nat.{◌-◌}
 use borrow.Author.Rules.{rules}
 use Rattle.paint.proofs.Loops.{RowLeft, row-begins, row_room, row-goes-on, row-ended}
 use Rattle.sweep.proofs.TaskLaws.{row-pixel}
-use Rattle.patch.specs.Row.{rowGiving}
+use Rattle.patch.specs.Row.{row_giving}
 use Rattle.patch.proofs.RowLaws.{pixel-given}
 use Rattle.patch.proofs.paint_across.Statement.{statement}
 use Rattle.patch.proofs.paint_across.Tie as tie
 
 abbrev invariant-loop : tie.invariant-loop
-invariant-loop mem₀ t bits w y back values ink r₀ i₀ mem r i = RowLeft t.ink.target (λ p now. rowGiving t values bits now p) back t.x w y mem₀ r₀ i mem r
+invariant-loop mem₀ t bits w y back values ink r₀ i₀ mem r i = RowLeft t.ink.target (λ p now. row_giving t values bits now p) back t.x w y mem₀ r₀ i mem r
 
 abbrev decreases-loop : tie.decreases-loop
 decreases-loop mem₀ t bits w y back values ink r₀ i₀ mem r i = w - i

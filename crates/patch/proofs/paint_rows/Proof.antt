@@ -12,10 +12,10 @@ use Rattle.patch.proofs.paint_rows.Statement.{statement}
 use Rattle.patch.proofs.paint_rows.Tie as tie
 
 abbrev invariant-loop : tie.invariant-loop
-invariant-loop mem₀ t pattern w h toLeft toTop ink n₀ j₀ mem n j = RowsLeft t.ink.target (λ p now. giving t pattern now now p) toLeft toTop t.x t.y w h mem₀ j mem n
+invariant-loop mem₀ t pattern w h to_left to_top ink n₀ j₀ mem n j = RowsLeft t.ink.target (λ p now. giving t pattern now now p) to_left to_top t.x t.y w h mem₀ j mem n
 
 abbrev decreases-loop : tie.decreases-loop
-decreases-loop mem₀ t pattern w h toLeft toTop ink n₀ j₀ mem n j = h - j
+decreases-loop mem₀ t pattern w h to_left to_top ink n₀ j₀ mem n j = h - j
 
 loop-holds : tie.Need-loop-init invariant-loop decreases-loop
 loop-holds c = rows-begin
@@ -52,7 +52,7 @@ loop-again c =
     let y = b.place.result in
     rows-go-on k.invariant y b.before.loop-test.true b.place.ensures
     (c.before.before.paint-across.ensures
-    ∙ row_same a.t a.pattern values.result c.before.before.before.before.before.pattern-byte.ensures.0 values.ensures a.toLeft a.t.x a.w y c.before.before.before.before.before.before.pattern-row.ensures.0 (tallied k.mem k.n))
+    ∙ row_same a.t a.pattern values.result c.before.before.before.before.before.pattern-byte.ensures.0 values.ensures a.to_left a.t.x a.w y c.before.before.before.before.before.before.pattern-row.ensures.0 (tallied k.mem k.n))
 
 same_length : tie.Need-same-length invariant-loop decreases-loop
 same_length c = search rules

@@ -4,7 +4,7 @@ use borrow.Author.Rules.{rules}
 use borrow.Author.Tests.{eq-eqb, ne_eqb, not-true, not-false}
 use native.Mathlib.Omega.{arith}
 use Rattle.surface.proofs.OnLaws.{pos-of-ne}
-use Rattle.sweep.specs.Copy.{sourcePlace, sourceBy}
+use Rattle.sweep.specs.Copy.{source_place, source_by}
 use Rattle.patch.proofs.source_at.Statement.{statement}
 use Rattle.patch.proofs.source_at.Tie as tie
 
@@ -12,7 +12,7 @@ fill-source-requires : tie.Need-fill-source-requires
 fill-source-requires c κs = search rules
 
 returns : tie.Need-returns
-unfolding sourceBy sourcePlace
+unfolding source_by source_place
 returns c = rw (not-true c.before.before.before.before.before.args.t.copies c.before.if1.true) c.fill-source.ensures
 
 sub-sx : tie.Need-overflow-sub-sx
@@ -37,7 +37,7 @@ bit-source-requires : tie.Need-bit-source-requires
 bit-source-requires c κs = search rules
 
 returns-2 : tie.Need-returns-2
-unfolding sourceBy sourcePlace
+unfolding source_by source_place
 returns-2 c =
     let copies = c.before.before.before.before.before.before.before.before in
     let b = copies.before.before.before.before in
@@ -53,7 +53,7 @@ colour-source-requires : tie.Need-colour-source-requires
 colour-source-requires c κs = search rules
 
 returns-3 : tie.Need-returns-3
-unfolding sourceBy sourcePlace
+unfolding source_by source_place
 returns-3 c =
     let copies = c.before.before.before.before.before.before.before.before in
     let b = copies.before.before.before.before in

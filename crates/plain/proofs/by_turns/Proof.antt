@@ -9,12 +9,12 @@ use lib.ListN.{length, take, drop, get_or, length-drop}
 use lib.Seq.{get_or-take, get_or-drop, length-take-le, take_all}
 use Rattle.host.specs.Host.{last_of}
 use Rattle.host.proofs.Runs.{RunLeft, run-begins, run_room, run-takes, run-ended, last_some}
-use Rattle.plain.specs.Plain.{plainInk}
+use Rattle.plain.specs.Plain.{plain_ink}
 use Rattle.plain.proofs.by_turns.Statement.{statement}
 use Rattle.plain.proofs.by_turns.Tie as tie
 
 abbrev invariant-loop : tie.invariant-loop
-invariant-loop mem₀ p c feed taken last words n₀ before₀ i₀ mem n before i = RunLeft (plainInk p) [] c feed last words taken mem₀ i before mem n
+invariant-loop mem₀ p c feed taken last words n₀ before₀ i₀ mem n before i = RunLeft (plain_ink p) [] c feed last words taken mem₀ i before mem n
 
 abbrev decreases-loop : tie.decreases-loop
 decreases-loop mem₀ p c feed taken last words n₀ before₀ i₀ mem n before i = length words - i
@@ -90,7 +90,7 @@ loop-again c =
     let a = s.args in
     let t = c.before.before.before.before.before.take-some in
     let k = took c.before.before.before.before.before in
-    subst (λ (b : ℕ). RunLeft (plainInk a.p) [] a.c a.feed a.last a.words.now a.taken a.mem.now (l.i + t.result.taken) b t.new.0 t.result.n)
+    subst (λ (b : ℕ). RunLeft (plain_ink a.p) [] a.c a.feed a.last a.words.now a.taken a.mem.now (l.i + t.result.taken) b t.new.0 t.result.n)
     (last-of a.words.now l.i t.result.taken l.before k.0 k.1)
     (run-takes l.invariant s.requires.opened.rows.sizes t.result.taken k.1 (rw (rest a.words.now l.i) at t.ensures.1.1))
 

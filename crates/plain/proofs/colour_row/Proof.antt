@@ -3,7 +3,7 @@
 use native.Mathlib.Omega.{arith}
 use mathlib.Core.List.{[]}
 use Prim.Native.Nat.{◌-◌}
-use Rattle.plain.specs.Plain.{plainInk}
+use Rattle.plain.specs.Plain.{plain_ink}
 use Rattle.plain.specs.Asked.{Here}
 use Rattle.plain.proofs.Stretch.{here-small}
 use Rattle.plain.proofs.Parts.{StretchLeft, stretch-begins, stretch-room, stretch-goes-on, stretch-ended}
@@ -11,7 +11,7 @@ use Rattle.plain.proofs.colour_row.Statement.{statement}
 use Rattle.plain.proofs.colour_row.Tie as tie
 
 abbrev invariant-loop : tie.invariant-loop
-invariant-loop mem₀ p c feed last word t j column start end r₀ i₀ mem r i = StretchLeft (plainInk p) [] c feed last word j start end mem₀ r₀ i mem r
+invariant-loop mem₀ p c feed last word t j column start end r₀ i₀ mem r i = StretchLeft (plain_ink p) [] c feed last word j start end mem₀ r₀ i mem r
 
 abbrev decreases-loop : tie.decreases-loop
 decreases-loop mem₀ p c feed last word t j column start end r₀ i₀ mem r i = end - i

@@ -2,7 +2,7 @@
 -- Assumes nothing.
 use borrow.Author.Rules.{rules}
 use mathlib.Core.Path.{refl}
-use Rattle.host.specs.Stream.{dataByte}
+use Rattle.host.specs.Stream.{data_byte}
 use Rattle.plain.proofs.data_byte.Statement.{statement}
 use Rattle.plain.proofs.data_byte.Tie as tie
 
@@ -22,7 +22,7 @@ shr-result : tie.Need-overflow-shr-result
 shr-result c = search rules
 
 returns : tie.Need-returns
-unfolding dataByte
+unfolding data_byte
 returns c = refl
 
 pub data-byte-spec : {M : Type 1} → statement M

@@ -7,12 +7,12 @@ use mathlib.Core.Path.{◌≡◌, sym, ◌∙◌}
 use mathlib.Core.Bool.{true}
 use Prim.Native.Nat.{◌+◌, ◌-◌, ◌/◌, ◌<◌, ◌≤◌}
 use Rattle.surface.proofs.OnLaws.{and_left, and_right}
-use Rattle.paint.specs.Clip.{inClip}
+use Rattle.paint.specs.Clip.{in_clip}
 use Rattle.paint.specs.Paint.{tallied}
 use Rattle.paint.proofs.Tallies.{room-less}
 use Rattle.paint.proofs.ClipLaws.{in-clip}
 use Rattle.host.proofs.Places.{mono-column}
-use Rattle.plain.specs.Plain.{plainInk}
+use Rattle.plain.specs.Plain.{plain_ink}
 use Rattle.plain.proofs.Bits.{between, byte-drawn}
 use Rattle.plain.proofs.mono_part.Statement.{statement}
 use Rattle.plain.proofs.mono_part.Tie as tie
@@ -56,10 +56,10 @@ mul-byte c = omega (arith, held c)
 shr-byte : tie.Need-overflow-shr-byte
 shr-byte c = omega (arith, held c)
 
-first-in : (c : tie.Then2) → let a = c.before.before.before.before.before.before.before.before.args in inClip a.c (a.feed.x + a.i) (a.feed.y + a.j) ≡ true
+first-in : (c : tie.Then2) → let a = c.before.before.before.before.before.before.before.before.args in in_clip a.c (a.feed.x + a.i) (a.feed.y + a.j) ≡ true
 first-in c = sym c.before.before.before.before.covers.ensures ∙ c.before.before.before.if1.true
 
-last-in : (c : tie.Then2) → let a = c.before.before.before.before.before.before.before.before.args in inClip a.c (a.feed.x + a.i + (a.m - 1)) (a.feed.y + a.j) ≡ true
+last-in : (c : tie.Then2) → let a = c.before.before.before.before.before.before.before.before.args in in_clip a.c (a.feed.x + a.i + (a.m - 1)) (a.feed.y + a.j) ≡ true
 last-in c = sym c.before.before.covers2.ensures ∙ and_left c.before.before.covers2.result _ c.if2.true
 
 sub-put-bits : tie.Need-overflow-sub-put-bits
@@ -69,7 +69,7 @@ sub-put-bits-2 : tie.Need-overflow-sub-put-bits-2
 sub-put-bits-2 c = omega (arith, in-clip _ _ _ (first-in c.before))
 
 put-bits-requires : tie.Need-put-bits-requires
-unfolding plainInk
+unfolding plain_ink
 put-bits-requires c κs =
     let a = c.before.before.before.before.before.before.before.before.before.args in
     let p = c.before.before.before.before.before.before.before.before.before.requires in

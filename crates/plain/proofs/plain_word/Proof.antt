@@ -6,7 +6,7 @@ use borrow.Author.Rules.{rules}
 use mathlib.Core.Path.{◌≡◌}
 use mathlib.Core.List.{[]}
 use Prim.Native.Nat.{◌+◌, ◌-◌, ◌*◌, ◌<◌}
-use Rattle.plain.specs.Plain.{plainInk}
+use Rattle.plain.specs.Plain.{plain_ink}
 use Rattle.host.proofs.Places.{step-some}
 use Rattle.host.proofs.Drawing.{draw-ended, WordLeft, word-begins, word_room, word-takes, word-ended}
 use Rattle.plain.proofs.Stretch.{past-none}
@@ -15,7 +15,7 @@ use Rattle.plain.proofs.plain_word.Tie as tie
 
 abbrev invariant-loop : tie.invariant-loop
 invariant-loop mem₀ p c feed taken last word step j₀ column₀ r₀ t₀ mem j column r t =
-    WordLeft (plainInk p) [] c feed last word taken mem₀ r₀ t mem r × (t < 4 → (4 * taken + t ≡ j * feed.step + column) × (column < feed.step))
+    WordLeft (plain_ink p) [] c feed last word taken mem₀ r₀ t mem r × (t < 4 → (4 * taken + t ≡ j * feed.step + column) × (column < feed.step))
 
 abbrev decreases-loop : tie.decreases-loop
 decreases-loop mem₀ p c feed taken last word step j₀ column₀ r₀ t₀ mem j column r t = 4 - t
@@ -46,7 +46,7 @@ returns c =
     let b = c.before.before.before.before.before in
     let a = b.args in
     let at = k.invariant.1 c.before.before.loop-test.true in
-    draw-ended (plainInk a.p) [] a.c a.feed
+    draw-ended (plain_ink a.p) [] a.c a.feed
     (past-none a.feed a.last a.word (step-some a.feed b.requires.0.opened.rows) _ _ (omega (arith, at.0, mul-le-mul_right a.feed.step c.if1.true))) k.invariant.0.left
 
 sub-least : tie.Need-overflow-sub-least invariant-loop decreases-loop

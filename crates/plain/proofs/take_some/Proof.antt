@@ -11,9 +11,9 @@ use lib.Seq.{length-take-le, take-suc}
 use Rattle.paint.specs.Paint.{tallied}
 use Rattle.paint.proofs.ClipLaws.{in-clip}
 use Rattle.paint.proofs.Tallies.{room-less}
-use Rattle.host.specs.Host.{byRun}
+use Rattle.host.specs.Host.{by_run}
 use Rattle.host.proofs.Runs.{run-one}
-use Rattle.plain.specs.Plain.{plainInk}
+use Rattle.plain.specs.Plain.{plain_ink}
 use Rattle.plain.specs.Asked.{Straight}
 use Rattle.plain.proofs.Straight.{part_small, PutAfter, straight-held, straight-put}
 use Rattle.plain.proofs.take_some.Statement.{statement}
@@ -83,7 +83,7 @@ sub-y : tie.Need-overflow-sub-y
 sub-y c = omega (arith, (in-clip _ _ _ (straight c.before.before.before.before).first).top)
 
 place-in-rows-requires : tie.Need-place-in-rows-requires
-unfolding plainInk
+unfolding plain_ink
 place-in-rows-requires c κs = (c.before.before.before.before.before.before.before.before.requires.0.opened.colour, (straight c.before.before.before.before).flat)
 
 slice-aggregate-put-words : tie.Need-slice-aggregate-put-words
@@ -103,7 +103,7 @@ put-words-requires c κs =
     }
 
 put : (c : tie.After-put-words) → let a = c.before.before.before.before.before.before.before.before.before.before.before.before.args in let w = c.before.before.before.before.before.before.before.before.before.straight-words.result in
-    PutAfter a.p a.c a.feed (byRun a.feed a.last (take w a.words.now) a.k) (4 * w / a.feed.bytes) a.mem.now c.put-words.new.0 c.put-words.result
+    PutAfter a.p a.c a.feed (by_run a.feed a.last (take w a.words.now) a.k) (4 * w / a.feed.bytes) a.mem.now c.put-words.new.0 c.put-words.result
 put c =
     let s = c.before.before.before.before.before.before.before.before.before.before.before.before in
     let a = s.args in

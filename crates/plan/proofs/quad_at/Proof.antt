@@ -26,7 +26,7 @@ returns : tie.Need-returns
 returns c =
     let a = c.before.before.args in (
       ap (λ (k : ℕ). k + a.column * 4)
-          (c.code-at.ensures.0 ∙ ap (λ (t : Bool). code_at a.key t) (c.before.is-hit.ensures ∙ hit a.ink.dstKey a.ink.dstMin a.ink.dstMax a.old refl c.before.before.requires.0)),
+          (c.code-at.ensures.0 ∙ ap (λ (t : Bool). code_at a.key t) (c.before.is-hit.ensures ∙ hit a.ink.dst_key a.ink.dst_min a.ink.dst_max a.old refl c.before.before.requires.0)),
       omega (arith, c.code-at.ensures.1, c.before.before.requires.1),
     )
 

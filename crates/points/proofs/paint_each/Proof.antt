@@ -7,14 +7,14 @@ use mathlib.Core.Bool.{true}
 use mathlib.Core.List.{List, [], ◌∷◌}
 use Prim.Native.Nat.{◌-◌, ◌<◌, ◌≤◌}
 use lib.ListN.{length}
-use Rattle.spans.specs.Span.{allOn}
+use Rattle.spans.specs.Span.{all_on}
 use Rattle.paint.specs.Tally.{tally}
 use Rattle.paint.proofs.Tallies.{room-first}
 use Rattle.paint.proofs.Loops.{Left, left-begins, left-takes, left_ended}
 use Rattle.line.specs.declared.Point.{Point}
-use Rattle.line.specs.Line.{pointCount, pointsFrom, points}
-use Rattle.line.specs.Stipple.{styleAfter}
-use Rattle.line.specs.Draw.{coveredPoints, lineTouches}
+use Rattle.line.specs.Line.{point_count, points_from, points}
+use Rattle.line.specs.Stipple.{style_after}
+use Rattle.line.specs.Draw.{covered_points, line_touches}
 use Rattle.line.proofs.Sides.{count-le, longer-lt}
 use Rattle.line.proofs.PointLaws.{from_start}
 use Rattle.line.proofs.TreadLaws.{OnWay, way-starts, way-placed, way-point, way-small, way-goes}
@@ -25,9 +25,9 @@ use Rattle.points.proofs.paint_each.Tie as tie
 
 abbrev invariant-loop : tie.invariant-loop
 invariant-loop mem₀ ink pattern c l pen style n m total done₀ t₀ i₀ mem done t i =
-    Left ink.target (lineTouches ink pattern c pen style (points l)) mem₀ (tally 0 0) i (lineTouches ink pattern c pen done.style (pointsFrom l i (total - i))) mem done.tally
-    × (styleAfter pen (total - i) done.style ≡ styleAfter pen (pointCount l) style)
-    × (allOn ink.target (length mem₀) (coveredPoints c (pointsFrom l i (total - i))) ≡ true)
+    Left ink.target (line_touches ink pattern c pen style (points l)) mem₀ (tally 0 0) i (line_touches ink pattern c pen done.style (points_from l i (total - i))) mem done.tally
+    × (style_after pen (total - i) done.style ≡ style_after pen (point_count l) style)
+    × (all_on ink.target (length mem₀) (covered_points c (points_from l i (total - i))) ≡ true)
     × (i < total → OnWay l n m i t)
     × (i ≤ total)
 
@@ -47,9 +47,9 @@ loop-holds : tie.Need-loop-init invariant-loop decreases-loop
 loop-holds c =
     let a = c.before.before.before.before.args in
     let q = from_start a.l _ c.point-count.ensures in (
-      left-begins (ap (lineTouches a.ink a.pattern.now a.c a.pen a.style) q),
+      left-begins (ap (line_touches a.ink a.pattern.now a.c a.pen a.style) q),
       style-start a.pen _ _ a.style c.point-count.ensures,
-      ap (λ (ps : List Point). allOn a.ink.target (length a.mem.now) (coveredPoints a.c ps)) q ∙ c.before.before.before.before.requires.on,
+      ap (λ (ps : List Point). all_on a.ink.target (length a.mem.now) (covered_points a.c ps)) q ∙ c.before.before.before.before.requires.on,
       (λ _. way-starts c.before.before.long-side.ensures c.before.short-side.ensures),
       omega arith,
     )
@@ -86,7 +86,7 @@ loop-again c =
     let h = c.before.before.before.before.before.before.loop-test.true in
     let here = way-point (c.before.before.before.before.before.before.before.loop.invariant.3 c.before.before.before.before.before.before.loop-test.true) c.before.before.before.before.before.place-point.ensures in
     let r = c.before.before.before.paint-point.ensures in (
-      left-takes k.invariant.0 (lineTouches a.ink a.pattern.now a.c a.pen k.done.style (c.before.before.before.before.before.place-point.result ∷ []))
+      left-takes k.invariant.0 (line_touches a.ink a.pattern.now a.c a.pen k.done.style (c.before.before.before.before.before.place-point.result ∷ []))
           (touches-left a.ink a.pattern.now a.c a.pen a.l k.i _ k.done.style h here r.1)
           (omega (arith, one-touch a.ink a.pattern.now a.c a.pen c.before.before.before.before.before.place-point.result k.done.style)) r.0,
       style-turn a.pen k.i _ k.done.style _ h r.1 ∙ k.invariant.1,

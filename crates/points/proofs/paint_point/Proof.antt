@@ -6,13 +6,13 @@ use borrow.Author.Tests.{not-true, not-false}
 use mathlib.Core.Bool.{true}
 use mathlib.Core.Path.{◌≡◌, sym, ◌∙◌}
 use Rattle.paint.specs.Paint.{tallied}
-use Rattle.paint.specs.Clip.{inClip}
+use Rattle.paint.specs.Clip.{in_clip}
 use Rattle.paint.proofs.ClipLaws.{in-clip}
 use Rattle.line.proofs.DrawLaws.{point-on, paint-covered, paint-clipped}
 use Rattle.points.proofs.paint_point.Statement.{statement}
 use Rattle.points.proofs.paint_point.Tie as tie
 
-inside : (c : tie.Else1) → inClip c.before.before.before.before.before.args.c c.before.before.before.before.before.args.p.x c.before.before.before.before.before.args.p.y ≡ true
+inside : (c : tie.Else1) → in_clip c.before.before.before.before.before.args.c c.before.before.before.before.before.args.p.x c.before.before.before.before.before.args.p.y ≡ true
 inside c = sym c.before.covers.ensures ∙ not-false c.before.covers.result c.if1.false
 
 style-after-requires : tie.Need-style-after-requires

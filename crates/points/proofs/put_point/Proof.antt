@@ -5,13 +5,13 @@ use native.Mathlib.Omega.{arith}
 use mathlib.Core.Path.{sym, ap, ap₂, ◌∙◌}
 use mathlib.Core.Option.{Option}
 use Prim.Native.Nat.{ℕ}
-use Rattle.surface.specs.Place.{readPx}
+use Rattle.surface.specs.Place.{read_px}
 use Rattle.surface.specs.Pixels.{px}
 use Rattle.paint.specs.declared.Source.{Source}
 use Rattle.paint.specs.Paint.{tallied, dab}
 use Rattle.paint.specs.Mix.{mixed, sourced}
 use Rattle.paint.proofs.MixLaws.{mixed-by}
-use Rattle.ink.specs.Pattern.{patternValue}
+use Rattle.ink.specs.Pattern.{pattern_value}
 use Rattle.points.proofs.PutLaws.{direct-source}
 use Rattle.points.proofs.put_point.Statement.{statement}
 use Rattle.points.proofs.put_point.Tie as tie
@@ -32,7 +32,7 @@ returns : tie.Need-returns
 returns c =
     let a = c.before.before.before.before.before.before.before.before.before.args in
     let s = a.ink.target in
-    let direct = direct-source a.ink (patternValue a.ink a.pattern.now a.x a.y) (readPx a.mem.now s a.x a.y) a.bit
+    let direct = direct-source a.ink (pattern_value a.ink a.pattern.now a.x a.y) (read_px a.mem.now s a.x a.y) a.bit
     (sym c.before.before.before.before.before.is-direct.ensures ∙ c.before.before.before.before.if1.true) (omega (arith, c.before.before.before.before.before.before.before.before.before.well-formed)) (omega (arith, c.before.before.before.before.before.before.before.before.before.well-formed)) in
     c.before.before.put-close.ensures ∙ ap (λ (source : Source). dab s (px a.x a.y) (sourced source) (tallied a.mem.now a.n)) c.before.before.before.before.before.before.before.bit-source.ensures
     ∙ ap (λ (v : Option ℕ). dab s (px a.x a.y) v (tallied a.mem.now a.n)) (sym direct)
@@ -58,7 +58,7 @@ returns-2 c =
     let s = a.ink.target in
     c.before.before.put-close2.ensures
     ∙ ap (λ (v : Option ℕ). dab s (px a.x a.y) v (tallied a.mem.now a.n)) (mixed-by a.ink c.before.before.before.before.before.before.before.pattern-seen.result c.before.before.before.before.before.before.before.before.before.before.before.bit-source.result c.before.before.before.before.before.get-close.ensures c.before.before.before.before.mix.ensures)
-    ∙ ap₂ (λ (v : ℕ) (source : Source). dab s (px a.x a.y) (mixed a.ink v source (readPx a.mem.now s a.x a.y)) (tallied a.mem.now a.n))
+    ∙ ap₂ (λ (v : ℕ) (source : Source). dab s (px a.x a.y) (mixed a.ink v source (read_px a.mem.now s a.x a.y)) (tallied a.mem.now a.n))
     c.before.before.before.before.before.before.before.pattern-seen.ensures c.before.before.before.before.before.before.before.before.before.before.before.bit-source.ensures
 
 pub put-point-spec : {M : Type 1} → statement M

@@ -1,7 +1,7 @@
 -- `step_xy` meets its contract: each position after its step is below 8192, so the halves do not meet.
 -- Assumes nothing.
 use borrow.Author.Rules.{rules}
-use Rattle.positions.specs.Position.{steppedXY}
+use Rattle.positions.specs.Position.{stepped_xy}
 use Rattle.positions.proofs.step_xy.Statement.{statement}
 use Rattle.positions.proofs.step_xy.Tie as tie
 
@@ -18,7 +18,7 @@ add-result : tie.Need-overflow-add-result
 add-result c = search rules
 
 returns : tie.Need-returns
-unfolding steppedXY
+unfolding stepped_xy
 returns c = simp (c.step-if2.ensures.0, c.before.step-if.ensures.0)
 
 pub step-xy-spec : {M : Type 1} → statement M

@@ -4,7 +4,7 @@ use borrow.Author.Rules.{rules}
 use mathlib.Core.Path.{ap, ◌∙◌}
 use borrow.Author.Tests.{lt-ltb, le-ltb, not-true, not-false}
 use Rattle.surface.specs.declared.Surface.{Surface}
-use Rattle.spans.specs.Span.{allOn}
+use Rattle.spans.specs.Span.{all_on}
 use Rattle.formats.proofs.FormatLaws.{target_small}
 use Rattle.ppm.specs.Picture.{pixels, shows}
 use Rattle.ppm.proofs.has_picture.Statement.{statement}
@@ -35,14 +35,14 @@ sub-rect-on-2 : tie.Need-overflow-sub-rect-on-2
 sub-rect-on-2 c = search rules
 
 rect-on-requires : tie.Need-rect-on-requires
-rect-on-requires c κs = rw c.target-of.ensures (target_small c.before.before.before.before.before.before.before.before.before.args.r.dstBaseAddr c.before.before.before.before.before.before.before.before.before.args.r.dstFormat)
+rect-on-requires c κs = rw c.target-of.ensures (target_small c.before.before.before.before.before.before.before.before.before.args.r.dst_base_addr c.before.before.before.before.before.before.before.before.before.args.r.dst_format)
 
 returns-4 : tie.Need-returns-4
 unfolding shows
 returns-4 c =
     let a = c.before.before.before.before.before.before.before.before.before.before.args in
     rw (← c.before.before.before.before.before.before.before.before.before.names-target.ensures, not-false c.before.before.before.before.before.before.before.before.before.names-target.result c.before.before.before.before.before.before.before.before.if1.false, lt-ltb _ _ c.before.before.before.before.before.if2.false, lt-ltb _ _ c.before.before.if3.false)
-    (c.rect-on.ensures ∙ ap (λ (s : Surface). allOn s a.len (pixels a.r)) c.before.target-of.ensures)
+    (c.rect-on.ensures ∙ ap (λ (s : Surface). all_on s a.len (pixels a.r)) c.before.target-of.ensures)
 
 pub has-picture-spec : {M : Type 1} → statement M
 has-picture-spec =

@@ -1,7 +1,7 @@
 -- `raster::quad_of` meets its contract: each of the four by the source.
 -- Assumes nothing.
 use borrow.Author.Rules.{rules}
-use Rattle.raster.specs.Masks.{quadOf}
+use Rattle.raster.specs.Masks.{quad_of}
 use Rattle.raster.proofs.quad_of.Statement.{statement}
 use Rattle.raster.proofs.quad_of.Tie as tie
 
@@ -42,7 +42,7 @@ lay-requires-4 : tie.Need-lay-requires-4
 lay-requires-4 c κs = search rules
 
 returns : tie.Need-returns
-unfolding quadOf
+unfolding quad_of
 returns c = rw (c.before.before.before.before.before.before.before.before.before.lay.ensures, c.before.before.before.before.before.before.lay2.ensures, c.before.before.before.lay3.ensures, c.lay4.ensures, c.before.before.before.before.before.before.before.before.before.before.before.spread.ensures, c.before.before.before.before.before.before.before.before.before.before.spread2.ensures, c.before.before.before.before.before.before.before.before.spread3.ensures, c.before.before.before.before.before.before.before.spread4.ensures, c.before.before.before.before.before.spread5.ensures, c.before.before.before.before.spread6.ensures, c.before.before.spread7.ensures, c.before.spread8.ensures)
 
 pub quad-of-spec : {M : Type 1} → statement M

@@ -7,12 +7,12 @@ use native.Mathlib.Omega.{arith}
 use lib.ListN.{length, get_or, length-set}
 use lib.Seq.{get_or-set_same, get_or-set_other}
 use borrow.Author.Count.{below_more}
-use Rattle.recorded.specs.Recorded.{startByte}
+use Rattle.recorded.specs.Recorded.{start_byte}
 use Rattle.recorded.proofs.fill.Statement.{statement}
 use Rattle.recorded.proofs.fill.Tie as tie
 
 abbrev invariant-loop : tie.invariant-loop
-invariant-loop mem₀ seed i₀ mem i = (length mem ≡ length mem₀) × ((k : ℕ) → k < i → get_or mem k 0 ≡ startByte k seed)
+invariant-loop mem₀ seed i₀ mem i = (length mem ≡ length mem₀) × ((k : ℕ) → k < i → get_or mem k 0 ≡ start_byte k seed)
 
 abbrev decreases-loop : tie.decreases-loop
 decreases-loop mem₀ seed i₀ mem i = length mem₀ - i

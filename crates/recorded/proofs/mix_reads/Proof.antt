@@ -5,13 +5,13 @@ use mathlib.Core.Path.{◌≡◌, refl, ◌∙◌}
 use Prim.Native.Nat.{◌+◌, ◌*◌, ◌≤◌}
 use native.Mathlib.Omega.{arith}
 use Rattle.basics.specs.Each.{each}
-use Rattle.recorded.specs.Recorded.{mixedWord, readsFrom}
+use Rattle.recorded.specs.Recorded.{mixed_word, reads_from}
 use Rattle.recorded.proofs.Laws.{reads-again, reads_end}
 use Rattle.recorded.proofs.mix_reads.Statement.{statement}
 use Rattle.recorded.proofs.mix_reads.Tie as tie
 
 abbrev invariant-loop : tie.invariant-loop
-invariant-loop e sum offset words h₀ at₀ left₀ h at left = (each mixedWord (readsFrom e at left) h ≡ each mixedWord (readsFrom e offset words) sum) × (at + 4 * left ≤ 0x200)
+invariant-loop e sum offset words h₀ at₀ left₀ h at left = (each mixed_word (reads_from e at left) h ≡ each mixed_word (reads_from e offset words) sum) × (at + 4 * left ≤ 0x200)
 
 abbrev decreases-loop : tie.decreases-loop
 decreases-loop e sum offset words h₀ at₀ left₀ h at left = left

@@ -3,7 +3,7 @@
 use borrow.Author.Rules.{rules}
 use mathlib.Core.Path.{ap, ◌∙◌}
 use Rattle.basics.specs.Each.{each}
-use Rattle.recorded.specs.Recorded.{mixedWord}
+use Rattle.recorded.specs.Recorded.{mixed_word}
 use Rattle.recorded.proofs.mix_rooms.Statement.{statement}
 use Rattle.recorded.proofs.mix_rooms.Tie as tie
 
@@ -24,8 +24,8 @@ unfolding each
 returns c =
     let k = c.before.before.before.before.before.before.args.k in
     c.mix-word4.ensures
-    ∙ ap (mixedWord k.target.rows) (c.before.mix-word3.ensures
-    ∙ ap (mixedWord k.target.pixels) (c.before.before.mix-word2.ensures ∙ ap (mixedWord k.source.rows) c.before.before.before.mix-word.ensures))
+    ∙ ap (mixed_word k.target.rows) (c.before.mix-word3.ensures
+    ∙ ap (mixed_word k.target.pixels) (c.before.before.mix-word2.ensures ∙ ap (mixed_word k.source.rows) c.before.before.before.mix-word.ensures))
 
 pub mix-rooms-spec : {M : Type 1} → statement M
 mix-rooms-spec =

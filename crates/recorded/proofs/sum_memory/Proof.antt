@@ -8,12 +8,12 @@ use native.Mathlib.Omega.{arith}
 use lib.ListN.{length, drop}
 use Rattle.basics.specs.Each.{each}
 use Rattle.basics.proofs.EachLaws.{each_again, each-ends}
-use Rattle.recorded.specs.Recorded.{mixed, memorySum}
+use Rattle.recorded.specs.Recorded.{mixed, memory_sum}
 use Rattle.recorded.proofs.sum_memory.Statement.{statement}
 use Rattle.recorded.proofs.sum_memory.Tie as tie
 
 abbrev invariant-loop : tie.invariant-loop
-invariant-loop mem h₀ i₀ h i = each mixed (drop i mem) h ≡ memorySum mem
+invariant-loop mem h₀ i₀ h i = each mixed (drop i mem) h ≡ memory_sum mem
 
 abbrev decreases-loop : tie.decreases-loop
 decreases-loop mem h₀ i₀ h i = length mem - i

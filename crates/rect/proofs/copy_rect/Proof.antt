@@ -14,13 +14,13 @@ use Rattle.paint.specs.Tally.{tally}
 use Rattle.paint.specs.Paint.{state, paint}
 use Rattle.sweep.specs.declared.Task.{Task}
 use Rattle.sweep.specs.Copy.{giving}
-use Rattle.rect.specs.Fast.{plainly, monoOf, straightOf, late}
+use Rattle.rect.specs.Fast.{plainly, mono_of, straight_of, late}
 use Rattle.rect.specs.Asked.{Flat}
 use Rattle.bits.specs.declared.Mono.{Mono}
 use Rattle.straight.specs.declared.Straight.{Straight}
-use Rattle.straight.specs.Straight.{straightGiving, straightly}
+use Rattle.straight.specs.Straight.{straight_giving, straightly}
 use Rattle.straight.specs.Asked.{CanCopy}
-use Rattle.bits.specs.Bits.{monoGiving, monoly}
+use Rattle.bits.specs.Bits.{mono_giving, monoly}
 use Rattle.bits.specs.Asked.{CanMono}
 use Rattle.rect.proofs.Straight.{straight-gives, can-straight}
 use Rattle.rect.proofs.Mono.{is-mono, mono-gives, mono-corner, can-mono}
@@ -43,8 +43,8 @@ returns c = search rules
 
 -- ---- both surfaces are in rows
 
-in_rows : {t : Task} → (t.ink.target.tiled || t.from.tiled) ≡ false → Flat t
-in_rows {t} e = let flat = neither t.ink.target.tiled t.from.tiled e in record { target = flat.0; from = flat.1 }
+in-rows : {t : Task} → (t.ink.target.tiled || t.from.tiled) ≡ false → Flat t
+in-rows {t} e = let flat = neither t.ink.target.tiled t.from.tiled e in record { target = flat.0; from = flat.1 }
 
 is-bitwise-requires : tie.Need-is-bitwise-requires
 is-bitwise-requires c κs = search rules
@@ -57,13 +57,13 @@ mono-rows-requires c κs =
     let a = c.before.before.before.before.before.before.before.args in
     let p = c.before.before.before.before.before.before.before.requires in
     subst⁻¹ (λ (k : Mono). CanMono k a.w a.h (length a.mem.now)) c.mono_of.ensures.0
-    (can-mono a.t a.w a.h (length a.mem.now) (sym c.before.before.before.is-bitwise.ensures ∙ c.before.before.if2.true) (in_rows c.before.before.before.before.if1.false) p.0 p.1.1)
+    (can-mono a.t a.w a.h (length a.mem.now) (sym c.before.before.before.is-bitwise.ensures ∙ c.before.before.if2.true) (in-rows c.before.before.before.before.if1.false) p.0 p.1.1)
 
 same-length-2 : tie.Need-same-length-2
 same-length-2 c = search rules
 
 returns-2 : tie.Need-returns-2
-unfolding monoOf
+unfolding mono_of
 returns-2 c =
     let a = c.before.before.before.before.before.before.before.before.before.before.args in
     let p = c.before.before.before.before.before.before.before.before.before.before.requires in
@@ -73,9 +73,9 @@ returns-2 c =
     let ps = rect false false a.t.x a.t.y a.w a.h in
     c.before.before.mono-rows.ensures
     ∙ ap (λ (k : Mono). paint k.plain.target (monoly k (rect false false k.x k.y a.w a.h)) (state m 0 0)) made.0
-    ∙ sym (paint-same a.t.ink.target (λ q now. giving a.t a.pattern now now q) (λ q now. monoGiving (monoOf a.t) now q) ps
+    ∙ sym (paint-same a.t.ink.target (λ q now. giving a.t a.pattern now now q) (λ q now. mono_giving (mono_of a.t) now q) ps
     (λ q i now. mono-gives a.t bitwise made.1.0 made.1.1 a.pattern now q) (state m 0 0))
-    ∙ mono-corner a.t a.w a.h (length m) (is-mono a.t bitwise) p.0 p.1.1 a.toLeft a.toTop a.pattern m (tally 0 0)
+    ∙ mono-corner a.t a.w a.h (length m) (is-mono a.t bitwise) p.0 p.1.1 a.to_left a.to_top a.pattern m (tally 0 0)
 
 is-plain-requires : tie.Need-is-plain-requires
 is-plain-requires c κs = search rules
@@ -84,16 +84,16 @@ is-late-requires : tie.Need-is-late-requires
 is-late-requires c κs = search rules
 
 -- a copy is moved where it is plain and not late
-by_tests : (t : Task) (w h : ℕ) (l u : Bool) {plain isLate : Bool} → plain ≡ plainly t → isLate ≡ late l u t w h → (plain && not isLate) ≡ true
+by_tests : (t : Task) (w h : ℕ) (l u : Bool) {plain is_late : Bool} → plain ≡ plainly t → is_late ≡ late l u t w h → (plain && not is_late) ≡ true
     → (plainly t ≡ true) × (late l u t w h ≡ false)
-by_tests t w h l u {plain} {isLate} e f both = (sym e ∙ and_left plain (not isLate) both, sym f ∙ not-true isLate (and_right plain (not isLate) both))
+by_tests t w h l u {plain} {is_late} e f both = (sym e ∙ and_left plain (not is_late) both, sym f ∙ not-true is_late (and_right plain (not is_late) both))
 
 move-rows-requires : tie.Need-move-rows-requires
 move-rows-requires c κs =
     let a = c.before.before.before.before.before.before.before.before.before.args in
     let p = c.before.before.before.before.before.before.before.before.before.requires in
-    let tests = by_tests a.t a.w a.h a.toLeft a.toTop c.before.before.before.is_plain.ensures c.before.before.is-late.ensures c.before.if3.true in
-    record { flat = in_rows c.before.before.before.before.before.before.if1.false; plain = tests.0; can = p.0; orderly = p.1.1; early = tests.1 }
+    let tests = by_tests a.t a.w a.h a.to_left a.to_top c.before.before.before.is_plain.ensures c.before.before.is-late.ensures c.before.if3.true in
+    record { flat = in-rows c.before.before.before.before.before.before.if1.false; plain = tests.0; can = p.0; orderly = p.1.1; early = tests.1 }
 
 mul-count : tie.Need-overflow-mul-count
 mul-count c =
@@ -108,8 +108,8 @@ returns-3 : tie.Need-returns-3
 returns-3 c =
     let a = c.before.before.before.before.before.before.before.before.before.before.before.before.args in
     let p = c.before.before.before.before.before.before.before.before.before.before.before.before.requires in
-    let tests = by_tests a.t a.w a.h a.toLeft a.toTop c.before.before.before.before.before.before.is_plain.ensures c.before.before.before.before.before.is-late.ensures c.before.before.before.before.if3.true in
-    moved a.t a.pattern a.mem.now a.w a.h a.toLeft a.toTop tests.0 p.0 p.1.1 tests.1
+    let tests = by_tests a.t a.w a.h a.to_left a.to_top c.before.before.before.before.before.before.is_plain.ensures c.before.before.before.before.before.is-late.ensures c.before.before.before.before.if3.true in
+    moved a.t a.pattern a.mem.now a.w a.h a.to_left a.to_top tests.0 p.0 p.1.1 tests.1
     (λ i. omega (arith, c.before.before.before.before.before.before.before.before.before.before.before.slice-known.given i)) c.before.before.move-rows.ensures
 
 is-straight-requires : tie.Need-is-straight-requires
@@ -122,25 +122,25 @@ straight-rows-requires : tie.Need-straight-rows-requires
 straight-rows-requires c κs =
     let a = c.before.before.before.before.before.before.before.before.before.before.before.before.args in
     subst⁻¹ (λ (k : Straight). CanCopy k a.w a.h (length a.mem.now)) c.straight-of.ensures
-    (can-straight a.t (sym c.before.before.before.is-straight.ensures ∙ c.before.before.if4.true) a.w a.h (length a.mem.now) (in_rows c.before.before.before.before.before.before.before.before.before.if1.false) c.before.before.before.before.before.before.before.before.before.before.before.before.requires.0)
+    (can-straight a.t (sym c.before.before.before.is-straight.ensures ∙ c.before.before.if4.true) a.w a.h (length a.mem.now) (in-rows c.before.before.before.before.before.before.before.before.before.if1.false) c.before.before.before.before.before.before.before.before.before.before.before.before.requires.0)
 
 same-length-4 : tie.Need-same-length-4
 same-length-4 c = search rules
 
 returns-4 : tie.Need-returns-4
-unfolding straightOf
+unfolding straight_of
 returns-4 c =
     let a = c.before.before.before.before.before.before.before.before.before.before.before.before.before.before.before.args in
     let straight = sym c.before.before.before.before.before.before.is-straight.ensures ∙ c.before.before.before.before.before.if4.true in
     let m = a.mem.now in
     c.before.before.straight-rows.ensures
-    ∙ ap (λ (k : Straight). paint k.target (straightly k (rect a.toLeft a.toTop k.x k.y a.w a.h)) (state m 0 0)) c.before.before.before.straight-of.ensures
-    ∙ sym (paint-same a.t.ink.target (λ q now. giving a.t a.pattern now now q) (λ q now. straightGiving (straightOf a.t) now q)
-    (rect a.toLeft a.toTop a.t.x a.t.y a.w a.h) (λ q i now. straight-gives a.t straight a.pattern now q) (state m 0 0))
+    ∙ ap (λ (k : Straight). paint k.target (straightly k (rect a.to_left a.to_top k.x k.y a.w a.h)) (state m 0 0)) c.before.before.before.straight-of.ensures
+    ∙ sym (paint-same a.t.ink.target (λ q now. giving a.t a.pattern now now q) (λ q now. straight_giving (straight_of a.t) now q)
+    (rect a.to_left a.to_top a.t.x a.t.y a.w a.h) (λ q i now. straight-gives a.t straight a.pattern now q) (state m 0 0))
 
 paint-rows-requires : tie.Need-paint-rows-requires
 paint-rows-requires c κs =
-    let flat = in_rows {t = c.before.before.before.before.before.before.before.before.before.before.before.args.t} c.before.before.before.before.before.before.before.before.if1.false in
+    let flat = in-rows {t = c.before.before.before.before.before.before.before.before.before.before.before.args.t} c.before.before.before.before.before.before.before.before.if1.false in
     (c.before.before.before.before.before.before.before.before.before.before.before.requires.0, record { target = flat.target; from = λ _. flat.from })
 
 same-length-5 : tie.Need-same-length-5

@@ -13,7 +13,7 @@ is-direct-requires c κs = search rules
 returns : tie.Need-returns
 returns c =
     let t = c.before.before.before.before.before.args.t in
-    ap (λ (b : Bool). ((t.copies && not (eqb t.from.bytes 0)) && b) && (not t.ink.srcKey || eqb t.ink.rop2 0xaa)) c.before.before.is-direct.ensures
+    ap (λ (b : Bool). ((t.copies && not (eqb t.from.bytes 0)) && b) && (not t.ink.src_key || eqb t.ink.rop2 0xaa)) c.before.before.is-direct.ensures
 
 pub is-straight-spec : {M : Type 1} → statement M
 is-straight-spec = tie.close (tie.spec is-direct-requires returns)

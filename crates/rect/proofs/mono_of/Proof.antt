@@ -2,12 +2,12 @@
 -- Assumes nothing.
 use native.Mathlib.Omega.{arith}
 use mathlib.Core.Path.{refl}
-use Rattle.rect.specs.Fast.{monoOf}
+use Rattle.rect.specs.Fast.{mono_of}
 use Rattle.rect.proofs.mono_of.Statement.{statement}
 use Rattle.rect.proofs.mono_of.Tie as tie
 
 returns : tie.Need-returns
-unfolding monoOf
+unfolding mono_of
 returns c = (refl, (omega arith, omega arith))
 
 pub mono-of-spec : {M : Type 1} → statement M

@@ -32,7 +32,7 @@ wide-requires-4 c κs = search rules
 mul-move-blocks : tie.Need-overflow-mul-move-blocks
 mul-move-blocks c =
     let can = c.before.before.before.before.before.before.before.requires.can in
-    rw (c.before.before.before.wide.ensures, c.wide4.ensures) (omega (arith, few_bytes {a = c.before.before.before.before.before.before.before.args.t.sx} (omega (arith, can.sourceWide)) can.colour.small.bytes))
+    rw (c.before.before.before.wide.ensures, c.wide4.ensures) (omega (arith, few_bytes {a = c.before.before.before.before.before.before.before.args.t.sx} (omega (arith, can.source_wide)) can.colour.small.bytes))
 
 wide-requires-5 : tie.Need-wide-requires-5
 wide-requires-5 c κs = search rules

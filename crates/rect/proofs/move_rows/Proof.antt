@@ -9,10 +9,10 @@ use Rattle.rect.proofs.move_rows.Statement.{statement}
 use Rattle.rect.proofs.move_rows.Tie as tie
 
 abbrev invariant-loop : tie.invariant-loop
-invariant-loop mem₀ t w h toLeft toTop r₀ j₀ mem r j = RowsMoved t w h toTop mem₀ j mem r
+invariant-loop mem₀ t w h to_left to_top r₀ j₀ mem r j = RowsMoved t w h to_top mem₀ j mem r
 
 abbrev decreases-loop : tie.decreases-loop
-decreases-loop mem₀ t w h toLeft toTop r₀ j₀ mem r j = h - j
+decreases-loop mem₀ t w h to_left to_top r₀ j₀ mem r j = h - j
 
 loop-holds : tie.Need-loop-init invariant-loop decreases-loop
 loop-holds c = rows_none c.before.args.mem.now
@@ -26,7 +26,7 @@ move-row-requires c κs =
     let k = c.before.before.before.loop in
     let y = c.before.place.result in
     let e = c.before.place.ensures in
-    let rows = nth_in a.toTop a.t.y a.h k.j c.before.before.loop-test.true in
+    let rows = nth_in a.to_top a.t.y a.h k.j c.before.before.loop-test.true in
     rw k.invariant.given.long (row-moves c.before.before.before.before.before.requires y (omega arith) (omega arith))
 
 add_r : tie.Need-overflow-add-r invariant-loop decreases-loop

@@ -30,7 +30,7 @@ is-plain-requires c κs = search rules
 is-touching-requires : tie.Need-is-touching-requires
 is-touching-requires c κs = search rules
 
-by_tests : {t : Task} {w h len : ℕ} {toLeft toTop plain touches : Bool} → CanPaint t w h len → Cornered t w h toLeft toTop → plain ≡ plainly t → touches ≡ touching t w h
+by_tests : {t : Task} {w h len : ℕ} {to_left to_top plain touches : Bool} → CanPaint t w h len → Cornered t w h to_left to_top → plain ≡ plainly t → touches ≡ touching t w h
     → (ltb 0 w && ltb 0 h) ≡ true → (plain && not touches) ≡ true → Apart t w h len
 by_tests {t} {w} {h} {plain = plain} {touches = touches} can corner e f some so =
     let is_plain = sym e ∙ and_left plain (not touches) so in
@@ -63,8 +63,8 @@ returns c =
     let p = c.before.before.before.before.before.before.before.before.before.requires in
     let apart : Apart a.t a.w a.h (length a.mem.now) =
     by_tests p.0 p.1 c.before.before.before.before.before.before.is_plain.ensures c.before.before.before.before.before.is-touching.ensures c.before.before.before.before.before.before.before.if1.true c.before.before.before.before.if2.true in
-    moved a.t a.pattern a.mem.now a.w a.h a.toLeft a.toTop apart.plain p.0 apart.orderly
-    (apart-early a.t a.w a.h (length a.mem.now) p.0 (λ _. apart.orderly) a.toLeft a.toTop apart.none)
+    moved a.t a.pattern a.mem.now a.w a.h a.to_left a.to_top apart.plain p.0 apart.orderly
+    (apart-early a.t a.w a.h (length a.mem.now) p.0 (λ _. apart.orderly) a.to_left a.to_top apart.none)
     (λ i. omega (arith, c.before.before.before.before.before.before.before.before.slice-known.given i)) c.before.before.move-apart.ensures
 
 -- ---- a fill
@@ -102,7 +102,7 @@ same-length-3 c = search rules
 returns-3 : tie.Need-returns-3
 returns-3 c =
     let a = c.before.before.before.before.before.before.before.before.before.before.before.before.before.before.args in
-    let fills = not-true a.t.copies (and_left (not a.t.copies) (not a.t.ink.dstKey) c.before.before.before.before.if4.true) in
+    let fills = not-true a.t.copies (and_left (not a.t.copies) (not a.t.ink.dst_key) c.before.before.before.before.if4.true) in
     let corner = c.before.before.before.before.before.before.before.before.before.before.before.before.before.before.requires.1.fills fills in
     rw (corner.0, corner.1) (fill-made a.t a.pattern a.mem.now a.w a.h fills c.before.before.wash-rows.ensures)
 

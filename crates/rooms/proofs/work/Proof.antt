@@ -3,7 +3,7 @@
 use borrow.Author.Rules.{rules}
 use native.Mathlib.Omega.{arith}
 use borrow.Author.Tests.{eq-eqb, ne_eqb}
-use Rattle.rooms.specs.Room.{roomOf}
+use Rattle.rooms.specs.Room.{room_of}
 use Rattle.rooms.proofs.RoomLaws.{pixels-small}
 use Rattle.rooms.proofs.work.Statement.{statement}
 use Rattle.rooms.proofs.work.Tie as tie
@@ -12,7 +12,7 @@ no-room-requires : tie.Need-no-room-requires
 no-room-requires c κs = search rules
 
 returns : tie.Need-returns
-unfolding roomOf
+unfolding room_of
 returns c = rw (eq-eqb _ _ c.before.if1.true) c.no_room.ensures
 
 row-pixels-requires : tie.Need-row-pixels-requires
@@ -25,7 +25,7 @@ whole-rows-requires : tie.Need-whole-rows-requires
 whole-rows-requires c κs = search rules
 
 returns-2 : tie.Need-returns-2
-unfolding roomOf
+unfolding room_of
 returns-2 c = rw (ne_eqb _ _ c.before.before.if1.false, c.before.row-pixels.ensures, c.whole-rows.ensures)
 
 pub work-spec : {M : Type 1} → statement M

@@ -4,7 +4,7 @@ use borrow.Author.Rules.{rules}
 use native.Mathlib.Omega.{arith}
 use mathlib.Core.Path.{◌∙◌}
 use Prim.Native.Nat.{◌+◌}
-use Rattle.surface.proofs.Run.{in_rows, pixel-held, run-pixel}
+use Rattle.surface.proofs.Run.{in-rows, pixel-held, run-pixel}
 use Rattle.paint.specs.Paint.{state}
 use Rattle.runs.proofs.Along.{row_at}
 use Rattle.runs.proofs.solid_row.Statement.{statement}
@@ -21,7 +21,7 @@ solid-run-requires c κs =
       some = p.1.0.some;
       few = p.1.0.small.bytes;
       wide = omega (arith, p.1.1.wide);
-      held = λ i l. pixel-held (in_rows p.0) (p.1.1.on (a.x0 + i) (omega arith) (omega arith)) _ (run-pixel a.s p.0 a.x0 a.y _ c.before.place-in-rows.ensures i);
+      held = λ i l. pixel-held (in-rows p.0) (p.1.1.on (a.x0 + i) (omega arith) (omega arith)) _ (run-pixel a.s p.0 a.x0 a.y _ c.before.place-in-rows.ensures i);
     }
 
 same_length : tie.Need-same-length

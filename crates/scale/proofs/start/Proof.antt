@@ -2,7 +2,7 @@
 -- Assumes nothing.
 use borrow.Author.Rules.{rules}
 use native.Mathlib.Omega.{arith}
-use Rattle.scale.specs.Scale.{walkAt}
+use Rattle.scale.specs.Scale.{walk_at}
 use Rattle.scale.proofs.ScaleLaws.{product}
 use Rattle.scale.proofs.start.Statement.{statement}
 use Rattle.scale.proofs.start.Tie as tie
@@ -26,7 +26,7 @@ rem-t8 : tie.Need-nonzero-rem-t8
 rem-t8 c = search rules
 
 returns : tie.Need-returns
-unfolding walkAt
+unfolding walk_at
 returns c = rw (c.before.before.before.before.before.place_of.ensures.0)
 
 pub start_spec : {M : Type 1} → statement M

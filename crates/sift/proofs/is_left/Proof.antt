@@ -3,9 +3,9 @@
 use borrow.Author.Rules.{rules}
 use native.Mathlib.Omega.{arith}
 use borrow.Author.Tests.{eq-eqb, ne_eqb}
-use Rattle.ink.specs.Pattern.{patternBit}
-use Rattle.paint.specs.Mix.{bitSource, colourSource, fillSource}
-use Rattle.sweep.specs.Copy.{sourcePlace, sourceBy}
+use Rattle.ink.specs.Pattern.{pattern_bit}
+use Rattle.paint.specs.Mix.{bit_source, colour_source, fill_source}
+use Rattle.sweep.specs.Copy.{source_place, source_by}
 use Rattle.sift.specs.Sift.{left_at}
 use Rattle.sift.proofs.is_left.Statement.{statement}
 use Rattle.sift.proofs.is_left.Tie as tie
@@ -28,12 +28,12 @@ get-bit-requires c κs =
     record { small = start.requires.small; mono = c.before.before.before.before.if2.true; on = start.requires.on c.before.before.before.before.before.before.before.if1.true }
 
 returns : tie.Need-returns
-unfolding left_at sourceBy bitSource sourcePlace
+unfolding left_at source_by bit_source source_place
 returns c =
     rw (c.before.before.before.before.before.before.before.before.before.if1.true, eq-eqb _ _ c.before.before.before.before.before.before.if2.true, ← c.before.get-bit.ensures)
 
 returns-2 : tie.Need-returns-2
-unfolding left_at sourceBy colourSource
+unfolding left_at source_by colour_source
 returns-2 c = rw (c.before.before.before.if1.true, ne_eqb _ _ c.if2.false)
 
 pattern-row-requires : tie.Need-pattern-row-requires
@@ -55,7 +55,7 @@ bit-of-requires : tie.Need-bit-of-requires
 bit-of-requires c κs = search rules
 
 returns-3 : tie.Need-returns-3
-unfolding left_at sourceBy fillSource patternBit
+unfolding left_at source_by fill_source pattern_bit
 returns-3 c =
     rw (c.before.before.before.before.before.before.before.if1.false, c.before.before.bit-of.ensures, c.before.before.before.before.wide.ensures.0, c.before.before.before.pattern-column.ensures.0, c.before.before.before.before.before.before.pattern-row.ensures.0)
 

@@ -9,10 +9,10 @@ use native.Mathlib.Omega.{arith}
 use lib.ListN.{get_or}
 use Rattle.surface.specs.Pixels.{Px, px}
 use Rattle.spans.specs.Span.{addresses}
-use Rattle.pages.specs.Pages.{markedAt, marking}
+use Rattle.pages.specs.Pages.{marked_at, marking}
 use Rattle.pages.proofs.PixelLaws.{pixel-page}
 use Rattle.sweep.specs.declared.Task.{Task}
-use Rattle.sift.specs.Sift.{taskAt, left_at, wet}
+use Rattle.sift.specs.Sift.{task_at, left_at, wet}
 use Rattle.sift.proofs.SiftLaws.{chosen-one, chosen-left, passed_over, pixel-can}
 use Rattle.sift.proofs.sift_some.Statement.{statement}
 use Rattle.sift.proofs.sift_some.Tie as tie
@@ -56,11 +56,11 @@ is-left-requires c κs =
     (start.requires.0.each (px start.args.x start.args.y) (record { left = omega arith; right = omega (arith, start.requires.1); top = omega arith; bottom = omega arith })).source
 
 returns-2 : tie.Need-returns-2
-unfolding addresses markedAt
+unfolding addresses marked_at
 returns-2 c =
     let start = c.before.before.before.before.before.before.before.before in
     let a = start.args in
-    let left : left_at (taskAt a.v (px a.x a.y)) a.pattern.now a.mem.now (px a.x a.y) ≡ true =
+    let left : left_at (task_at a.v (px a.x a.y)) a.pattern.now a.mem.now (px a.x a.y) ≡ true =
     ap (λ (t : Task). left_at t a.pattern.now a.mem.now (px a.x a.y)) (sym c.before.before.task-at.ensures) ∙ sym c.before.is-left.ensures ∙ c.if3.true in (
       omega arith,
       omega (arith, start.requires.1),
@@ -75,7 +75,7 @@ returns-3 : tie.Need-returns-3
 returns-3 c =
     let start = c.before.before.before.before.before.before.before.before.before.before in
     let a = start.args in
-    let written : left_at (taskAt a.v (px a.x a.y)) a.pattern.now a.mem.now (px a.x a.y) ≡ false =
+    let written : left_at (task_at a.v (px a.x a.y)) a.pattern.now a.mem.now (px a.x a.y) ≡ false =
     ap (λ (t : Task). left_at t a.pattern.now a.mem.now (px a.x a.y)) (sym c.before.before.before.before.task-at.ensures) ∙ sym c.before.before.before.is-left.ensures
     ∙ c.before.before.if3.false in (
       omega arith,

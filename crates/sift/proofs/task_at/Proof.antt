@@ -3,8 +3,8 @@
 use borrow.Author.Rules.{rules}
 use Prim.Native.Nat.{◌-◌}
 use native.Mathlib.Omega.{arith}
-use Rattle.scale.specs.Stretch.{takenAt, pixelTask}
-use Rattle.sift.specs.Sift.{taskAt}
+use Rattle.scale.specs.Stretch.{taken_at, pixel_task}
+use Rattle.sift.specs.Sift.{task_at}
 use Rattle.sift.proofs.task_at.Statement.{statement}
 use Rattle.sift.proofs.task_at.Tie as tie
 
@@ -27,11 +27,11 @@ sub-t-2 : tie.Need-overflow-sub-t-2
 sub-t-2 c = omega (arith, c.place-of2.ensures.0, (c.before.before.before.before.requires.2 c.before.before.if1.true).below)
 
 returns : tie.Need-returns
-unfolding taskAt pixelTask takenAt
+unfolding task_at pixel_task taken_at
 returns c = rw (c.before.before.if1.true, c.before.place_of.ensures.0, c.place-of2.ensures.0)
 
 returns-2 : tie.Need-returns-2
-unfolding taskAt
+unfolding task_at
 returns-2 c = rw c.if1.false
 
 pub task-at-spec : {M : Type 1} → statement M

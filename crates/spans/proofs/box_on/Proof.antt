@@ -5,7 +5,7 @@ use native.Mathlib.Omega.{arith}
 use mathlib.Core.Path.{◌≡◌, sym, ap₂, ◌∙◌}
 use mathlib.Core.Bool.{false}
 use Prim.Native.Nat.{◌+◌, ◌-◌}
-use Rattle.surface.specs.Place.{onSurface}
+use Rattle.surface.specs.Place.{on_surface}
 use Rattle.spans.proofs.Corner.{rect-corner, rect-none}
 use Rattle.spans.proofs.box_on.Statement.{statement}
 use Rattle.spans.proofs.box_on.Tie as tie
@@ -29,7 +29,7 @@ returns-3 : tie.Need-returns-3
 returns-3 c = let a = c.before.before.before.args in
     let x : a.w - 1 ≡ 0 + (a.w - 1) = omega arith in
     let y : a.h - 1 ≡ 0 + (a.h - 1) = omega arith in
-    c.close-on.ensures ∙ ap₂ (onSurface a.s a.len) x y ∙ sym (rect-corner false false a.s a.len 0 0 a.w a.h (omega arith) (omega arith))
+    c.close-on.ensures ∙ ap₂ (on_surface a.s a.len) x y ∙ sym (rect-corner false false a.s a.len 0 0 a.w a.h (omega arith) (omega arith))
 
 pub box-on-spec : {M : Type 1} → statement M
 box-on-spec =

@@ -7,9 +7,9 @@ use mathlib.Core.Path.{sym, ap, ◌∙◌}
 use mathlib.Core.Bool.{◌&&◌}
 use Prim.Native.Nat.{ℕ, ◌<◌, ◌≤◌}
 use lib.Dec.{ltb}
-use Rattle.surface.specs.Place.{rowBytes, byte_at}
+use Rattle.surface.specs.Place.{row_bytes, byte_at}
 use Rattle.surface.proofs.Bytes.{product_lt}
-use Rattle.surface.proofs.OnLaws.{endByte, on-by-end}
+use Rattle.surface.proofs.OnLaws.{end_byte, on-by-end}
 use Rattle.spans.proofs.close_on.Statement.{statement}
 use Rattle.spans.proofs.close_on.Tie as tie
 
@@ -33,14 +33,14 @@ close-at-requires c κs = record { small = c.before.before.before.before.before.
 
 returns : tie.Need-returns
 returns c = let a = c.before.before.before.before.before.before.args in
-    let h : endByte a.s a.x < rowBytes a.s = omega (arith, c.before.if1.true, c.before.before.before.wide.ensures, c.before.before.row-bytes.ensures.0) in
+    let h : end_byte a.s a.x < row_bytes a.s = omega (arith, c.before.if1.true, c.before.before.before.wide.ensures, c.before.before.row-bytes.ensures.0) in
     ap (λ (n : ℕ). ltb n a.len) c.close_at.ensures
-    ∙ sym (on-by-end a.s a.len a.x a.y c.before.before.before.before.before.before.requires.0.some ∙ ap (λ t. t && ltb (byte_at a.s (endByte a.s a.x) a.y) a.len) (lt-ltb _ _ h))
+    ∙ sym (on-by-end a.s a.len a.x a.y c.before.before.before.before.before.before.requires.0.some ∙ ap (λ t. t && ltb (byte_at a.s (end_byte a.s a.x) a.y) a.len) (lt-ltb _ _ h))
 
 returns-2 : tie.Need-returns-2
 returns-2 c = let a = c.before.before.before.before.before.args in
-    let h : rowBytes a.s ≤ endByte a.s a.x = omega (arith, c.if1.false, c.before.before.wide.ensures, c.before.row-bytes.ensures.0) in
-    sym (on-by-end a.s a.len a.x a.y c.before.before.before.before.before.requires.0.some ∙ ap (λ t. t && ltb (byte_at a.s (endByte a.s a.x) a.y) a.len) (le-ltb _ _ h))
+    let h : row_bytes a.s ≤ end_byte a.s a.x = omega (arith, c.if1.false, c.before.before.wide.ensures, c.before.row-bytes.ensures.0) in
+    sym (on-by-end a.s a.len a.x a.y c.before.before.before.before.before.requires.0.some ∙ ap (λ t. t && ltb (byte_at a.s (end_byte a.s a.x) a.y) a.len) (le-ltb _ _ h))
 
 pub close-on-spec : {M : Type 1} → statement M
 close-on-spec =

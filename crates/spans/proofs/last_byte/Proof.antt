@@ -3,13 +3,13 @@
 use borrow.Author.Rules.{rules}
 use native.Mathlib.Omega.{arith}
 use borrow.Author.Tests.{eq-eqb, ne_eqb}
-use Rattle.surface.specs.Place.{firstByte, byte_count}
+use Rattle.surface.specs.Place.{first_byte, byte_count}
 use Rattle.surface.proofs.Bytes.{product_lt}
 use Rattle.spans.proofs.last_byte.Statement.{statement}
 use Rattle.spans.proofs.last_byte.Tie as tie
 
 returns : tie.Need-returns
-unfolding firstByte byte_count
+unfolding first_byte byte_count
 returns c = (rw (eq-eqb _ _ c.if1.true) (omega arith), omega arith)
 
 wide-requires : tie.Need-wide-requires
@@ -28,7 +28,7 @@ add-result : tie.Need-overflow-add-result
 add-result c = omega (arith, product_lt 34 3 {a = c.before.before.before.args.x} {b = c.before.wide.result} c.before.before.before.requires.1 (omega arith))
 
 returns-2 : tie.Need-returns-2
-unfolding firstByte byte_count
+unfolding first_byte byte_count
 returns-2 c =
     let x = c.before.before.before.args.x in
     let small = product_lt 34 3 {a = x} {b = c.before.wide.result} c.before.before.before.requires.1 (omega arith) in

@@ -6,7 +6,7 @@ use mathlib.Core.Path.{sym, ap₂}
 use mathlib.Core.Bool.{false}
 use Prim.Native.Nat.{ℕ, ◌+◌, ◌-◌}
 use Rattle.spans.specs.Span.{span}
-use Rattle.surface.proofs.Rows.{byteAt-small}
+use Rattle.surface.proofs.Rows.{byte_at-small}
 use Rattle.spans.proofs.Spans.{rect-empty}
 use Rattle.spans.proofs.Spans.{rect-span as span-of-rect}
 use Rattle.spans.proofs.rect_span.Statement.{statement}
@@ -65,7 +65,7 @@ add-t9 c =
     omega (
       arith,
       c.byte-at2.ensures,
-      byteAt-small {y = c.before.before.wide5.result + (c.before.wide6.result - 1)} (record { small = c.before.before.before.before.before.before.before.before.before.before.before.before.requires.small; across = c.before.before.before.last_byte.ensures.1; down = omega arith }),
+      byte_at-small {y = c.before.before.wide5.result + (c.before.wide6.result - 1)} (record { small = c.before.before.before.before.before.before.before.before.before.before.before.before.requires.small; across = c.before.before.before.last_byte.ensures.1; down = omega arith }),
     )
 
 returns-3 : tie.Need-returns-3

@@ -5,7 +5,7 @@ use mathlib.Core.Path.{sym, ap, ◌∙◌}
 use native.Mathlib.Omega.{arith}
 use lib.ListN.{length}
 use Rattle.pages.specs.declared.Extent.{Extent}
-use Rattle.acts.specs.Deed.{bankOf}
+use Rattle.acts.specs.Deed.{bank_of}
 use Rattle.stamps.proofs.StampLaws.{past-most, stamped-run, stamped-found}
 use Rattle.stamps.proofs.stamp.Statement.{statement}
 use Rattle.stamps.proofs.stamp.Tie as tie
@@ -20,7 +20,7 @@ set-bits-requires : tie.Need-set-bits-requires
 set-bits-requires c κs =
     let start = c.before.before.before.before.before.before in
     let a = start.args in
-    (start.requires.1, rw c.before.before.extent-of.ensures (past-most (bankOf a.r a.pattern.now) a.blit a.words.now a.mem.now a.count start.requires.0))
+    (start.requires.1, rw c.before.before.extent-of.ensures (past-most (bank_of a.r a.pattern.now) a.blit a.words.now a.mem.now a.count start.requires.0))
 
 same_length : tie.Need-same-length
 same_length c = search rules
@@ -30,7 +30,7 @@ returns c =
     let start = c.before.before.before.before.before.before.before.before.before in
     let a = start.args in
     let e = c.before.before.before.before.before.extent-of.ensures in
-    stamped-run (bankOf a.r a.pattern.now) a.blit a.words.now a.mem.now a.count start.requires.0 a.s.now a.at start.requires.1
+    stamped-run (bank_of a.r a.pattern.now) a.blit a.words.now a.mem.now a.count start.requires.0 a.s.now a.at start.requires.1
     (sym (ap (λ (x : Extent). x.whole) e) ∙ c.before.before.before.before.if1.true) e c.before.before.set-bits.ensures
 
 no-marks-requires : tie.Need-no-marks-requires
@@ -44,7 +44,7 @@ add-marks-requires c κs =
     let start = c.before.before.before.before.before.before.before.before.before.before in
     let a = start.args in (
       start.requires.1,
-      rw c.before.before.before.before.before.before.extent-of.ensures (past-most (bankOf a.r a.pattern.now) a.blit a.words.now a.mem.now a.count start.requires.0),
+      rw c.before.before.before.before.before.before.extent-of.ensures (past-most (bank_of a.r a.pattern.now) a.blit a.words.now a.mem.now a.count start.requires.0),
     )
 
 same-length-2 : tie.Need-same-length-2
@@ -54,7 +54,7 @@ returns-2 : tie.Need-returns-2
 returns-2 c =
     let start = c.before.before.before.before.before.before.before.before.before.before.before.before.before in
     let a = start.args in
-    stamped-found (bankOf a.r a.pattern.now) a.blit a.words.now a.mem.now a.count start.requires.0 a.s.now a.at start.requires.1
+    stamped-found (bank_of a.r a.pattern.now) a.blit a.words.now a.mem.now a.count start.requires.0 a.s.now a.at start.requires.1
     c.before.before.before.before.before.before.before.before.before.extent-of.ensures c.before.before.before.before.before.before.before.no-marks.ensures
     c.before.before.before.before.before.walk.ensures c.before.before.add-marks.ensures
 

@@ -5,16 +5,16 @@ use mathlib.Core.Path.{◌≡◌, ◌∙◌}
 use Prim.Native.Nat.{◌-◌, ◌≤◌}
 use native.Mathlib.Omega.{arith}
 use lib.ListN.{length, length-set}
-use Rattle.state.specs.Layout.{stateSize}
+use Rattle.state.specs.Layout.{state_size}
 use Rattle.state.proofs.Lists.{Cleared, cleared-none, cleared-next, cleared-all}
 use Rattle.state.proofs.clear.Statement.{statement}
 use Rattle.state.proofs.clear.Tie as tie
 
 abbrev invariant-loop : tie.invariant-loop
-invariant-loop s₀ i₀ s i = Cleared s i × ((length s ≡ stateSize) × (i ≤ stateSize))
+invariant-loop s₀ i₀ s i = Cleared s i × ((length s ≡ state_size) × (i ≤ state_size))
 
 abbrev decreases-loop : tie.decreases-loop
-decreases-loop s₀ i₀ s i = stateSize - i
+decreases-loop s₀ i₀ s i = state_size - i
 
 loop-holds : tie.Need-loop-init invariant-loop decreases-loop
 loop-holds c = (cleared-none _, search rules)
@@ -37,7 +37,7 @@ same_length c = search rules
 
 returns : tie.Need-returns invariant-loop decreases-loop
 returns c =
-    let e : c.before.loop.i ≡ stateSize = omega arith in
+    let e : c.before.loop.i ≡ state_size = omega arith in
     cleared-all _ c.before.loop.invariant.1.0 (rw e at c.before.loop.invariant.0)
 
 pub clear_spec : {M : Type 1} → statement M

@@ -4,7 +4,7 @@ use borrow.Author.Rules.{rules}
 use mathlib.Core.Path.{◌≡◌, refl}
 use mathlib.Core.Bool.{Bool, true, false, cond}
 use mir.Val.{bool_byte}
-use Rattle.registers.specs.Regs.{getReg}
+use Rattle.registers.specs.Regs.{get_reg}
 use Rattle.state.specs.Layout.{slot}
 use Rattle.state.proofs.save.Statement.{statement}
 use Rattle.state.proofs.save.Tie as tie
@@ -41,7 +41,7 @@ same_length : tie.Need-same-length
 same_length c = search rules
 
 returns : tie.Need-returns
-unfolding slot getReg
+unfolding slot get_reg
 returns c =
     rw (
       c.before.before.put-word7.ensures.0,

@@ -3,7 +3,7 @@
 use borrow.Author.Rules.{rules}
 use mathlib.Core.Path.{ap, ◌∙◌}
 use Prim.Native.Nat.{ℕ}
-use Rattle.keys.specs.Key.{keyMatch}
+use Rattle.keys.specs.Key.{key_match}
 use Rattle.straight.proofs.is_keyed.Statement.{statement}
 use Rattle.straight.proofs.is_keyed.Tie as tie
 
@@ -13,7 +13,7 @@ key-match-requires c κs = search rules
 returns : tie.Need-returns
 returns c =
     let a = c.before.before.args in
-    rw c.before.if1.true (c.key-match.ensures ∙ ap (λ (f : ℕ). keyMatch f a.t.least a.t.most a.v) c.before.before.requires)
+    rw c.before.if1.true (c.key-match.ensures ∙ ap (λ (f : ℕ). key_match f a.t.least a.t.most a.v) c.before.before.requires)
 
 returns-2 : tie.Need-returns-2
 returns-2 c = rw c.if1.false

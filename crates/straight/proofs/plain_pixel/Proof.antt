@@ -4,7 +4,7 @@ use borrow.Author.Rules.{rules}
 use native.Mathlib.Omega.{arith}
 use mathlib.Core.Path.{ap}
 use mathlib.Core.Bool.{Bool, ◌&&◌}
-use Rattle.keys.specs.Key.{keyMatch}
+use Rattle.keys.specs.Key.{key_match}
 use Rattle.straight.proofs.StraightLaws.{puts}
 use Rattle.straight.proofs.plain_pixel.Statement.{statement}
 use Rattle.straight.proofs.plain_pixel.Tie as tie
@@ -28,7 +28,7 @@ returns c =
     let value = c.before.before.before.convert-by-rule in
     let v = c.before.before.before.before.before.get-bytes in (
       puts a.t a.from a.to a.d a.s v.result a.mem.now p.0.formats v.ensures value.result _ (omega arith)
-          (ap (λ (b : Bool). b && keyMatch a.t.from.bytes a.t.least a.t.most v.result) p.1) value.ensures c.before.before.store_Bytes.ensures.0,
+          (ap (λ (b : Bool). b && key_match a.t.from.bytes a.t.least a.t.most v.result) p.1) value.ensures c.before.before.store_Bytes.ensures.0,
       c.before.before.store_Bytes.ensures.1,
     )
 

@@ -7,7 +7,7 @@ use mathlib.Core.Bool.{false, not}
 use Prim.Native.Nat.{◌+◌}
 use native.Mathlib.Omega.{arith}
 use lib.Dec.{eqb}
-use Rattle.surface.specs.Place.{readBytes}
+use Rattle.surface.specs.Place.{read_bytes}
 use Rattle.paint.proofs.Frame.{Bytes}
 use Rattle.straight.proofs.StraightLaws.{keeps, puts}
 use Rattle.straight.proofs.straight_pixel.Statement.{statement}
@@ -27,7 +27,7 @@ returns c =
     let a = c.before.before.before.before.before.args in
     let p = c.before.before.before.before.before.requires in
     let bytes : Bytes a.mem.now = (λ i. omega (arith, c.before.before.before.before.slice-known.given i)) in
-    let old = readBytes a.mem.now (λ k. a.d + k) 0 a.to in
+    let old = read_bytes a.mem.now (λ k. a.d + k) 0 a.to in
     let same : false ≡ not (eqb old old) = rw (eq-eqb old old refl) in (
       keeps a.t a.from a.to a.d a.s c.before.before.get-bytes.result a.mem.now p.formats c.before.before.get-bytes.ensures
           (omega (arith, p.formats.target, p.stored.few)) bytes (sym c.before.is-keyed.ensures ∙ c.if1.true),

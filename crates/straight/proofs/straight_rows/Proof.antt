@@ -8,16 +8,16 @@ use borrow.Author.Rules.{rules}
 use Rattle.paint.specs.Tally.{tally}
 use Rattle.paint.proofs.Turns.{nth_in}
 use Rattle.paint.proofs.Loops.{RowsLeft, rows-begin, rows_fill, rows-full, rows-sum}
-use Rattle.straight.specs.Straight.{straightGiving}
+use Rattle.straight.specs.Straight.{straight_giving}
 use Rattle.straight.proofs.StraightLaws.{nth-from, can-row}
 use Rattle.straight.proofs.straight_rows.Statement.{statement}
 use Rattle.straight.proofs.straight_rows.Tie as tie
 
 abbrev invariant-loop : tie.invariant-loop
-invariant-loop mem₀ t w h toLeft toTop changed₀ i₀ mem changed i = RowsLeft t.target (λ p now. straightGiving t now p) toLeft toTop t.x t.y w h mem₀ i mem (tally (w * i) changed)
+invariant-loop mem₀ t w h to_left to_top changed₀ i₀ mem changed i = RowsLeft t.target (λ p now. straight_giving t now p) to_left to_top t.x t.y w h mem₀ i mem (tally (w * i) changed)
 
 abbrev decreases-loop : tie.decreases-loop
-decreases-loop mem₀ t w h toLeft toTop changed₀ i₀ mem changed i = h - i
+decreases-loop mem₀ t w h to_left to_top changed₀ i₀ mem changed i = h - i
 
 loop-holds : tie.Need-loop-init invariant-loop decreases-loop
 loop-holds c = rw mul-zero rows-begin
@@ -29,7 +29,7 @@ straight-row-requires : tie.Need-straight-row-requires invariant-loop decreases-
 straight-row-requires c κs =
     let a = c.before.before.before.before.before.args in
     let k = c.before.before.before.loop in
-    let number = nth_in a.toTop 0 a.h k.i c.before.before.loop-test.true in
+    let number = nth_in a.to_top 0 a.h k.i c.before.before.loop-test.true in
     let e = c.before.place.ensures in
     rw k.invariant.left.long (can-row c.before.before.before.before.before.requires c.before.place.result (omega arith))
 
@@ -55,7 +55,7 @@ loop-again c =
     let k = c.before.before.before.before.before.before.loop in
     let j = c.before.before.before.before.place in
     rows_fill k.invariant (a.t.y + j.result) c.before.before.before.before.before.loop-test.true
-    (ap (λ (r : ℕ). a.t.y + r) j.ensures ∙ nth-from a.toTop a.t.y a.h k.i) c.before.before.straight-row.ensures
+    (ap (λ (r : ℕ). a.t.y + r) j.ensures ∙ nth-from a.to_top a.t.y a.h k.i) c.before.before.straight-row.ensures
 
 mul-count : tie.Need-overflow-mul-count invariant-loop decreases-loop
 mul-count c =

@@ -7,9 +7,9 @@ use mathlib.Core.Bool.{false}
 use Prim.Native.Nat.{ℕ, ◌+◌, ◌-◌}
 use Rattle.surface.specs.Pixels.{origin}
 use Rattle.paint.proofs.Loops.{RowLeft, row-begins, row_room, row-goes-on, row-ended}
-use Rattle.sweep.specs.Row.{rowGiving}
-use Rattle.scale.specs.Scale.{walkAt}
-use Rattle.scale.specs.Stretch.{takenAt, pixelTask}
+use Rattle.sweep.specs.Row.{row_giving}
+use Rattle.scale.specs.Scale.{walk_at}
+use Rattle.scale.specs.Stretch.{taken_at, pixel_task}
 use Rattle.stretch.proofs.Taken.{can-step, steps_on, walk_begins, walk-place}
 use Rattle.stretch.proofs.Mixed.{taken-given}
 use Rattle.stretch.proofs.mixed_across.Statement.{statement}
@@ -17,7 +17,7 @@ use Rattle.stretch.proofs.mixed_across.Tie as tie
 
 abbrev invariant-loop : tie.invariant-loop
 invariant-loop mem₀ t source target sy x y w quads ink to walk₀ r₀ i₀ mem walk r i =
-    RowLeft t.ink.target (λ p now. rowGiving (pixelTask t p) quads 0 now p) false x w y mem₀ r₀ i mem r × (walk ≡ walkAt t.columns (origin + (x + i)))
+    RowLeft t.ink.target (λ p now. row_giving (pixel_task t p) quads 0 now p) false x w y mem₀ r₀ i mem r × (walk ≡ walk_at t.columns (origin + (x + i)))
 
 abbrev decreases-loop : tie.decreases-loop
 decreases-loop mem₀ t source target sy x y w quads ink to walk₀ r₀ i₀ mem walk r i = w - i
@@ -111,7 +111,7 @@ loop-less : tie.Need-loop-smaller invariant-loop decreases-loop
 loop-less c = search rules
 
 loop-again : tie.Need-loop-preserved invariant-loop decreases-loop
-unfolding takenAt
+unfolding taken_at
 loop-again c =
     let begin = c.before.before.before.before.before.before.before.before.before.before.before.before.before.before.before.before.before.before in
     let a = begin.args in

@@ -9,9 +9,9 @@ use Rattle.surface.specs.Pixels.{across}
 use Rattle.surface.proofs.Rects.{in-across}
 use Rattle.paint.specs.Paint.{tallied}
 use Rattle.paint.proofs.Turns.{paint-same}
-use Rattle.ink.specs.Pattern.{patternRow}
-use Rattle.sweep.specs.Row.{rowGiving}
-use Rattle.scale.specs.Stretch.{pixelTask, stretchGiving}
+use Rattle.ink.specs.Pattern.{pattern_row}
+use Rattle.sweep.specs.Row.{row_giving}
+use Rattle.scale.specs.Stretch.{pixel_task, stretch_giving}
 use Rattle.stretch.proofs.Mixed.{by-pattern, by-none}
 use Rattle.stretch.proofs.mixed_row.Statement.{statement}
 use Rattle.stretch.proofs.mixed_row.Tie as tie
@@ -31,7 +31,7 @@ returns c =
     let laid = c.before.before.before.before.before.before.before.before.requires.1.1.1.1 in
     let free = sym c.before.before.before.before.before.is-patternless.ensures ∙ c.before.before.before.before.if1.true in
     c.before.before.mixed-across.ensures
-    ∙ paint-same a.t.ink.target (λ p now. rowGiving (pixelTask a.t p) a.blank 0 now p) (λ p now. stretchGiving a.t a.pattern now now p) (across false a.x a.w a.y)
+    ∙ paint-same a.t.ink.target (λ p now. row_giving (pixel_task a.t p) a.blank 0 now p) (λ p now. stretch_giving a.t a.pattern now now p) (across false a.x a.w a.y)
     (λ p i now. by-none a.t a.pattern now p refl a.masks a.blank laid.bits (replicate 8 0) laid.unread free) (tallied a.mem.now a.n)
 
 pattern-row-requires : tie.Need-pattern-row-requires
@@ -57,8 +57,8 @@ returns-2 c =
     let values = c.before.before.before.before.before.row-values in
     let row = c.before.before.before.before.before.before.pattern-row.ensures.0 in
     c.before.before.mixed-across2.ensures
-    ∙ paint-same a.t.ink.target (λ p now. rowGiving (pixelTask a.t p) quads.result 0 now p) (λ p now. stretchGiving a.t a.pattern now now p) (across false a.x a.w a.y)
-    (λ p i now. by-pattern a.t a.pattern now p (row ∙ ap (λ (y : ℕ). patternRow a.t.ink y) (sym (in-across false a.x a.w a.y p i).2)) a.masks quads.result laid.bits
+    ∙ paint-same a.t.ink.target (λ p now. row_giving (pixel_task a.t p) quads.result 0 now p) (λ p now. stretch_giving a.t a.pattern now now p) (across false a.x a.w a.y)
+    (λ p i now. by-pattern a.t a.pattern now p (row ∙ ap (λ (y : ℕ). pattern_row a.t.ink y) (sym (in-across false a.x a.w a.y p i).2)) a.masks quads.result laid.bits
     values.result quads.ensures values.ensures)
     (tallied a.mem.now a.n)
 

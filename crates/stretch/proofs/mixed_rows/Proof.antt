@@ -8,16 +8,16 @@ use Prim.Native.Nat.{◌+◌, ◌-◌}
 use Rattle.surface.specs.Pixels.{origin}
 use Rattle.paint.proofs.Loops.{RowsLeft, rows-begin, rows-room, rows-go-on, rows-ended}
 use Rattle.sweep.specs.Asked.{Laid}
-use Rattle.scale.specs.Scale.{walkAt}
-use Rattle.scale.specs.Stretch.{stretchGiving}
-use Rattle.stretch.specs.Row.{openTask}
+use Rattle.scale.specs.Scale.{walk_at}
+use Rattle.scale.specs.Stretch.{stretch_giving}
+use Rattle.stretch.specs.Row.{open_task}
 use Rattle.stretch.proofs.Taken.{can-step, steps_on, walk_begins, walk-place, can-take, can-row}
 use Rattle.stretch.proofs.mixed_rows.Statement.{statement}
 use Rattle.stretch.proofs.mixed_rows.Tie as tie
 
 abbrev invariant-loop : tie.invariant-loop
 invariant-loop mem₀ t columns pattern x y w h source target masks blank walk₀ n₀ j₀ mem walk n j =
-    RowsLeft t.ink.target (λ p now. stretchGiving t pattern now now p) false false x y w h mem₀ j mem n × (walk ≡ walkAt t.rows (origin + (y + j)))
+    RowsLeft t.ink.target (λ p now. stretch_giving t pattern now now p) false false x y w h mem₀ j mem n × (walk ≡ walk_at t.rows (origin + (y + j)))
 
 abbrev decreases-loop : tie.decreases-loop
 decreases-loop mem₀ t columns pattern x y w h source target masks blank walk₀ n₀ j₀ mem walk n j = h - j
@@ -52,8 +52,8 @@ mixed-row-requires c κs =
     let k = c.before.before.before.loop in
     let more = c.before.before.loop-test.true in
     let room = rows-room k.invariant.0 (omega (arith, p.can.wide)) (omega (arith, p.can.high)) more in
-    let laid : Laid (openTask c.before.before.before.before.before.before.before.before.before.before.args.t) _ _ = record { bits = c.before.before.before.before.before.masks-of.ensures; unread = c.before.before.before.before.quads-of.ensures } in
-    rw (k.invariant.0.left.long, walk-place c.before.before.before.before.before.before.before.before.before.before.args.t.rows _ k.invariant.1) ((can-row p.can k.j p.wide more, room), (p.columnsAt, (refl, ((c.before.before.before.before.before.before.before.range-of.ensures, c.before.before.before.before.before.before.range-of2.ensures), laid))))
+    let laid : Laid (open_task c.before.before.before.before.before.before.before.before.before.before.args.t) _ _ = record { bits = c.before.before.before.before.before.masks-of.ensures; unread = c.before.before.before.before.quads-of.ensures } in
+    rw (k.invariant.0.left.long, walk-place c.before.before.before.before.before.before.before.before.before.before.args.t.rows _ k.invariant.1) ((can-row p.can k.j p.wide more, room), (p.columns_at, (refl, ((c.before.before.before.before.before.before.before.range-of.ensures, c.before.before.before.before.before.before.range-of2.ensures), laid))))
 
 next-requires : tie.Need-next-requires invariant-loop decreases-loop
 next-requires c κs =

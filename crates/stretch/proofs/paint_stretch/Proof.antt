@@ -9,7 +9,7 @@ use Rattle.surface.specs.Pixels.{rect}
 use Rattle.surface.proofs.OnLaws.{pos-of-ne}
 use Rattle.rect.specs.Fast.{straight}
 use Rattle.rect.proofs.Straight.{coloured}
-use Rattle.stretch.specs.Row.{openTask}
+use Rattle.stretch.specs.Row.{open_task}
 use Rattle.stretch.specs.Asked.{Begins}
 use Rattle.stretch.proofs.Straight.{straight-only}
 use Rattle.stretch.proofs.Order.{nothing_left, in-turn, straight-turn}
@@ -47,9 +47,9 @@ is-straight-requires c κs = search rules
 straight-rows-requires : tie.Need-straight-rows-requires
 straight-rows-requires c κs =
     let both = straight-only c.before.before.before.before.before.before.before.before.before.before.before.args.t _ c.before.if3.true in
-    let is : straight (openTask c.before.before.before.before.before.before.before.before.before.before.before.args.t) ≡ true = sym (ap straight c.before.before.before.task-of.ensures) ∙ sym c.before.before.is-straight.ensures ∙ both.1 in
-    let begins : Begins c.before.before.before.before.before.before.before.before.before.before.before.args.t _ _ c.before.before.before.before.before.before.before.before.before.before.before.args.x c.before.before.before.before.before.before.before.before.before.before.before.args.y c.before.before.before.before.before.before.before.before.before.before.before.args.w c.before.before.before.before.before.before.before.before.before.before.before.args.h (length c.before.before.before.before.before.before.before.before.before.before.before.args.mem.now) = record { can = c.before.before.before.before.before.before.before.before.before.before.before.requires; wide = omega (arith, c.before.before.before.before.before.before.before.before.before.if1.false); high = omega (arith, c.before.before.before.before.before.before.before.before.if2.false); columnsAt = c.before.before.before.before.before.before.before.start.ensures; rows_at = c.before.before.before.before.before.before.start2.ensures } in
-    (begins, (pos-of-ne (coloured (openTask c.before.before.before.before.before.before.before.before.before.before.before.args.t) is), both.0))
+    let is : straight (open_task c.before.before.before.before.before.before.before.before.before.before.before.args.t) ≡ true = sym (ap straight c.before.before.before.task-of.ensures) ∙ sym c.before.before.is-straight.ensures ∙ both.1 in
+    let begins : Begins c.before.before.before.before.before.before.before.before.before.before.before.args.t _ _ c.before.before.before.before.before.before.before.before.before.before.before.args.x c.before.before.before.before.before.before.before.before.before.before.before.args.y c.before.before.before.before.before.before.before.before.before.before.before.args.w c.before.before.before.before.before.before.before.before.before.before.before.args.h (length c.before.before.before.before.before.before.before.before.before.before.before.args.mem.now) = record { can = c.before.before.before.before.before.before.before.before.before.before.before.requires; wide = omega (arith, c.before.before.before.before.before.before.before.before.before.if1.false); high = omega (arith, c.before.before.before.before.before.before.before.before.if2.false); columns_at = c.before.before.before.before.before.before.before.start.ensures; rows_at = c.before.before.before.before.before.before.start2.ensures } in
+    (begins, (pos-of-ne (coloured (open_task c.before.before.before.before.before.before.before.before.before.before.before.args.t) is), both.0))
 
 same_length : tie.Need-same-length
 same_length c = search rules
@@ -57,11 +57,11 @@ same_length c = search rules
 returns-3 : tie.Need-returns-3
 returns-3 c =
     let a = c.before.before.before.before.before.before.before.before.before.before.before.before.before.before.args in
-    let is : straight (openTask a.t) ≡ true = sym (ap straight c.before.before.before.before.before.before.task-of.ensures) ∙ sym c.before.before.before.before.before.is-straight.ensures ∙ (straight-only c.before.before.before.before.before.before.before.before.before.before.before.before.before.before.args.t _ c.before.before.before.before.if3.true).1 in
+    let is : straight (open_task a.t) ≡ true = sym (ap straight c.before.before.before.before.before.before.task-of.ensures) ∙ sym c.before.before.before.before.before.is-straight.ensures ∙ (straight-only c.before.before.before.before.before.before.before.before.before.before.before.before.before.before.args.t _ c.before.before.before.before.if3.true).1 in
     c.before.before.straight-rows.ensures ∙ straight-turn a.t is a.pattern a.mem.now (rect false false a.x a.y a.w a.h) ∙ in-turn c.before.before.before.before.before.before.before.before.before.before.before.before.before.before.requires a.pattern a.mem.now
 
 mixed-rows-requires : tie.Need-mixed-rows-requires
-mixed-rows-requires c κs = record { can = c.before.before.before.before.before.before.before.before.before.before.before.requires; wide = omega (arith, c.before.before.before.before.before.before.before.before.before.if1.false); high = omega (arith, c.before.before.before.before.before.before.before.before.if2.false); columnsAt = c.before.before.before.before.before.before.before.start.ensures; rows_at = c.before.before.before.before.before.before.start2.ensures }
+mixed-rows-requires c κs = record { can = c.before.before.before.before.before.before.before.before.before.before.before.requires; wide = omega (arith, c.before.before.before.before.before.before.before.before.before.if1.false); high = omega (arith, c.before.before.before.before.before.before.before.before.if2.false); columns_at = c.before.before.before.before.before.before.before.start.ensures; rows_at = c.before.before.before.before.before.before.start2.ensures }
 
 same-length-2 : tie.Need-same-length-2
 same-length-2 c = search rules

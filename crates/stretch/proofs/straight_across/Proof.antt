@@ -6,14 +6,14 @@ use mathlib.Core.Path.{◌≡◌}
 use Prim.Native.Nat.{◌+◌, ◌-◌}
 use Rattle.surface.specs.Pixels.{origin}
 use Rattle.paint.proofs.Loops.{row-begins, row-full}
-use Rattle.scale.specs.Scale.{walkAt}
+use Rattle.scale.specs.Scale.{walk_at}
 use Rattle.stretch.proofs.Taken.{can-step, steps_on, walk_begins, walk-place}
 use Rattle.stretch.proofs.Straight.{Copying, pixel-copies, row-copies}
 use Rattle.stretch.proofs.straight_across.Statement.{statement}
 use Rattle.stretch.proofs.straight_across.Tie as tie
 
 abbrev invariant-loop : tie.invariant-loop
-invariant-loop mem₀ t keyed from to d s x y w walk₀ r₀ i₀ mem walk r i = Copying t x w y mem₀ i r mem × (walk ≡ walkAt t.columns (origin + (x + i)))
+invariant-loop mem₀ t keyed from to d s x y w walk₀ r₀ i₀ mem walk r i = Copying t x w y mem₀ i r mem × (walk ≡ walk_at t.columns (origin + (x + i)))
 
 abbrev decreases-loop : tie.decreases-loop
 decreases-loop mem₀ t keyed from to d s x y w walk₀ r₀ i₀ mem walk r i = w - i

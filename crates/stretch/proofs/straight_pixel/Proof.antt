@@ -7,7 +7,7 @@ use lib.ListN.{length}
 use Rattle.straight.specs.declared.Straight.{Straight}
 use Rattle.straight.specs.Straight.{copied}
 use Rattle.straight.specs.Asked.{PixelCopies}
-use Rattle.rect.specs.Fast.{straightOf}
+use Rattle.rect.specs.Fast.{straight_of}
 use Rattle.stretch.proofs.straight_pixel.Statement.{statement}
 use Rattle.stretch.proofs.straight_pixel.Tie as tie
 
@@ -20,7 +20,7 @@ straight-of-requires c κs = search rules
 straight-pixel-requires : tie.Need-straight-pixel-requires
 straight-pixel-requires c κs =
     let a = c.before.before.before.before.before.args in
-    subst⁻¹ (λ (k : Straight). PixelCopies k a.from a.to a.d a.s (length a.mem.now)) (c.before.before.straight-of.ensures ∙ ap straightOf c.before.before.before.task-of.ensures) c.before.before.before.before.before.requires.0
+    subst⁻¹ (λ (k : Straight). PixelCopies k a.from a.to a.d a.s (length a.mem.now)) (c.before.before.straight-of.ensures ∙ ap straight_of c.before.before.before.task-of.ensures) c.before.before.before.before.before.requires.0
 
 same_length : tie.Need-same-length
 same_length c = search rules
@@ -28,15 +28,15 @@ same_length c = search rules
 returns : tie.Need-returns
 returns c =
     let a = c.before.before.before.before.before.before.before.before.args in (
-      c.before.before.straight-pixel.ensures.0 ∙ ap (λ (k : Straight). copied k a.d a.s a.mem.now) (c.before.before.before.before.before.straight-of.ensures ∙ ap straightOf c.before.before.before.before.before.before.task-of.ensures),
+      c.before.before.straight-pixel.ensures.0 ∙ ap (λ (k : Straight). copied k a.d a.s a.mem.now) (c.before.before.before.before.before.straight-of.ensures ∙ ap straight_of c.before.before.before.before.before.before.task-of.ensures),
       c.before.before.straight-pixel.ensures.1,
     )
 
 plain-pixel-requires : tie.Need-plain-pixel-requires
-unfolding straightOf
+unfolding straight_of
 plain-pixel-requires c κs =
     let a = c.before.before.before.before.before.args in
-    subst⁻¹ (λ (k : Straight). PixelCopies k a.from a.to a.d a.s (length a.mem.now) × (k.key ≡ false)) (c.before.before.straight-of.ensures ∙ ap straightOf c.before.before.before.task-of.ensures)
+    subst⁻¹ (λ (k : Straight). PixelCopies k a.from a.to a.d a.s (length a.mem.now) × (k.key ≡ false)) (c.before.before.straight-of.ensures ∙ ap straight_of c.before.before.before.task-of.ensures)
     (c.before.before.before.before.before.requires.0, sym c.before.before.before.before.before.requires.1 ∙ c.before.if1.false)
 
 same-length-2 : tie.Need-same-length-2
@@ -45,7 +45,7 @@ same-length-2 c = search rules
 returns-2 : tie.Need-returns-2
 returns-2 c =
     let a = c.before.before.before.before.before.before.before.before.args in (
-      c.before.before.plain-pixel.ensures.0 ∙ ap (λ (k : Straight). copied k a.d a.s a.mem.now) (c.before.before.before.before.before.straight-of.ensures ∙ ap straightOf c.before.before.before.before.before.before.task-of.ensures),
+      c.before.before.plain-pixel.ensures.0 ∙ ap (λ (k : Straight). copied k a.d a.s a.mem.now) (c.before.before.before.before.before.straight-of.ensures ∙ ap straight_of c.before.before.before.before.before.before.task-of.ensures),
       c.before.before.plain-pixel.ensures.1,
     )
 

@@ -9,15 +9,15 @@ use Prim.Native.Nat.{◌+◌, ◌-◌, ◌*◌, ◌^◌}
 use Rattle.surface.specs.Pixels.{origin}
 use Rattle.paint.specs.Tally.{tally}
 use Rattle.paint.proofs.Loops.{RowsLeft, rows-begin, rows_fill, rows-full, rows-sum}
-use Rattle.scale.specs.Scale.{walkAt}
+use Rattle.scale.specs.Scale.{walk_at}
 use Rattle.stretch.proofs.Taken.{can-step, steps_on, walk_begins, walk-place, can-take, can-row}
-use Rattle.stretch.proofs.Straight.{straightlyAt}
+use Rattle.stretch.proofs.Straight.{straightly_at}
 use Rattle.stretch.proofs.straight_rows.Statement.{statement}
 use Rattle.stretch.proofs.straight_rows.Tie as tie
 
 abbrev invariant-loop : tie.invariant-loop
 invariant-loop mem₀ t columns x y w h walk₀ changed₀ j₀ mem walk changed j =
-    RowsLeft t.ink.target (straightlyAt t) false false x y w h mem₀ j mem (tally (w * j) changed) × (walk ≡ walkAt t.rows (origin + (y + j)))
+    RowsLeft t.ink.target (straightly_at t) false false x y w h mem₀ j mem (tally (w * j) changed) × (walk ≡ walk_at t.rows (origin + (y + j)))
 
 abbrev decreases-loop : tie.decreases-loop
 decreases-loop mem₀ t columns x y w h walk₀ changed₀ j₀ mem walk changed j = h - j
@@ -39,7 +39,7 @@ straight-row-requires c κs =
     let p = c.before.before.before.before.before.requires in
     let k = c.before.before.before.loop in
     let place = walk-place c.before.before.before.before.before.args.t.rows _ k.invariant.1 in
-    rw (k.invariant.0.left.long, place) (can-row p.0.can k.j p.0.wide c.before.before.loop-test.true, (p.0.columnsAt, (refl, p.1)))
+    rw (k.invariant.0.left.long, place) (can-row p.0.can k.j p.0.wide c.before.before.loop-test.true, (p.0.columns_at, (refl, p.1)))
 
 add-changed : tie.Need-overflow-add-changed invariant-loop decreases-loop
 add-changed c =

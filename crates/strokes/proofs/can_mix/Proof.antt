@@ -14,7 +14,7 @@ returns : tie.Need-returns
 returns c =
     let a = c.before.before.before.before.before.before.args in
     ap (λ s. s && not a.ink.target.tiled)
-    (ap₂ (λ s t. (((not a.ink.dstKey && not a.ink.mono) && not a.pen.stippled) && s) && t) c.before.before.covers.ensures c.before.covers2.ensures)
+    (ap₂ (λ s t. (((not a.ink.dst_key && not a.ink.mono) && not a.pen.stippled) && s) && t) c.before.before.covers.ensures c.before.covers2.ensures)
 
 pub can-mix-spec : {M : Type 1} → statement M
 can-mix-spec = tie.close (tie.spec covers-requires covers-requires-2 returns)

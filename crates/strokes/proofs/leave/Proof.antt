@@ -1,7 +1,7 @@
 -- `strokes::leave` meets its contract: along the major axis, or where it was sought.
 -- Assumes nothing.
 use Rattle.std.proofs.Common.{ℕ, ◌+◌, ◌-◌, ◌<◌, ◌≤◌, min, Bool, true, false, cond, leb, sym, refl, ap, ◌∙◌, subst, ap₂, arith, rules}
-use Rattle.paint.specs.Clip.{inClip}
+use Rattle.paint.specs.Clip.{in_clip}
 use Rattle.paint.proofs.ClipLaws.{Covered, in-clip}
 use Rattle.line.specs.declared.Point.{Point}
 use Rattle.line.proofs.Sides.{count-le, longer-lt}
@@ -42,7 +42,7 @@ returns : tie.Need-returns
 returns c =
     let a = c.before.before.before.before.before.before.before.before.before.before.args in
     let here = way-point (record { long = refl; short = refl; upto = omega (arith, count-le c.before.before.before.before.before.before.before.before.before.before.args.l, c.before.before.before.before.before.before.before.before.before.before.requires.2.before); at = c.before.before.before.before.before.before.before.before.before.before.requires.2.spot.walk c.before.before.before.before.before.before.before.before.before.before.requires.2.before }) c.before.before.before.before.before.before.before.before.before.place-point.ensures in
-    leaves-x a.c a.l a.from c.before.before.before.before.before.before.before.before.before.before.requires.2 (sym c.before.before.before.before.before.before.before.x-major.ensures ∙ c.before.before.before.before.before.before.if1.true) (ap (λ (p : Point). inClip a.c p.x a.l.y1) (sym here) ∙ sym c.before.before.before.before.before.covers.ensures ∙ c.before.before.before.before.if2.true) _
+    leaves-x a.c a.l a.from c.before.before.before.before.before.before.before.before.before.before.requires.2 (sym c.before.before.before.before.before.before.before.x-major.ensures ∙ c.before.before.before.before.before.before.if1.true) (ap (λ (p : Point). in_clip a.c p.x a.l.y1) (sym here) ∙ sym c.before.before.before.before.before.covers.ensures ∙ c.before.before.before.before.if2.true) _
     (c.least.ensures ∙ ap₂ (λ (t r : ℕ). min t (a.from.at + r)) c.before.before.before.before.before.before.before.before.point-count.ensures (c.before.before.room.ensures ∙ ap (λ (p : Point). cond (leb a.l.x0 a.l.x1) (16384 + a.c.right - p.x) (p.x + 1 - (16384 + a.c.left))) here))
 
 covers-requires-2 : tie.Need-covers-requires-2
@@ -63,7 +63,7 @@ returns-2 : tie.Need-returns-2
 returns-2 c =
     let a = c.before.before.before.before.before.before.before.before.before.before.args in
     let here = way-point (record { long = refl; short = refl; upto = omega (arith, count-le c.before.before.before.before.before.before.before.before.before.before.args.l, c.before.before.before.before.before.before.before.before.before.before.requires.2.before); at = c.before.before.before.before.before.before.before.before.before.before.requires.2.spot.walk c.before.before.before.before.before.before.before.before.before.before.requires.2.before }) c.before.before.before.before.before.before.before.before.before.place-point.ensures in
-    leaves-y a.c a.l a.from c.before.before.before.before.before.before.before.before.before.before.requires.2 (sym c.before.before.before.before.before.before.before.x-major.ensures ∙ c.before.before.before.before.before.before.if1.false) (ap (λ (p : Point). inClip a.c a.l.x1 p.y) (sym here) ∙ sym c.before.before.before.before.before.covers2.ensures ∙ c.before.before.before.before.if3.true) _
+    leaves-y a.c a.l a.from c.before.before.before.before.before.before.before.before.before.before.requires.2 (sym c.before.before.before.before.before.before.before.x-major.ensures ∙ c.before.before.before.before.before.before.if1.false) (ap (λ (p : Point). in_clip a.c a.l.x1 p.y) (sym here) ∙ sym c.before.before.before.before.before.covers2.ensures ∙ c.before.before.before.before.if3.true) _
     (c.least2.ensures ∙ ap₂ (λ (t r : ℕ). min t (a.from.at + r)) c.before.before.before.before.before.before.before.before.point-count.ensures (c.before.before.room2.ensures ∙ ap (λ (p : Point). cond (leb a.l.y0 a.l.y1) (16384 + a.c.bottom - p.y) (p.y + 1 - (16384 + a.c.top))) here))
 
 seek-out-requires : tie.Need-seek-out-requires

@@ -3,27 +3,27 @@
 use Rattle.std.proofs.Common.{◌≡◌, ℕ, ◌+◌, ◌-◌, ◌/◌, ◌%◌, ◌^◌, ◌<◌, ◌≤◌, [], ◌∷◌, length, sym, refl, ap, ◌∙◌, ap₂, arith, rules}
 use mathlib.Core.Path.{subst⁻¹}
 use mathlib.Core.Option.{Option, some}
-use Rattle.surface.specs.Place.{byte_of, readBytes}
+use Rattle.surface.specs.Place.{byte_of, read_bytes}
 use Rattle.surface.specs.Pixels.{origin}
 use Rattle.surface.specs.Asked.{Held}
-use Rattle.surface.proofs.Run.{in_rows, pixel-held, read-run}
+use Rattle.surface.proofs.Run.{in-rows, pixel-held, read-run}
 use Rattle.raster.specs.declared.Quad.{Quad}
-use Rattle.raster.specs.Masks.{quadOf, quadMade}
-use Rattle.ink.specs.Pattern.{patternColumn, patternRow, patternValue}
+use Rattle.raster.specs.Masks.{quad_of, quad_made}
+use Rattle.ink.specs.Pattern.{pattern_column, pattern_row, pattern_value}
 use Rattle.paint.specs.Tally.{tally}
-use Rattle.paint.specs.Paint.{tallied, dab, dabAt, paint}
-use Rattle.paint.specs.Mix.{bitSource, mixed}
-use Rattle.paint.specs.Clip.{pixelAt}
+use Rattle.paint.specs.Paint.{tallied, dab, dab_at, paint}
+use Rattle.paint.specs.Mix.{bit_source, mixed}
+use Rattle.paint.specs.Clip.{pixel_at}
 use Rattle.paint.proofs.Tallies.{room-first}
 use Rattle.paint.proofs.Turns.{dab-at}
 use Rattle.paint.proofs.Loops.{Left, left-begins, left-takes, left_ended}
-use Rattle.line.specs.Line.{pointAt, pointCount, pointsFrom, points}
+use Rattle.line.specs.Line.{point_at, point_count, points_from, points}
 use Rattle.line.proofs.Sides.{count-le, longer-lt}
 use Rattle.line.proofs.PointLaws.{point-box, from_start}
 use Rattle.strokes.specs.declared.Walk.{Walk}
 use Rattle.strokes.specs.declared.Track.{Track}
 use Rattle.strokes.specs.Walk.{steps_of, AtPoint}
-use Rattle.strokes.specs.Mixed.{pair_of, pair_at, trackOf, mixTouches}
+use Rattle.strokes.specs.Mixed.{pair_of, pair_at, track_of, mix_touches}
 use Rattle.strokes.proofs.WalkLaws.{steps-small, walk_start, walk-next}
 use Rattle.strokes.proofs.MixedLaws.{pair-address, pair-low, place-said, column-said, row-said, point-given, mix-left, mix-none}
 use Rattle.strokes.proofs.mix_points.Statement.{statement}
@@ -31,33 +31,33 @@ use Rattle.strokes.proofs.mix_points.Tie as tie
 
 abbrev invariant-loop : tie.invariant-loop
 invariant-loop mem₀ n flip pattern track q t w₀ r₀ i₀ mem w r i =
-    Left track.ink.target (mixTouches track.ink pattern (points track.line)) mem₀ (tally 0 0) i (mixTouches track.ink pattern (pointsFrom track.line i (pointCount track.line - i))) mem r
-    × (i < pointCount track.line → AtPoint (pair_of track.ink) track.line i w)
-    × (i ≤ pointCount track.line)
+    Left track.ink.target (mix_touches track.ink pattern (points track.line)) mem₀ (tally 0 0) i (mix_touches track.ink pattern (points_from track.line i (point_count track.line - i))) mem r
+    × (i < point_count track.line → AtPoint (pair_of track.ink) track.line i w)
+    × (i ≤ point_count track.line)
 
 abbrev decreases-loop : tie.decreases-loop
-decreases-loop mem₀ n flip pattern track q t w₀ r₀ i₀ mem w r i = pointCount track.line - i
+decreases-loop mem₀ n flip pattern track q t w₀ r₀ i₀ mem w r i = point_count track.line - i
 
 -- what was worked out before, and what an address says
 module _ (c : tie.Start invariant-loop decreases-loop) where
-  count : c.args.track.total ≡ pointCount c.args.track.line
-  unfolding trackOf
+  count : c.args.track.total ≡ point_count c.args.track.line
+  unfolding track_of
   count = ap (λ (u : Track). u.total) c.requires.worked
 
   course : c.args.track.steps ≡ steps_of (pair_of c.args.track.ink).bytes (pair_of c.args.track.ink).stride c.args.track.line
-  unfolding trackOf
+  unfolding track_of
   course = ap (λ (u : Track). u.steps) c.requires.worked
 
-  four : c.args.track.quad ≡ quadOf c.args.track.ink.rop0 c.args.track.ink.fore
-  unfolding trackOf
+  four : c.args.track.quad ≡ quad_of c.args.track.ink.rop0 c.args.track.ink.fore
+  unfolding track_of
   four = ap (λ (u : Track). u.quad) c.requires.worked
 
-  module _ (i : ℕ) (h : i < pointCount c.args.track.line) (w : Walk) (at : AtPoint (pair_of c.args.track.ink) c.args.track.line i w) where
+  module _ (i : ℕ) (h : i < point_count c.args.track.line) (w : Walk) (at : AtPoint (pair_of c.args.track.ink) c.args.track.line i w) where
     abbrev x : ℕ
-    x = (pointAt c.args.track.line i).x - origin
+    x = (point_at c.args.track.line i).x - origin
 
     abbrev y : ℕ
-    y = (pointAt c.args.track.line i).y - origin
+    y = (point_at c.args.track.line i).y - origin
 
     near-x : x < 8192
     near-x = let b = point-box c.args.track.line i (omega (arith, count-le c.args.track.line)) in omega (arith, b.x.high, c.requires.mixable.walkable.ahead.line.x0, c.requires.mixable.walkable.ahead.line.x1)
@@ -71,7 +71,7 @@ module _ (c : tie.Start invariant-loop decreases-loop) where
     place : w.at % 2 ^ 32 ≡ byte_of c.args.track.ink.target x y 0
     place = ap (λ (z : ℕ). z % 2 ^ 32) both ∙ place-said c.args.track.ink c.requires.mixable.walkable.flat c.requires.mixable.walkable.surface x y near-x near-y
 
-    cell : (w.at / 2 ^ 32 % 8 ≡ patternColumn c.args.track.ink x) × (w.at / 2 ^ 46 % 8 ≡ patternRow c.args.track.ink y)
+    cell : (w.at / 2 ^ 32 % 8 ≡ pattern_column c.args.track.ink x) × (w.at / 2 ^ 46 % 8 ≡ pattern_row c.args.track.ink y)
     cell = (
       ap (λ (z : ℕ). z / 2 ^ 32 % 8) both ∙ column-said c.args.track.ink c.requires.mixable.walkable.flat c.requires.mixable.walkable.surface x y near-x near-y,
       ap (λ (z : ℕ). z / 2 ^ 46 % 8) both ∙ row-said c.args.track.ink c.requires.mixable.walkable.flat c.requires.mixable.walkable.surface x y near-x near-y,
@@ -81,13 +81,13 @@ module _ (c : tie.Start invariant-loop decreases-loop) where
     held : {len : ℕ} → len ≡ length c.args.mem.now → Held (w.at % 2 ^ 32) c.args.n len
     held long =
         let p = c.requires.mixable.walkable in
-        rw (long, c.requires.bytes) (pixel-held (in_rows p.flat) (record { colour = p.surface; on = p.on i h }) (w.at % 2 ^ 32) place)
+        rw (long, c.requires.bytes) (pixel-held (in-rows p.flat) (record { colour = p.surface; on = p.on i h }) (w.at % 2 ^ 32) place)
 
 loop-holds : tie.Need-loop-init invariant-loop decreases-loop
-unfolding trackOf
+unfolding track_of
 loop-holds c =
     let a = c.before.before.before.before.args in (
-      left-begins (ap (mixTouches a.track.ink a.pattern.now) (from_start a.track.line (pointCount a.track.line) refl)),
+      left-begins (ap (mix_touches a.track.ink a.pattern.now) (from_start a.track.line (point_count a.track.line) refl)),
       (λ h. subst⁻¹ (λ (u : Track). AtPoint (pair_of a.track.ink) a.track.line 0 u.walk) c.before.before.before.before.requires.worked (walk_start _ _ _ _ (sym (pair-address a.track.ink c.before.before.before.before.requires.mixable.walkable.flat _ _)) refl)),
       omega arith,
     )
@@ -97,7 +97,7 @@ wide-requires c κs = search rules
 
 get-bytes-requires : tie.Need-get-bytes-requires invariant-loop decreases-loop
 get-bytes-requires c κs =
-    let h : c.before.before.before.before.loop.i < pointCount c.before.before.before.before.before.before.before.before.before.args.track.line = omega (arith, c.before.before.before.wide.ensures, count c.before.before.before.before.before.before.before.before.before) in
+    let h : c.before.before.before.before.loop.i < point_count c.before.before.before.before.before.before.before.before.before.args.track.line = omega (arith, c.before.before.before.wide.ensures, count c.before.before.before.before.before.before.before.before.before) in
     held c.before.before.before.before.before.before.before.before.before c.before.before.before.before.loop.i h c.before.before.before.before.loop.w (c.before.before.before.before.loop.invariant.1 h) c.before.before.before.before.loop.invariant.0.long
 
 cell-of-requires : tie.Need-cell-of-requires invariant-loop decreases-loop
@@ -110,7 +110,7 @@ by-quad-requires c κs = search rules
 
 put-value-at-requires : tie.Need-put-value-at-requires invariant-loop decreases-loop
 put-value-at-requires c κs =
-    let h : c.before.before.before.before.before.before.before.before.loop.i < pointCount c.before.before.before.before.before.before.before.before.before.before.before.before.before.args.track.line = omega (arith, c.before.before.before.before.before.before.before.wide.ensures, count c.before.before.before.before.before.before.before.before.before.before.before.before.before) in (
+    let h : c.before.before.before.before.before.before.before.before.loop.i < point_count c.before.before.before.before.before.before.before.before.before.before.before.before.before.args.track.line = omega (arith, c.before.before.before.before.before.before.before.wide.ensures, count c.before.before.before.before.before.before.before.before.before.before.before.before.before) in (
       held c.before.before.before.before.before.before.before.before.before.before.before.before.before c.before.before.before.before.before.before.before.before.loop.i h c.before.before.before.before.before.before.before.before.loop.w (c.before.before.before.before.before.before.before.before.loop.invariant.1 h) c.before.before.before.before.before.before.before.before.loop.invariant.0.long,
       room-first c.before.before.before.before.before.before.before.before.loop.invariant.0.upto (omega (arith, longer-lt c.before.before.before.before.before.before.before.before.before.before.before.before.before.requires.mixable.walkable.ahead.line, count-le c.before.before.before.before.before.before.before.before.before.before.before.before.before.args.track.line)),
     )
@@ -133,19 +133,19 @@ loop-again c =
     let l = a.track.line in
     let p = c.before.before.before.before.before.before.before.before.before.before.before.before.before.before.before.before.before.requires in
     let w = p.mixable.walkable in
-    let h : k.i < pointCount c.before.before.before.before.before.before.before.before.before.before.before.before.before.before.before.before.before.args.track.line = omega (arith, c.before.before.before.before.before.before.before.before.before.before.before.wide.ensures, count c.before.before.before.before.before.before.before.before.before.before.before.before.before.before.before.before.before) in
+    let h : k.i < point_count c.before.before.before.before.before.before.before.before.before.before.before.before.before.before.before.before.before.args.track.line = omega (arith, c.before.before.before.before.before.before.before.before.before.before.before.wide.ensures, count c.before.before.before.before.before.before.before.before.before.before.before.before.before.before.before.before.before) in
     let at = k.invariant.1 h in
-    let q = pointAt l k.i in
+    let q = point_at l k.i in
     let here = place c.before.before.before.before.before.before.before.before.before.before.before.before.before.before.before.before.before k.i h k.w at in
-    let old = c.before.before.before.before.before.before.before.get-bytes.ensures ∙ ap (readBytes k.mem (λ j. k.w.at % 2 ^ 32 + j) 0) p.bytes ∙ read-run s (in_rows w.flat) (q.x - origin) (q.y - origin) _ here k.mem in
-    let value = c.before.before.before.before.before.by-quad.ensures ∙ ap₂ (λ (f : Quad) (o : ℕ). quadMade a.flip f o c.before.before.before.before.before.before.before.get-bytes.result) (four c.before.before.before.before.before.before.before.before.before.before.before.before.before.before.before.before.before) c.before.before.before.before.before.before.cell-of.ensures in
+    let old = c.before.before.before.before.before.before.before.get-bytes.ensures ∙ ap (read_bytes k.mem (λ j. k.w.at % 2 ^ 32 + j) 0) p.bytes ∙ read-run s (in-rows w.flat) (q.x - origin) (q.y - origin) _ here k.mem in
+    let value = c.before.before.before.before.before.by-quad.ensures ∙ ap₂ (λ (f : Quad) (o : ℕ). quad_made a.flip f o c.before.before.before.before.before.before.before.get-bytes.result) (four c.before.before.before.before.before.before.before.before.before.before.before.before.before.before.before.before.before) c.before.before.before.before.before.before.cell-of.ensures in
     let put = c.before.before.before.put-value-at.ensures
-    ∙ ap (λ (n : ℕ). dabAt (k.w.at % 2 ^ 32) n (some c.before.before.before.before.before.by-quad.result) (tallied k.mem k.tally)) p.bytes
-    ∙ dab-at s (in_rows w.flat) (pixelAt q.x q.y) _ (some c.before.before.before.before.before.by-quad.result) (tallied k.mem k.tally) here
-    ∙ ap (λ (o : Option ℕ). dab s (pixelAt q.x q.y) o (tallied k.mem k.tally))
+    ∙ ap (λ (n : ℕ). dab_at (k.w.at % 2 ^ 32) n (some c.before.before.before.before.before.by-quad.result) (tallied k.mem k.tally)) p.bytes
+    ∙ dab-at s (in-rows w.flat) (pixel_at q.x q.y) _ (some c.before.before.before.before.before.by-quad.result) (tallied k.mem k.tally) here
+    ∙ ap (λ (o : Option ℕ). dab s (pixel_at q.x q.y) o (tallied k.mem k.tally))
     (point-given a.track.ink a.pattern.now a.n k.w.at (q.x - origin) (q.y - origin) _ _ a.flip p.mixable.keyless p.mixable.colour p.bytes (cell c.before.before.before.before.before.before.before.before.before.before.before.before.before.before.before.before.before k.i h k.w at) p.flipping c.before.before.before.before.before.before.before.get-bytes.type-inv value
-    ∙ ap (λ (o : ℕ). mixed a.track.ink (patternValue a.track.ink a.pattern.now (q.x - origin) (q.y - origin)) (bitSource a.track.ink 1) o) old) in (
-      left-takes k.invariant.0 (mixTouches a.track.ink a.pattern.now (q ∷ [])) (mix-left a.track.ink a.pattern.now l k.i (pointCount l) h) (omega arith) put,
+    ∙ ap (λ (o : ℕ). mixed a.track.ink (pattern_value a.track.ink a.pattern.now (q.x - origin) (q.y - origin)) (bit_source a.track.ink 1) o) old) in (
+      left-takes k.invariant.0 (mix_touches a.track.ink a.pattern.now (q ∷ [])) (mix-left a.track.ink a.pattern.now l k.i (point_count l) h) (omega arith) put,
       (λ g. rw (c.walk-on.ensures, course c.before.before.before.before.before.before.before.before.before.before.before.before.before.before.before.before.before) (walk-next (pair_of a.track.ink) refl (pair-low a.track.ink w.flat w.surface) l w.ahead k.i (omega (arith, count-le l)) k.w at)),
       omega arith,
     )
@@ -156,7 +156,7 @@ same_length c = c.before.before.loop.invariant.0.long
 returns : tie.Need-returns invariant-loop decreases-loop
 returns c =
     let a = c.before.before.before.before.before.before.before.args in
-    left_ended c.before.before.loop.invariant.0 (mix-none a.track.ink a.pattern.now a.track.line c.before.before.loop.i (pointCount a.track.line) (omega (arith, c.before.wide.ensures, count c.before.before.before.before.before.before.before)))
+    left_ended c.before.before.loop.invariant.0 (mix-none a.track.ink a.pattern.now a.track.line c.before.before.loop.i (point_count a.track.line) (omega (arith, c.before.wide.ensures, count c.before.before.before.before.before.before.before)))
 
 pub mix-points-spec : {M : Type 1} → statement M
 mix-points-spec =

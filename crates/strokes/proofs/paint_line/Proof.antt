@@ -4,7 +4,7 @@ use Rattle.std.proofs.Common.{not, ◌&&◌, List, sym, ap, ◌∙◌, arith, ru
 use borrow.Author.Tests.{not-true}
 use Rattle.surface.proofs.OnLaws.{and_left, and_right}
 use Rattle.paint.specs.Paint.{state, Touch, paint}
-use Rattle.line.specs.Line.{pointCount, points}
+use Rattle.line.specs.Line.{point_count, points}
 use Rattle.strokes.proofs.WalkDraw.{is-direct, from-inside, to_inside, walkable, plain-walkable, plain_walk, plain-style, walk-drawn, mixed-drawn}
 use Rattle.strokes.proofs.MixedLaws.{mix-from, mix-to, mix-solid, mixable}
 use Rattle.strokes.proofs.PartLaws.{clip-drawn}
@@ -29,7 +29,7 @@ returns c =
     let drawn = walk-drawn a.c a.l (from-inside a.ink a.c a.l a.style (sym c.before.before.before.before.before.before.before.can-walk.ensures ∙ c.before.before.before.before.before.before.if1.true)) (to_inside a.ink a.c a.l a.style (sym c.before.before.before.before.before.before.before.can-walk.ensures ∙ c.before.before.before.before.before.before.if1.true)) a.ink a.pattern.now a.pen
     (is-direct a.ink a.c a.l a.style (sym c.before.before.before.before.before.before.before.can-walk.ensures ∙ c.before.before.before.before.before.before.if1.true)) (omega arith) (omega arith) a.style in (
       c.before.before.walk-plain.ensures ∙ ap (λ (ts : List Touch). paint a.ink.target ts (state a.mem.now 0 0)) (plain_walk a.ink a.pen no a.style (points a.l) ∙ drawn),
-      plain-style a.ink a.pen no (pointCount a.l) a.style,
+      plain-style a.ink a.pen no (point_count a.l) a.style,
     )
 
 walk-line-requires : tie.Need-walk-line-requires
@@ -65,7 +65,7 @@ returns-3 c =
     let no = mix-solid a.ink a.c a.l a.pen can in (
       c.before.before.walk-mixed.ensures
           ∙ ap (λ (ts : List Touch). paint a.ink.target ts (state a.mem.now 0 0)) (mixed-drawn a.c a.l (mix-from a.ink a.c a.l a.pen can) (mix-to a.ink a.c a.l a.pen can) a.ink a.pattern.now a.pen no a.style),
-      plain-style a.ink a.pen no (pointCount a.l) a.style,
+      plain-style a.ink a.pen no (point_count a.l) a.style,
     )
 
 is-direct-requires : tie.Need-is-direct-requires
@@ -84,7 +84,7 @@ returns-4 c =
     let d = sym c.before.before.before.before.before.before.before.is-direct.ensures ∙ and_left c.before.before.before.before.before.before.before.is-direct.result (not a.pen.stippled) both in
     let no = not-true a.pen.stippled (and_right c.before.before.before.before.before.before.before.is-direct.result (not a.pen.stippled) both) in (
       c.before.before.walk-clipped.ensures ∙ ap (λ (ts : List Touch). paint a.ink.target ts (state a.mem.now 0 0)) (clip-drawn a.ink a.pattern.now a.c a.pen d no (omega arith) (omega arith) a.style (points a.l)),
-      plain-style a.ink a.pen no (pointCount a.l) a.style,
+      plain-style a.ink a.pen no (point_count a.l) a.style,
     )
 
 paint-each-requires : tie.Need-paint-each-requires

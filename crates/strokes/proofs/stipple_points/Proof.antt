@@ -3,14 +3,14 @@
 use Rattle.std.proofs.Common.{◌≡◌, ℕ, ◌-◌, ◌<◌, ◌≤◌, List, [], ◌∷◌, sym, refl, ap, ◌∙◌, ap₂, arith, rules}
 use mathlib.Core.Option.{Option}
 use Rattle.paint.specs.Tally.{tally}
-use Rattle.paint.specs.Paint.{tallied, dabAt, paint}
-use Rattle.paint.specs.Mix.{bitSource, sourced}
-use Rattle.paint.specs.Clip.{pixelAt}
-use Rattle.surface.proofs.Run.{in_rows, pixel-held}
+use Rattle.paint.specs.Paint.{tallied, dab_at, paint}
+use Rattle.paint.specs.Mix.{bit_source, sourced}
+use Rattle.paint.specs.Clip.{pixel_at}
+use Rattle.surface.proofs.Run.{in-rows, pixel-held}
 use Rattle.line.specs.declared.Point.{Point}
-use Rattle.line.specs.Line.{pointAt, pointCount, pointsFrom, points}
-use Rattle.line.specs.Stipple.{stippleBit, styleAfter}
-use Rattle.strokes.specs.Walk.{walkTouches, word_of, AtPoint, Fields}
+use Rattle.line.specs.Line.{point_at, point_count, points_from, points}
+use Rattle.line.specs.Stipple.{stipple_bit, style_after}
+use Rattle.strokes.specs.Walk.{walk_touches, word_of, AtPoint, Fields}
 use Rattle.line.proofs.Sides.{count-le, longer-lt}
 use Rattle.line.proofs.PointLaws.{from_start}
 use Rattle.line.proofs.StippleLaws.{style-start, style-turn, style-done}
@@ -24,13 +24,13 @@ use Rattle.strokes.proofs.stipple_points.Tie as tie
 
 abbrev invariant-loop : tie.invariant-loop
 invariant-loop mem₀ n ink l pen style t w₀ p₀ r₀ i₀ mem w p r i =
-    Left ink.target (walkTouches ink pen style (points l)) mem₀ (tally 0 0) i (walkTouches ink pen (word_of p) (pointsFrom l i (pointCount l - i))) mem r
-    × (styleAfter pen (pointCount l - i) (word_of p) ≡ styleAfter pen (pointCount l) style)
-    × (i < pointCount l → AtPoint ink.target l i w)
-    × Fields p × (i ≤ pointCount l)
+    Left ink.target (walk_touches ink pen style (points l)) mem₀ (tally 0 0) i (walk_touches ink pen (word_of p) (points_from l i (point_count l - i))) mem r
+    × (style_after pen (point_count l - i) (word_of p) ≡ style_after pen (point_count l) style)
+    × (i < point_count l → AtPoint ink.target l i w)
+    × Fields p × (i ≤ point_count l)
 
 abbrev decreases-loop : tie.decreases-loop
-decreases-loop mem₀ n ink l pen style t w₀ p₀ r₀ i₀ mem w p r i = pointCount l - i
+decreases-loop mem₀ n ink l pen style t w₀ p₀ r₀ i₀ mem w p r i = point_count l - i
 
 steps-of-requires : tie.Need-steps-of-requires invariant-loop decreases-loop
 steps-of-requires c κs = c.before.before.requires.0.ahead.line
@@ -56,9 +56,9 @@ loop-holds : tie.Need-loop-init invariant-loop decreases-loop
 loop-holds c =
     let a = c.before.before.before.before.before.before.before.before.args in
     let e = c.phase-of.ensures.1 in
-    let n = pointCount a.l in (
-      left-begins (ap₂ (λ (u : ℕ) (ps : List Point). walkTouches a.ink a.pen u ps) e (from_start a.l n refl)),
-      ap (styleAfter a.pen (n - 0)) e ∙ style-start a.pen n n a.style refl,
+    let n = point_count a.l in (
+      left-begins (ap₂ (λ (u : ℕ) (ps : List Point). walk_touches a.ink a.pen u ps) e (from_start a.l n refl)),
+      ap (style_after a.pen (n - 0)) e ∙ style-start a.pen n n a.style refl,
       (λ h. walk_start a.ink.target a.l _ _ c.before.before.close-byte.ensures c.before.long-side.ensures),
       c.phase-of.ensures.0,
       omega arith,
@@ -81,8 +81,8 @@ put-value-at-requires c κs =
     let a = c.before.before.before.before.before.before.before.before.before.before.before.before.before.before.before.before.args in
     let p = c.before.before.before.before.before.before.before.before.before.before.before.before.before.before.before.before.requires.0 in
     let k = c.before.before.before.before.before.before.before.loop in
-    let h : k.i < pointCount a.l = omega (arith, c.before.before.before.before.before.wide.ensures, c.before.before.before.before.before.before.point-count.ensures) in (
-      rw (k.invariant.0.long, c.before.before.before.before.before.before.before.before.before.before.before.before.before.before.before.before.requires.1) (pixel-held (in_rows p.flat) (record { colour = p.surface; on = p.on k.i h }) _ (k.invariant.2 h).at),
+    let h : k.i < point_count a.l = omega (arith, c.before.before.before.before.before.wide.ensures, c.before.before.before.before.before.before.point-count.ensures) in (
+      rw (k.invariant.0.long, c.before.before.before.before.before.before.before.before.before.before.before.before.before.before.before.before.requires.1) (pixel-held (in-rows p.flat) (record { colour = p.surface; on = p.on k.i h }) _ (k.invariant.2 h).at),
       room-first k.invariant.0.upto (omega (arith, longer-lt p.ahead.line, count-le a.l)),
     )
 
@@ -99,21 +99,21 @@ loop-less : tie.Need-loop-smaller invariant-loop decreases-loop
 loop-less c = omega (arith, c.before.before.before.before.before.before.before.before.before.before.wide.ensures, c.before.before.before.before.before.before.before.before.before.before.before.point-count.ensures)
 
 loop-again : tie.Need-loop-preserved invariant-loop decreases-loop
-unfolding paint walkTouches
+unfolding paint walk_touches
 loop-again c =
     let a = c.before.before.before.before.before.before.before.before.before.before.before.before.before.before.before.before.before.before.before.before.before.args in
     let p = c.before.before.before.before.before.before.before.before.before.before.before.before.before.before.before.before.before.before.before.before.before.requires.0 in
     let k = c.before.before.before.before.before.before.before.before.before.before.before.before.loop in
     let s = a.ink.target in
-    let h : k.i < pointCount a.l = omega (arith, c.before.before.before.before.before.before.before.before.before.before.wide.ensures, c.before.before.before.before.before.before.before.before.before.before.before.point-count.ensures) in
+    let h : k.i < point_count a.l = omega (arith, c.before.before.before.before.before.before.before.before.before.before.wide.ensures, c.before.before.before.before.before.before.before.before.before.before.before.point-count.ensures) in
     let at = k.invariant.2 h in
-    let q = pointAt a.l k.i in
+    let q = point_at a.l k.i in
     let put = c.before.before.before.before.put-value-at.ensures
-    ∙ ap₂ (λ (n : ℕ) (o : Option ℕ). dabAt k.w.at n o (tallied k.mem k.tally)) c.before.before.before.before.before.before.before.before.before.before.before.before.before.before.before.before.before.before.before.before.before.requires.1 (stipple-given a.ink a.pen (word_of k.p) c.before.before.before.before.before.before.before.before.phase-bit.ensures c.before.before.before.before.before.before.before.pick.ensures)
-    ∙ dab-at s (in_rows p.flat) (pixelAt q.x q.y) _ (sourced (bitSource a.ink (stippleBit a.pen (word_of k.p)))) (tallied k.mem k.tally) at.at in (
-      left-takes k.invariant.0 (walkTouches a.ink a.pen (word_of k.p) (q ∷ [])) (walk-left a.ink a.pen a.l k.i (pointCount a.l) (word_of k.p) h c.phase-after.ensures.1)
+    ∙ ap₂ (λ (n : ℕ) (o : Option ℕ). dab_at k.w.at n o (tallied k.mem k.tally)) c.before.before.before.before.before.before.before.before.before.before.before.before.before.before.before.before.before.before.before.before.before.requires.1 (stipple-given a.ink a.pen (word_of k.p) c.before.before.before.before.before.before.before.before.phase-bit.ensures c.before.before.before.before.before.before.before.pick.ensures)
+    ∙ dab-at s (in-rows p.flat) (pixel_at q.x q.y) _ (sourced (bit_source a.ink (stipple_bit a.pen (word_of k.p)))) (tallied k.mem k.tally) at.at in (
+      left-takes k.invariant.0 (walk_touches a.ink a.pen (word_of k.p) (q ∷ [])) (walk-left a.ink a.pen a.l k.i (point_count a.l) (word_of k.p) h c.phase-after.ensures.1)
           (omega arith) put,
-      style-turn a.pen k.i (pointCount a.l) (word_of k.p) _ h c.phase-after.ensures.1 ∙ k.invariant.1,
+      style-turn a.pen k.i (point_count a.l) (word_of k.p) _ h c.phase-after.ensures.1 ∙ k.invariant.1,
       (λ g. rw (c.before.walk-on.ensures, c.before.before.before.before.before.before.before.before.before.before.before.before.before.before.before.before.before.before.steps_of.ensures) (walk-next s p.flat (small_low p.surface.small) a.l p.ahead k.i (omega (arith, count-le a.l)) k.w at)),
       c.phase-after.ensures.0,
       omega arith,
@@ -129,9 +129,9 @@ returns : tie.Need-returns invariant-loop decreases-loop
 returns c =
     let a = c.before.before.before.before.before.before.before.before.before.before.before.before.before.args in
     let k = c.before.before.before.before.loop in
-    let h : pointCount a.l ≤ k.i = omega (arith, c.before.before.wide.ensures, c.before.before.before.point-count.ensures) in (
-      left_ended k.invariant.0 (walk_none a.ink a.pen a.l k.i (pointCount a.l) (word_of k.p) h),
-      c.style-of.ensures ∙ sym (style-done a.pen k.i (pointCount a.l) (word_of k.p) h) ∙ k.invariant.1,
+    let h : point_count a.l ≤ k.i = omega (arith, c.before.before.wide.ensures, c.before.before.before.point-count.ensures) in (
+      left_ended k.invariant.0 (walk_none a.ink a.pen a.l k.i (point_count a.l) (word_of k.p) h),
+      c.style-of.ensures ∙ sym (style-done a.pen k.i (point_count a.l) (word_of k.p) h) ∙ k.invariant.1,
     )
 
 pub stipple-points-spec : {M : Type 1} → statement M

@@ -1,7 +1,7 @@
 -- `strokes::track_of` meets its contract: each part as it is worked out.
 -- Assumes nothing.
 use Rattle.std.proofs.Common.{◌+◌, ◌-◌, ◌%◌, arith, rules}
-use Rattle.strokes.specs.Mixed.{trackOf}
+use Rattle.strokes.specs.Mixed.{track_of}
 use Rattle.strokes.proofs.WalkLaws.{small_low}
 use Rattle.strokes.proofs.MixedLaws.{row_small}
 use Rattle.strokes.proofs.track_of.Statement.{statement}
@@ -69,7 +69,7 @@ add-t12 c =
       c.before.before.before.before.column-part2.ensures,
       p.1.line.x0,
       c.before.before.row-part2.ensures,
-      row_small c.before.before.before.before.before.before.before.before.before.before.before.before.before.before.args.ink (c.before.before.before.before.before.before.before.before.before.before.before.before.before.before.args.ink.patY % 8 + (l.y0 - 16384)),
+      row_small c.before.before.before.before.before.before.before.before.before.before.before.before.before.before.args.ink (c.before.before.before.before.before.before.before.before.before.before.before.before.before.before.args.ink.pat_y % 8 + (l.y0 - 16384)),
       p.1.line.y0,
     )
 
@@ -80,7 +80,7 @@ point-count-requires : tie.Need-point-count-requires
 point-count-requires c κs = c.before.before.before.before.before.before.before.before.before.before.before.before.before.before.before.requires.1.line
 
 returns : tie.Need-returns
-unfolding trackOf
+unfolding track_of
 returns c = rw (c.before.before.steps-by.ensures, c.before.before.before.before.before.before.before.before.before.before.before.before.wide.ensures, c.before.before.before.before.before.before.before.before.before.before.before.column-part.ensures, c.before.before.before.before.before.before.before.before.before.before.wide2.ensures, c.before.before.before.before.before.before.before.before.before.row-part.ensures, c.before.before.before.before.before.before.before.before.close-byte.ensures, c.before.before.before.before.before.before.column-part2.ensures, c.before.before.before.before.row-part2.ensures, c.before.before.before.quad-of.ensures, c.before.long-side.ensures, c.point-count.ensures)
 
 pub track-of-spec : {M : Type 1} → statement M

@@ -5,19 +5,19 @@ use mathlib.Core.Path.{subst⁻¹}
 use mathlib.Core.Option.{some}
 use Rattle.surface.specs.Place.{byte_of}
 use Rattle.surface.specs.Pixels.{origin}
-use Rattle.surface.proofs.Run.{in_rows, pixel-held}
+use Rattle.surface.proofs.Run.{in-rows, pixel-held}
 use Rattle.paint.specs.Tally.{tally}
 use Rattle.paint.specs.Paint.{tallied, paint}
-use Rattle.paint.specs.Clip.{pixelAt}
+use Rattle.paint.specs.Clip.{pixel_at}
 use Rattle.paint.proofs.Tallies.{room-first}
 use Rattle.paint.proofs.Turns.{dab-at}
 use Rattle.paint.proofs.Loops.{Left, left-begins, left-takes, left_ended}
 use Rattle.line.specs.declared.Point.{Point}
-use Rattle.line.specs.Line.{pointAt, pointsFrom}
+use Rattle.line.specs.Line.{point_at, points_from}
 use Rattle.line.proofs.Sides.{count-le, longer-lt}
 use Rattle.line.proofs.TreadLaws.{way-placed, way-point}
 use Rattle.line.proofs.PointLaws.{InBox, point-box}
-use Rattle.strokes.specs.Walk.{walk, plainTouches, AtPoint}
+use Rattle.strokes.specs.Walk.{walk, plain_touches, AtPoint}
 use Rattle.strokes.proofs.WalkLaws.{Shown, small_low, steps-small, step-next}
 use Rattle.strokes.proofs.WalkDraw.{plain-left, plain-none}
 use Rattle.strokes.proofs.walk_part.Statement.{statement}
@@ -25,7 +25,7 @@ use Rattle.strokes.proofs.walk_part.Tie as tie
 
 abbrev invariant-loop : tie.invariant-loop
 invariant-loop mem₀ ink part n t w₀ r₀ i₀ mem w r i =
-    Left ink.target (plainTouches ink.fore (pointsFrom part.line part.from.at (part.past - part.from.at))) mem₀ (tally 0 0) i (plainTouches ink.fore (pointsFrom part.line i (part.past - i))) mem r
+    Left ink.target (plain_touches ink.fore (points_from part.line part.from.at (part.past - part.from.at))) mem₀ (tally 0 0) i (plain_touches ink.fore (points_from part.line i (part.past - i))) mem r
     × (i < part.past → AtPoint ink.target part.line i w)
     × (part.from.at ≤ i)
     × (i ≤ part.past)
@@ -57,7 +57,7 @@ wide-requires c κs = search rules
 loop-holds : tie.Need-loop-init invariant-loop decreases-loop
 loop-holds c =
     let a = c.before.before.before.before.before.before.before.before.before.before.args in (
-      left-begins (ap (λ (i : ℕ). plainTouches a.ink.fore (pointsFrom a.part.line i (a.part.past - i))) c.wide.ensures),
+      left-begins (ap (λ (i : ℕ). plain_touches a.ink.fore (points_from a.part.line i (a.part.past - i))) c.wide.ensures),
       (λ h. subst⁻¹ (λ (i : ℕ). AtPoint a.ink.target a.part.line i (walk c.before.close-byte.result a.part.from.tread.rest)) c.wide.ensures
           (record { at = c.before.close-byte.ensures ∙ ap (λ (p : Point). byte_of a.ink.target (p.x - origin) (p.y - origin) 0) (way-point (record { long = refl; short = refl; upto = omega (arith, count-le c.before.before.before.before.before.before.before.before.before.before.args.part.line, c.before.before.before.before.before.before.before.before.before.before.requires.some, c.before.before.before.before.before.before.before.before.before.before.requires.upto); at = c.before.before.before.before.before.before.before.before.before.before.requires.walk }) c.before.before.before.before.place-point.ensures); rest = c.before.before.before.before.before.before.before.before.before.before.requires.walk.rest })),
       omega (arith, c.wide.ensures),
@@ -70,7 +70,7 @@ wide-requires-2 c κs = search rules
 put-value-at-requires : tie.Need-put-value-at-requires invariant-loop decreases-loop
 put-value-at-requires c κs =
     let h : c.before.before.before.loop.i < c.before.before.before.before.before.before.before.before.before.before.before.before.before.before.args.part.past = omega (arith, c.before.before.wide2.ensures) in (
-      rw c.before.before.before.loop.invariant.0.long (pixel-held (in_rows c.before.before.before.before.before.before.before.before.before.before.before.before.before.before.requires.flat) (record { colour = c.before.before.before.before.before.before.before.before.before.before.before.before.before.before.requires.surface; on = c.before.before.before.before.before.before.before.before.before.before.before.before.before.before.requires.on c.before.before.before.loop.i c.before.before.before.loop.invariant.2 h }) _ (c.before.before.before.loop.invariant.1 h).at),
+      rw c.before.before.before.loop.invariant.0.long (pixel-held (in-rows c.before.before.before.before.before.before.before.before.before.before.before.before.before.before.requires.flat) (record { colour = c.before.before.before.before.before.before.before.before.before.before.before.before.before.before.requires.surface; on = c.before.before.before.before.before.before.before.before.before.before.before.before.before.before.requires.on c.before.before.before.loop.i c.before.before.before.loop.invariant.2 h }) _ (c.before.before.before.loop.invariant.1 h).at),
       room-first c.before.before.before.loop.invariant.0.upto (omega (arith, longer-lt c.before.before.before.before.before.before.before.before.before.before.before.before.before.before.requires.line, count-le c.before.before.before.before.before.before.before.before.before.before.before.before.before.before.args.part.line, c.before.before.before.before.before.before.before.before.before.before.before.before.before.before.requires.upto)),
     )
 
@@ -93,10 +93,10 @@ loop-again c =
     let l = a.part.line in
     let h : c.before.before.before.before.before.before.before.loop.i < c.before.before.before.before.before.before.before.before.before.before.before.before.before.before.before.before.before.before.args.part.past = omega (arith, c.before.before.before.before.before.before.wide2.ensures) in
     let at = k.invariant.1 h in
-    let q = pointAt l k.i in
-    let shown : (i : ℕ) → a.part.from.at ≤ i → i < a.part.past → Shown (pointAt l i) = λ i g f. let o = pre.near i g f in record { x = o.0; y = o.1 } in (
-      left-takes k.invariant.0 (plainTouches a.ink.fore (q ∷ [])) (plain-left a.ink.fore l k.i a.part.past h) (omega arith)
-          (c.before.before.before.put-value-at.ensures ∙ dab-at s (in_rows pre.flat) (pixelAt q.x q.y) _ (some a.ink.fore) (tallied k.mem k.tally) at.at),
+    let q = point_at l k.i in
+    let shown : (i : ℕ) → a.part.from.at ≤ i → i < a.part.past → Shown (point_at l i) = λ i g f. let o = pre.near i g f in record { x = o.0; y = o.1 } in (
+      left-takes k.invariant.0 (plain_touches a.ink.fore (q ∷ [])) (plain-left a.ink.fore l k.i a.part.past h) (omega arith)
+          (c.before.before.before.put-value-at.ensures ∙ dab-at s (in-rows pre.flat) (pixel_at q.x q.y) _ (some a.ink.fore) (tallied k.mem k.tally) at.at),
       (λ g. rw (c.walk-on.ensures, c.before.before.before.before.before.before.before.before.before.before.before.before.before.steps_of.ensures) (step-next s pre.flat (small_low pre.surface.small) l pre.line k.i (omega (arith, count-le l, pre.upto)) (shown k.i k.invariant.2 h) (shown (k.i + 1) (omega (arith, k.invariant.2)) g) k.w at)),
       omega (arith, k.invariant.2),
       omega arith,

@@ -4,10 +4,10 @@ use Rattle.std.proofs.Common.{◌-◌, ◌<◌, ◌≤◌, [], ◌∷◌, refl, 
 use mathlib.Core.Option.{some}
 use Rattle.paint.specs.Tally.{tally}
 use Rattle.paint.specs.Paint.{tallied, paint}
-use Rattle.paint.specs.Clip.{pixelAt}
-use Rattle.surface.proofs.Run.{in_rows, pixel-held}
-use Rattle.line.specs.Line.{pointAt, pointCount, pointsFrom, points}
-use Rattle.strokes.specs.Walk.{plainTouches, AtPoint}
+use Rattle.paint.specs.Clip.{pixel_at}
+use Rattle.surface.proofs.Run.{in-rows, pixel-held}
+use Rattle.line.specs.Line.{point_at, point_count, points_from, points}
+use Rattle.strokes.specs.Walk.{plain_touches, AtPoint}
 use Rattle.line.proofs.Sides.{count-le, longer-lt}
 use Rattle.line.proofs.PointLaws.{from_start}
 use Rattle.paint.proofs.Tallies.{room-first}
@@ -20,11 +20,11 @@ use Rattle.strokes.proofs.walk_plain.Tie as tie
 
 abbrev invariant-loop : tie.invariant-loop
 invariant-loop mem₀ ink l n t w₀ r₀ i₀ mem w r i =
-    Left ink.target (plainTouches ink.fore (points l)) mem₀ (tally 0 0) i (plainTouches ink.fore (pointsFrom l i (pointCount l - i))) mem r
-    × (i < pointCount l → AtPoint ink.target l i w) × (i ≤ pointCount l)
+    Left ink.target (plain_touches ink.fore (points l)) mem₀ (tally 0 0) i (plain_touches ink.fore (points_from l i (point_count l - i))) mem r
+    × (i < point_count l → AtPoint ink.target l i w) × (i ≤ point_count l)
 
 abbrev decreases-loop : tie.decreases-loop
-decreases-loop mem₀ ink l n t w₀ r₀ i₀ mem w r i = pointCount l - i
+decreases-loop mem₀ ink l n t w₀ r₀ i₀ mem w r i = point_count l - i
 
 steps-of-requires : tie.Need-steps-of-requires invariant-loop decreases-loop
 steps-of-requires c κs = c.before.before.requires.ahead.line
@@ -46,7 +46,7 @@ long-side-requires c κs = search rules
 loop-holds : tie.Need-loop-init invariant-loop decreases-loop
 loop-holds c =
     let a = c.before.before.before.before.before.before.before.args in (
-      left-begins (ap (plainTouches a.ink.fore) (from_start a.l (pointCount a.l) refl)),
+      left-begins (ap (plain_touches a.ink.fore) (from_start a.l (point_count a.l) refl)),
       (λ h. walk_start a.ink.target a.l _ _ c.before.close-byte.ensures c.long-side.ensures),
       omega arith,
     )
@@ -62,8 +62,8 @@ put-value-at-requires c κs =
     let b = c.before.before.before.before.before.before.before.before.before.before.before.before in
     let p = b.requires in
     let k = c.before.before.before.before.loop in
-    let h : k.i < pointCount b.args.l = omega (arith, c.before.before.wide.ensures, c.before.before.before.point-count.ensures) in (
-      rw k.invariant.0.long (pixel-held (in_rows p.flat) (record { colour = p.surface; on = p.on k.i h }) _ (k.invariant.1 h).at),
+    let h : k.i < point_count b.args.l = omega (arith, c.before.before.wide.ensures, c.before.before.before.point-count.ensures) in (
+      rw k.invariant.0.long (pixel-held (in-rows p.flat) (record { colour = p.surface; on = p.on k.i h }) _ (k.invariant.1 h).at),
       room-first k.invariant.0.upto (omega (arith, longer-lt p.ahead.line, count-le b.args.l)),
     )
 
@@ -86,11 +86,11 @@ loop-again c =
     let p = b.requires in
     let k = c.before.before.before.before.before.before.before.before.loop in
     let s = a.ink.target in
-    let h : k.i < pointCount a.l = omega (arith, c.before.before.before.before.before.before.wide.ensures, c.before.before.before.before.before.before.before.point-count.ensures) in
+    let h : k.i < point_count a.l = omega (arith, c.before.before.before.before.before.before.wide.ensures, c.before.before.before.before.before.before.before.point-count.ensures) in
     let at = k.invariant.1 h in
-    let q = pointAt a.l k.i in (
-      left-takes k.invariant.0 (plainTouches a.ink.fore (q ∷ [])) (plain-left a.ink.fore a.l k.i (pointCount a.l) h) (omega arith)
-          (c.before.before.before.put-value-at.ensures ∙ dab-at s (in_rows p.flat) (pixelAt q.x q.y) _ (some a.ink.fore) (tallied k.mem k.tally) at.at),
+    let q = point_at a.l k.i in (
+      left-takes k.invariant.0 (plain_touches a.ink.fore (q ∷ [])) (plain-left a.ink.fore a.l k.i (point_count a.l) h) (omega arith)
+          (c.before.before.before.put-value-at.ensures ∙ dab-at s (in-rows p.flat) (pixel_at q.x q.y) _ (some a.ink.fore) (tallied k.mem k.tally) at.at),
       (λ g. rw (c.walk-on.ensures, c.before.before.before.before.before.before.before.before.before.before.before.before.before.steps_of.ensures) (walk-next s p.flat (small_low p.surface.small) a.l p.ahead k.i (omega (arith, count-le a.l)) k.w at)),
       omega arith,
     )
@@ -102,7 +102,7 @@ returns : tie.Need-returns invariant-loop decreases-loop
 returns c =
     let a = c.before.before.before.before.before.before.before.before.before.before.before.args in
     let k = c.before.before.before.loop in
-    left_ended k.invariant.0 (plain-none a.ink.fore a.l k.i (pointCount a.l) (omega (arith, c.before.wide.ensures, c.before.before.point-count.ensures)))
+    left_ended k.invariant.0 (plain-none a.ink.fore a.l k.i (point_count a.l) (omega (arith, c.before.wide.ensures, c.before.before.point-count.ensures)))
 
 pub walk-plain-spec : {M : Type 1} → statement M
 walk-plain-spec =

@@ -5,7 +5,7 @@ use mathlib.Core.Path.{sym, ◌∙◌}
 use Prim.Native.Nat.{◌/◌}
 use native.Mathlib.Omega.{arith}
 use Rattle.surface.proofs.Bytes.{product_lt}
-use Rattle.surface.proofs.Rows.{byteAt-flat, byteAt-tiled}
+use Rattle.surface.proofs.Rows.{byte_at-flat, byte_at-tiled}
 use Rattle.surface.proofs.close_at.Statement.{statement}
 use Rattle.surface.proofs.close_at.Tie as tie
 
@@ -37,7 +37,7 @@ add-result : tie.Need-overflow-add-result
 add-result c = omega (arith, c.before.before.wide.ensures, c.wide2.ensures, c.before.before.before.before.before.requires.across, product_lt 8 17 {a = c.before.before.before.before.before.args.y / 32} {b = c.before.before.before.before.before.args.s.stride} (omega (arith, c.before.before.before.before.before.requires.down)) c.before.before.before.before.before.requires.small.stride)
 
 returns : tie.Need-returns
-returns c = let a = c.before.before.before.before.before.args in omega (arith, c.before.before.wide.ensures, c.wide2.ensures, byteAt-tiled a.s a.column a.y c.before.before.before.before.if1.true)
+returns c = let a = c.before.before.before.before.before.args in omega (arith, c.before.before.wide.ensures, c.wide2.ensures, byte_at-tiled a.s a.column a.y c.before.before.before.before.if1.true)
 
 mul-wide-3 : tie.Need-overflow-mul-wide-3
 mul-wide-3 c = omega (arith, product_lt 13 17 {a = c.before.before.args.y} {b = c.before.before.args.s.stride} c.before.before.requires.down c.before.before.requires.small.stride)
@@ -52,7 +52,7 @@ wide-requires-3 : tie.Need-wide-requires-3
 wide-requires-3 c κs = search rules
 
 returns-2 : tie.Need-returns-2
-returns-2 c = let a = c.before.before.before.before.args in c.wide3.ensures ∙ sym (byteAt-flat a.s a.column a.y c.before.before.before.if1.false)
+returns-2 c = let a = c.before.before.before.before.args in c.wide3.ensures ∙ sym (byte_at-flat a.s a.column a.y c.before.before.before.if1.false)
 
 pub close-at-spec : {M : Type 1} → statement M
 close-at-spec =

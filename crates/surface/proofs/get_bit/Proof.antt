@@ -1,7 +1,7 @@
 -- `surface::get_bit` meets its contract: a bit of the pixel's byte.
 -- Assumes nothing.
 use borrow.Author.Rules.{rules}
-use Rattle.surface.specs.Place.{monoBit}
+use Rattle.surface.specs.Place.{mono_bit}
 use Rattle.surface.proofs.get_bit.Statement.{statement}
 use Rattle.surface.proofs.get_bit.Tie as tie
 
@@ -15,7 +15,7 @@ shr-result : tie.Need-overflow-shr-result
 shr-result c = search rules
 
 returns : tie.Need-returns
-unfolding monoBit
+unfolding mono_bit
 returns c = rw c.mono-byte.ensures.0
 
 pub get-bit-spec : {M : Type 1} → statement M

@@ -4,7 +4,7 @@ use borrow.Author.Rules.{rules}
 use Prim.Native.Nat.{◌+◌, ◌*◌, ◌/◌}
 use native.Mathlib.Omega.{arith}
 use Rattle.surface.proofs.Bytes.{product_lt}
-use Rattle.surface.proofs.Rows.{byteAt-flat}
+use Rattle.surface.proofs.Rows.{byte_at-flat}
 use Rattle.surface.proofs.OnLaws.{mono-byte}
 use Rattle.surface.proofs.mono_in_rows.Statement.{statement}
 use Rattle.surface.proofs.mono_in_rows.Tie as tie
@@ -34,7 +34,7 @@ shared-slice-read-result : tie.Need-shared-slice-read-result
 shared-slice-read-result c =
     let b = c.before.before.before.before.before.before in
     let a = b.args in
-    rw (c.before.before.before.before.wide.ensures, c.before.before.before.wide2.ensures, c.before.before.wide3.ensures, c.before.wide4.ensures, ← byteAt-flat a.s (a.x / 8) a.y b.requires.1) (mono-byte b.requires.0)
+    rw (c.before.before.before.before.wide.ensures, c.before.before.before.wide2.ensures, c.before.before.wide3.ensures, c.before.wide4.ensures, ← byte_at-flat a.s (a.x / 8) a.y b.requires.1) (mono-byte b.requires.0)
 
 cast-result : tie.Need-overflow-cast-result
 cast-result c = omega (arith, c.shared-slice-known2.given (c.before.before.before.before.wide.result + c.before.before.before.wide2.result * c.before.before.wide3.result + c.before.wide4.result))
@@ -43,7 +43,7 @@ returns : tie.Need-returns
 returns c =
     let b = c.before.before.before.before.before.before in
     let a = b.args in (
-      rw (c.before.before.before.before.wide.ensures, c.before.before.before.wide2.ensures, c.before.before.wide3.ensures, c.before.wide4.ensures, byteAt-flat a.s (a.x / 8) a.y b.requires.1),
+      rw (c.before.before.before.before.wide.ensures, c.before.before.before.wide2.ensures, c.before.before.wide3.ensures, c.before.wide4.ensures, byte_at-flat a.s (a.x / 8) a.y b.requires.1),
       omega (arith, c.shared-slice-known2.given (c.before.before.before.before.wide.result + c.before.before.before.wide2.result * c.before.before.wide3.result + c.before.wide4.result)),
     )
 

@@ -5,7 +5,7 @@ use Prim.Native.Nat.{ℕ, ◌+◌, ◌*◌, ◌<◌}
 use native.Mathlib.Omega.{arith}
 use Rattle.surface.specs.Place.{byte_of}
 use Rattle.surface.proofs.Bytes.{product_lt}
-use Rattle.surface.proofs.Rows.{byteAt-flat}
+use Rattle.surface.proofs.Rows.{byte_at-flat}
 use Rattle.surface.proofs.place_in_rows.Statement.{statement}
 use Rattle.surface.proofs.place_in_rows.Tie as tie
 
@@ -52,7 +52,7 @@ unfolding byte_of
 returns c =
     let b = c.before.before.before.before.before in
     let a = b.args in
-    rw (byteAt-flat a.s (a.x * a.s.bytes + 0) a.y b.requires.1, c.before.before.before.before.wide.ensures, c.before.before.before.wide2.ensures, c.before.before.wide3.ensures, c.before.wide4.ensures, c.wide5.ensures) (omega arith)
+    rw (byte_at-flat a.s (a.x * a.s.bytes + 0) a.y b.requires.1, c.before.before.before.before.wide.ensures, c.before.before.before.wide2.ensures, c.before.before.wide3.ensures, c.before.wide4.ensures, c.wide5.ensures) (omega arith)
 
 pub place-in-rows-spec : {M : Type 1} → statement M
 place-in-rows-spec =

@@ -5,17 +5,17 @@ use mathlib.Core.Path.{◌∙◌}
 use Prim.Native.Nat.{◌-◌}
 use borrow.Author.Rules.{rules}
 use Rattle.surface.specs.Pixels.{px}
-use Rattle.surface.proofs.Run.{in_rows, pixel-held, read-run}
+use Rattle.surface.proofs.Run.{in-rows, pixel-held, read-run}
 use Rattle.paint.specs.Paint.{tallied}
 use Rattle.paint.proofs.Turns.{dab-at}
 use Rattle.paint.proofs.Loops.{RowLeft, row-begins, row_room, row-goes-on, row-ended}
-use Rattle.sweep.specs.Row.{rowGiving}
+use Rattle.sweep.specs.Row.{row_giving}
 use Rattle.sweep.proofs.TaskLaws.{row-pixel, pixel-given}
 use Rattle.sweep.proofs.paint_across.Statement.{statement}
 use Rattle.sweep.proofs.paint_across.Tie as tie
 
 abbrev invariant-loop : tie.invariant-loop
-invariant-loop mem₀ t source target bits w y back quads ink to r₀ i₀ mem r i = RowLeft t.ink.target (λ p now. rowGiving t quads bits now p) back t.x w y mem₀ r₀ i mem r
+invariant-loop mem₀ t source target bits w y back quads ink to r₀ i₀ mem r i = RowLeft t.ink.target (λ p now. row_giving t quads bits now p) back t.x w y mem₀ r₀ i mem r
 
 abbrev decreases-loop : tie.decreases-loop
 decreases-loop mem₀ t source target bits w y back quads ink to r₀ i₀ mem r i = w - i
@@ -45,7 +45,7 @@ get-bytes-requires : tie.Need-get-bytes-requires invariant-loop decreases-loop
 get-bytes-requires c κs =
     let b = c.before.before.before.before.before.before in
     let p = b.before.before.before.before.before.before.requires in
-    pixel-held (in_rows p.1.1.target) (row-pixel p.0 b.before.before.loop.invariant b.before.loop-test.true b.place.ensures).0 _ c.before.place-in-rows.ensures
+    pixel-held (in-rows p.1.1.target) (row-pixel p.0 b.before.before.loop.invariant b.before.loop-test.true b.place.ensures).0 _ c.before.place-in-rows.ensures
 
 quad-at-requires : tie.Need-quad-at-requires invariant-loop decreases-loop
 quad-at-requires c κs = (c.before.before.before.before.before.before.before.before.before.before.before.before.before.requires.1.0.1, c.before.before.before.before.before.before.pattern-column.ensures.1)
@@ -95,7 +95,7 @@ put-value-at-requires c κs =
     let p = b.before.before.before.before.before.before.requires in
     let left = b.before.before.loop.invariant in
     let more = b.before.loop-test.true in
-    (pixel-held (in_rows p.1.1.target) (row-pixel p.0 left more b.place.ensures).0 _ c.before.before.before.before.before.place-in-rows.ensures, row_room left p.0.room more)
+    (pixel-held (in-rows p.1.1.target) (row-pixel p.0 left more b.place.ensures).0 _ c.before.before.before.before.before.place-in-rows.ensures, row_room left p.0.room more)
 
 add-i : tie.Need-overflow-add-i invariant-loop decreases-loop
 add-i c = omega (arith, c.before.before.before.before.before.before.before.before.before.before.before.before.before.before.loop-test.true, c.before.before.before.before.before.before.before.before.before.before.before.before.before.before.before.before.before.before.before.requires.0.wide)
@@ -108,7 +108,7 @@ loop-again c =
     let b = c.before.before.before.before.before.before.before.before.before.before.before.before.before in
     let k = b.before.before.loop in
     let a = b.before.before.before.before.before.before.args in
-    let piece = in_rows b.before.before.before.before.before.before.requires.1.1.target in
+    let piece = in-rows b.before.before.before.before.before.before.requires.1.1.target in
     let x = b.place.result in
     let at = c.before.before.before.before.before.before.before.before.place-in-rows in
     row-goes-on k.invariant x b.before.loop-test.true b.place.ensures

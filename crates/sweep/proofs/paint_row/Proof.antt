@@ -7,9 +7,9 @@ use borrow.Author.Rules.{rules}
 use Rattle.surface.specs.Pixels.{across}
 use Rattle.surface.proofs.Rects.{in-across}
 use Rattle.paint.specs.Paint.{tallied}
-use Rattle.ink.specs.Pattern.{patternRow}
+use Rattle.ink.specs.Pattern.{pattern_row}
 use Rattle.sweep.specs.Copy.{giving}
-use Rattle.sweep.specs.Row.{rowGiving}
+use Rattle.sweep.specs.Row.{row_giving}
 use Rattle.paint.proofs.Turns.{paint-same}
 use Rattle.sweep.proofs.TaskLaws.{by_row, by-no-row}
 use Rattle.sweep.proofs.paint_row.Statement.{statement}
@@ -38,8 +38,8 @@ returns c =
     let bits = c.before.before.before.before.before.before.pattern-byte.ensures.0 in
     let row = c.before.before.before.before.before.before.before.pattern-row.ensures.0 in
     c.before.before.paint-across.ensures
-    ∙ paint-same a.t.ink.target (λ p now. rowGiving a.t a.blank _ now p) (λ p now. giving a.t a.pattern now now p) (across a.back a.t.x a.w a.y)
-    (λ p i now. by-no-row a.t a.pattern now p (row ∙ ap (λ (y : ℕ). patternRow a.t.ink y) (sym (in-across a.back a.t.x a.w a.y p i).2)) bits a.masks a.blank
+    ∙ paint-same a.t.ink.target (λ p now. row_giving a.t a.blank _ now p) (λ p now. giving a.t a.pattern now now p) (across a.back a.t.x a.w a.y)
+    (λ p i now. by-no-row a.t a.pattern now p (row ∙ ap (λ (y : ℕ). pattern_row a.t.ink y) (sym (in-across a.back a.t.x a.w a.y p i).2)) bits a.masks a.blank
     laid.bits (replicate 8 0) laid.unread free)
     (tallied a.mem.now a.n)
 
@@ -64,8 +64,8 @@ returns-2 c =
     let bits = c.before.before.before.before.before.before.before.before.pattern-byte.ensures.0 in
     let row = c.before.before.before.before.before.before.before.before.before.pattern-row.ensures.0 in
     c.before.before.paint-across2.ensures
-    ∙ paint-same a.t.ink.target (λ p now. rowGiving a.t quads.result _ now p) (λ p now. giving a.t a.pattern now now p) (across a.back a.t.x a.w a.y)
-    (λ p i now. by_row a.t a.pattern now p (row ∙ ap (λ (y : ℕ). patternRow a.t.ink y) (sym (in-across a.back a.t.x a.w a.y p i).2)) bits a.masks quads.result
+    ∙ paint-same a.t.ink.target (λ p now. row_giving a.t quads.result _ now p) (λ p now. giving a.t a.pattern now now p) (across a.back a.t.x a.w a.y)
+    (λ p i now. by_row a.t a.pattern now p (row ∙ ap (λ (y : ℕ). pattern_row a.t.ink y) (sym (in-across a.back a.t.x a.w a.y p i).2)) bits a.masks quads.result
     laid.bits values.result values.ensures quads.ensures)
     (tallied a.mem.now a.n)
 

@@ -9,10 +9,10 @@ use Rattle.sweep.proofs.paint_rows.Statement.{statement}
 use Rattle.sweep.proofs.paint_rows.Tie as tie
 
 abbrev invariant-loop : tie.invariant-loop
-invariant-loop mem₀ t pattern w h toLeft toTop source target masks blank n₀ j₀ mem n j = RowsLeft t.ink.target (λ p now. giving t pattern now now p) toLeft toTop t.x t.y w h mem₀ j mem n
+invariant-loop mem₀ t pattern w h to_left to_top source target masks blank n₀ j₀ mem n j = RowsLeft t.ink.target (λ p now. giving t pattern now now p) to_left to_top t.x t.y w h mem₀ j mem n
 
 abbrev decreases-loop : tie.decreases-loop
-decreases-loop mem₀ t pattern w h toLeft toTop source target masks blank n₀ j₀ mem n j = h - j
+decreases-loop mem₀ t pattern w h to_left to_top source target masks blank n₀ j₀ mem n j = h - j
 
 range-of-requires : tie.Need-range-of-requires invariant-loop decreases-loop
 range-of-requires c κs = search rules

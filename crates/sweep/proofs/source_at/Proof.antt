@@ -4,7 +4,7 @@ use borrow.Author.Rules.{rules}
 use native.Mathlib.Omega.{arith}
 use borrow.Author.Tests.{eq-eqb, ne_eqb, not-true, not-false}
 use Rattle.surface.proofs.OnLaws.{pos-of-ne}
-use Rattle.sweep.specs.Copy.{sourcePlace, sourceBy}
+use Rattle.sweep.specs.Copy.{source_place, source_by}
 use Rattle.sweep.proofs.source_at.Statement.{statement}
 use Rattle.sweep.proofs.source_at.Tie as tie
 
@@ -12,7 +12,7 @@ fill-source-requires : tie.Need-fill-source-requires
 fill-source-requires c κs = search rules
 
 returns : tie.Need-returns
-unfolding sourceBy sourcePlace
+unfolding source_by source_place
 returns c = rw (not-true c.before.before.before.before.before.args.t.copies c.before.if1.true) c.fill-source.ensures
 
 sub-sx : tie.Need-overflow-sub-sx
@@ -34,7 +34,7 @@ bit-source-requires : tie.Need-bit-source-requires
 bit-source-requires c κs = search rules
 
 returns-2 : tie.Need-returns-2
-unfolding sourceBy sourcePlace
+unfolding source_by source_place
 returns-2 c = rw (not-false c.before.before.before.before.before.before.before.before.before.before.before.before.args.t.copies c.before.before.before.before.before.before.before.before.if1.false, eq-eqb _ _ c.before.before.if2.true, ← c.before.get-bit.ensures) c.bit-source.ensures
 
 get-in-rows-requires : tie.Need-get-in-rows-requires
@@ -44,7 +44,7 @@ source-of-requires : tie.Need-source-of-requires
 source-of-requires c κs = c.before.before.before.before.before.before.before.before.before.before.before.requires.1.0
 
 returns-3 : tie.Need-returns-3
-unfolding sourceBy sourcePlace
+unfolding source_by source_place
 returns-3 c = rw (not-false c.before.before.before.before.before.before.before.before.before.before.before.before.args.t.copies c.before.before.before.before.before.before.before.before.if1.false, ne_eqb _ _ c.before.before.if2.false, ← c.before.get-in-rows.ensures) c.source_of.ensures
 
 pub source-at-spec : {M : Type 1} → statement M

@@ -32,7 +32,7 @@ source-rows-requires : tie.Need-source-rows-requires
 source-rows-requires c κs =
     let r = c.before.before.before.before.before.before.args.r in
     rw (c.before.before.before.target-surface.ensures, c.before.before.source-surface.ensures)
-    (target_small r.dstBaseAddr r.dstFormat, source-small r.srcBaseAddr r.srcFormat (width r) (omega arith), λ w h. (w, h))
+    (target_small r.dst_base_addr r.dst_format, source-small r.src_base_addr r.src_format (width r) (omega arith), λ w h. (w, h))
 
 returns-2 : tie.Need-returns-2
 returns-2 c =

@@ -11,7 +11,7 @@ source-surface-requires : tie.Need-source-surface-requires
 source-surface-requires c κs = search rules
 
 row-length-requires : tie.Need-row-length-requires
-row-length-requires c κs = record { format = rw c.before.source-surface.ensures (source-small c.before.before.args.r.srcBaseAddr c.before.before.args.r.srcFormat (width c.before.before.args.r) (omega arith)).bytes; fits = omega arith }
+row-length-requires c κs = record { format = rw c.before.source-surface.ensures (source-small c.before.before.args.r.src_base_addr c.before.before.args.r.src_format (width c.before.before.args.r) (omega arith)).bytes; fits = omega arith }
 
 returns : tie.Need-returns
 returns c = rw (c.before.before.before.before.before.row-length.ensures, c.before.before.before.before.before.before.before.source-surface.ensures)

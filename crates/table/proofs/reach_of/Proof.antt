@@ -2,7 +2,7 @@
 -- Assumes nothing.
 use borrow.Author.Rules.{rules}
 use native.Mathlib.Omega.{arith}
-use Rattle.table.specs.Table.{reachOf}
+use Rattle.table.specs.Table.{reach_of}
 use Rattle.table.proofs.Stretches.{reach-up}
 use Rattle.table.proofs.reach_of.Statement.{statement}
 use Rattle.table.proofs.reach_of.Tie as tie
@@ -32,7 +32,7 @@ add-t8 : tie.Need-overflow-add-t8
 add-t8 c = search rules
 
 returns : tie.Need-returns
-unfolding reachOf
+unfolding reach_of
 returns c = rw (c.before.place_of.ensures.0, c.place-of2.ensures.0)
 
 pub reach-of-spec : {M : Type 1} → statement M

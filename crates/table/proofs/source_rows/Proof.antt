@@ -4,7 +4,7 @@ use borrow.Author.Rules.{rules}
 use mathlib.Core.Path.{refl, sym, ◌∙◌}
 use Rattle.cuts.specs.Cut.{needed}
 use Rattle.table.proofs.Rows.{rows-by}
-use Rattle.table.proofs.Verdicts.{neither, in_rows}
+use Rattle.table.proofs.Verdicts.{neither, in-rows}
 use Rattle.table.proofs.source_rows.Statement.{statement}
 use Rattle.table.proofs.source_rows.Tie as tie
 
@@ -28,7 +28,7 @@ spans-clash-requires c κs =
     let a = k.before.before.before.before.args in
     let p = k.before.before.before.before.requires in
     let on = neither k.before.rect-in.result k.needed-on.result c.before.if1.false in
-    in_rows a.t a.s a.len a.c a.b p.0 p.1 p.2 (sym k.before.rect-in.ensures ∙ on.0) (sym k.needed-on.ensures ∙ on.1)
+    in-rows a.t a.s a.len a.c a.b p.0 p.1 p.2 (sym k.before.rect-in.ensures ∙ on.0) (sym k.needed-on.ensures ∙ on.1)
 
 returns-2 : tie.Need-returns-2
 returns-2 c =

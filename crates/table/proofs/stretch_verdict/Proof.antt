@@ -5,7 +5,7 @@ use mathlib.Core.Path.{sym, ap₂, ◌∙◌}
 use borrow.Author.Tests.{not-true, not-false}
 use Rattle.scale.specs.declared.Stretch.{Stretch}
 use Rattle.cuts.specs.declared.Cut.{Cut}
-use Rattle.table.specs.Table.{stretchRows}
+use Rattle.table.specs.Table.{stretch_rows}
 use Rattle.table.proofs.Stretches.{stretch-scales, stretch-format, stretch-faulty, stretch-by}
 use Rattle.table.proofs.stretch_verdict.Statement.{statement}
 use Rattle.table.proofs.stretch_verdict.Tie as tie
@@ -38,7 +38,7 @@ returns-3 : tie.Need-returns-3
 returns-3 c =
     let a = c.before.before.before.before.before.before.before.before.args in
     c.stretch-rows.ensures
-    ∙ ap₂ (λ (t : Stretch) (k : Cut). stretchRows t k a.len) c.before.before.before.decode-stretch.ensures c.before.before.fill-cut.ensures
+    ∙ ap₂ (λ (t : Stretch) (k : Cut). stretch_rows t k a.len) c.before.before.before.decode-stretch.ensures c.before.before.fill-cut.ensures
     ∙ stretch-by a.r a.len
     (sym c.before.before.before.before.before.before.before.both-fine.ensures ∙ not-false c.before.before.before.before.before.before.before.both-fine.result c.before.before.before.before.before.before.if1.false)
     (sym c.before.before.before.before.before.stretch-fault.ensures ∙ c.before.before.before.before.if2.false)

@@ -4,7 +4,7 @@ use borrow.Author.Rules.{rules}
 use mathlib.Core.Path.{◌≡◌, refl}
 use mathlib.Core.Bool.{Bool, true, false, cond}
 use mir.Val.{bool_byte}
-use Rattle.tail.specs.Layout.{withRest, encoded}
+use Rattle.tail.specs.Layout.{with_rest, encoded}
 use Rattle.tail.proofs.Laws.{laid}
 use Rattle.tail.proofs.save.Statement.{statement}
 use Rattle.tail.proofs.save.Tie as tie
@@ -35,7 +35,7 @@ same_length : tie.Need-same-length
 same_length c = search rules
 
 returns : tie.Need-returns
-unfolding encoded withRest
+unfolding encoded with_rest
 returns c =
     let a = c.before.before.before.before.before.before.before.before.before.before.before.before.before.before.before.before.before.before.before.before.before.args in
     rw (c.before.before.save-rest.ensures.0, c.before.before.before.before.before.before.put-word4.ensures.0, c.before.before.before.before.before.before.before.before.before.before.put-word3.ensures.0, c.before.before.before.before.before.before.before.before.before.before.before.before.before.before.put-word2.ensures.0, c.before.before.before.before.before.before.before.before.before.before.before.before.before.before.before.before.before.before.put_word.ensures.0, as_number)

@@ -2,7 +2,7 @@
 -- Assumes nothing.
 use borrow.Author.Rules.{rules}
 use mathlib.Core.Path.{◌∙◌}
-use Rattle.tail.specs.Layout.{withRest}
+use Rattle.tail.specs.Layout.{with_rest}
 use Rattle.tail.proofs.save_rest.Statement.{statement}
 use Rattle.tail.proofs.save_rest.Tie as tie
 
@@ -34,7 +34,7 @@ same_length : tie.Need-same-length
 same_length c = search rules
 
 returns : tie.Need-returns
-unfolding withRest
+unfolding with_rest
 returns c =
     let w4 = c.before.before.put-word4.ensures in
     let w3 = c.before.before.before.before.before.before.before.put-word3.ensures in

@@ -5,8 +5,8 @@ use borrow.Author.Rules.{rules}
 use mathlib.Core.Path.{◌≡◌, ap₂, ◌∙◌}
 use Prim.Native.Nat.{ℕ, ◌+◌, ◌-◌, ◌*◌, ◌/◌, ◌%◌, ◌<◌, ◌≤◌}
 use lib.ListN.{length}
-use Rattle.ink.specs.Pattern.{patternColumn, patternRow, patternBit}
-use Rattle.tint.specs.Masking.{maskFor, maskHere, Tables, tables, MadeOf}
+use Rattle.ink.specs.Pattern.{pattern_column, pattern_row, pattern_bit}
+use Rattle.tint.specs.Masking.{mask_for, mask_here, Tables, tables, MadeOf}
 use Rattle.tint.proofs.ByteLaws.{one_more, made_none, made_more}
 use Rattle.tint.proofs.FillLaws.{bit-there}
 use Rattle.tint.proofs.masks_at.Statement.{statement}
@@ -159,12 +159,12 @@ loop2-again c =
     let across : i b ≡ k b % 8 = omega (arith, b.loop2-test.true) in
     let down : j b ≡ k b / 8 = omega (arith, b.loop2-test.true) in
     let r = b.before.before.before in
-    let bit : d.before.bit-of.result ≡ patternBit a.t5 (patternColumn a.ink (a.x + i b)) (patternRow a.ink (a.y + j b)) =
+    let bit : d.before.bit-of.result ≡ pattern_bit a.t5 (pattern_column a.ink (a.x + i b)) (pattern_row a.ink (a.y + j b)) =
     bit-there a.t5 d.before.before.pattern-column.result r.pattern-row.result d.before.bit-of.ensures b.before.before.wide.ensures
-    ∙ ap₂ (patternBit a.t5) d.before.before.pattern-column.ensures.0 r.pattern-row.ensures.0 in
-    let there = bit ∙ ap₂ (λ (i j : ℕ). patternBit a.t5 (patternColumn a.ink (a.x + i)) (patternRow a.ink (a.y + j))) across down in
+    ∙ ap₂ (pattern_bit a.t5) d.before.before.pattern-column.ensures.0 r.pattern-row.ensures.0 in
+    let there = bit ∙ ap₂ (λ (i j : ℕ). pattern_bit a.t5 (pattern_column a.ink (a.x + i)) (pattern_row a.ink (a.y + j))) across down in
     let value = b.before.before.before.before.before.before.values-at.ensures.at (k b) (omega arith) in
-    let mask : d.mask-of.result ≡ maskHere a.ink a.t5 a.x a.y (k b) = d.mask-of.ensures ∙ ap₂ (maskFor a.ink) value there in
+    let mask : d.mask-of.result ≡ mask_here a.ink a.t5 a.x a.y (k b) = d.mask-of.ensures ∙ ap₂ (mask_for a.ink) value there in
     let e : j b * 8 + (i b + 1) ≡ k b + 1 = omega arith in
     (omega arith, λ old m. rw (e, c.put-bytes2.ensures, c.before.before.put-bytes.ensures) (made_more (l.invariant.1 old m) (omega (arith, room b, keeps b)) (omega (arith, room b, flips b)) (omega (arith, few b, counts b)) mask))
 

@@ -8,13 +8,13 @@ use lib.ListN.{length}
 use borrow.Author.Rules.{rules}
 use Rattle.paint.specs.Paint.{tallied}
 use Rattle.paint.proofs.Loops.{RowsLeft, rows-begin, rows-room, rows-go-on, rows-ended}
-use Rattle.tint.specs.Masking.{downTint}
+use Rattle.tint.specs.Masking.{down_tint}
 use Rattle.tint.proofs.FillLaws.{down-row}
 use Rattle.tint.proofs.tint_rows.Statement.{statement}
 use Rattle.tint.proofs.tint_rows.Tie as tie
 
 abbrev invariant-loop : tie.invariant-loop
-invariant-loop mem₀ s keep flip adds x y w h old₀ n₀ j₀ mem old n j = RowsLeft s (λ p now. downTint s keep flip adds x y now p) false false x y w h mem₀ j mem n × (length old ≡ 1024)
+invariant-loop mem₀ s keep flip adds x y w h old₀ n₀ j₀ mem old n j = RowsLeft s (λ p now. down_tint s keep flip adds x y now p) false false x y w h mem₀ j mem n × (length old ≡ 1024)
 
 abbrev decreases-loop : tie.decreases-loop
 decreases-loop mem₀ s keep flip adds x y w h old₀ n₀ j₀ mem old n j = h - j

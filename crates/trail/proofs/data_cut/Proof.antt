@@ -4,7 +4,7 @@ use borrow.Author.Rules.{rules}
 use mathlib.Core.Path.{ap₂, ◌∙◌}
 use Rattle.host.specs.declared.Feed.{Feed}
 use Rattle.cuts.specs.declared.Cut.{Cut}
-use Rattle.drips.specs.Drips.{dataBox}
+use Rattle.drips.specs.Drips.{data_box}
 use Rattle.trail.proofs.Boxes.{fill-boxable}
 use Rattle.trail.proofs.data_cut.Statement.{statement}
 use Rattle.trail.proofs.data_cut.Tie as tie
@@ -22,7 +22,7 @@ data-box-requires c κs =
 returns : tie.Need-returns
 returns c =
     let start = c.before.before.before in
-    c.data-box.ensures ∙ ap₂ (λ (f : Feed) (k : Cut). dataBox f k start.args.taken start.args.n) c.before.before.decode-feed.ensures c.before.fill-cut.ensures
+    c.data-box.ensures ∙ ap₂ (λ (f : Feed) (k : Cut). data_box f k start.args.taken start.args.n) c.before.before.decode-feed.ensures c.before.fill-cut.ensures
 
 pub data-cut-spec : {M : Type 1} → statement M
 data-cut-spec = tie.close (tie.spec decode-feed-requires fill-cut-requires data-box-requires returns)

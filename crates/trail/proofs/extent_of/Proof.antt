@@ -4,7 +4,7 @@ use borrow.Author.Rules.{rules}
 use mathlib.Core.Path.{ap₂, ◌∙◌}
 use Rattle.surface.specs.declared.Surface.{Surface}
 use Rattle.cuts.specs.declared.Cut.{Cut}
-use Rattle.pages.specs.Extent.{extentOf}
+use Rattle.pages.specs.Extent.{extent_of}
 use Rattle.trail.proofs.Boxes.{sized}
 use Rattle.trail.proofs.extent_of.Statement.{statement}
 use Rattle.trail.proofs.extent_of.Tie as tie
@@ -23,7 +23,7 @@ returns : tie.Need-returns
 returns c =
     let start = c.before.before.before in
     c.extent-of.ensures
-    ∙ ap₂ (λ (s : Surface) (b : Cut). extentOf s b.x b.y b.w b.h start.args.count) c.before.target-surface.ensures c.before.before.box_of.ensures
+    ∙ ap₂ (λ (s : Surface) (b : Cut). extent_of s b.x b.y b.w b.h start.args.count) c.before.target-surface.ensures c.before.before.box_of.ensures
 
 pub extent-of-spec : {M : Type 1} → statement M
 extent-of-spec = tie.close (tie.spec box-of-requires target-surface-requires extent-of-requires returns)

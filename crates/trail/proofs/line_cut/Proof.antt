@@ -4,7 +4,7 @@ use borrow.Author.Rules.{rules}
 use mathlib.Core.Path.{ap₂, ◌∙◌}
 use Rattle.cuts.proofs.CutLaws.{clip-bits}
 use Rattle.table.proofs.Verdicts.{line-placed}
-use Rattle.dots.specs.Dots.{lineBox}
+use Rattle.dots.specs.Dots.{line_box}
 use Rattle.trail.proofs.line_cut.Statement.{statement}
 use Rattle.trail.proofs.line_cut.Tie as tie
 
@@ -19,7 +19,7 @@ line-box-requires c κs =
     let start = c.before.before in rw (c.before.decode-line.ensures, c.decode-clip.ensures) (line-placed start.args.r, clip-bits start.args.r)
 
 returns : tie.Need-returns
-returns c = c.line-box.ensures ∙ ap₂ lineBox c.before.before.decode-line.ensures c.before.decode-clip.ensures
+returns c = c.line-box.ensures ∙ ap₂ line_box c.before.before.decode-line.ensures c.before.decode-clip.ensures
 
 pub line-cut-spec : {M : Type 1} → statement M
 line-cut-spec = tie.close (tie.spec decode-line-requires decode-clip-requires line-box-requires returns)

@@ -7,11 +7,11 @@ use native.Mathlib.Omega.{arith}
 use lib.ListN.{length}
 use Rattle.command.specs.Decode.{target}
 use Rattle.pages.specs.declared.Extent.{Extent}
-use Rattle.pages.specs.Pages.{markedAt}
+use Rattle.pages.specs.Pages.{marked_at}
 use Rattle.pages.specs.Extent.{starts}
 use Rattle.pages.proofs.ExtentLaws.{extent-whole, extent-past}
-use Rattle.acts.specs.Deed.{bankOf}
-use Rattle.trail.specs.Trail.{boxBy}
+use Rattle.acts.specs.Deed.{bank_of}
+use Rattle.trail.specs.Trail.{box_by}
 use Rattle.trail.proofs.Wets.{lies}
 use Rattle.trail.proofs.mark.Statement.{statement}
 use Rattle.trail.proofs.mark.Tie as tie
@@ -26,17 +26,17 @@ mark-pages-requires : tie.Need-mark-pages-requires
 mark-pages-requires c κs =
     let start = c.before.before.before.before.before in
     let a = start.args in
-    let b = boxBy a.r a.blit.taken (length a.words.now) in
+    let b = box_by a.r a.blit.taken (length a.words.now) in
     rw c.before.before.extent-of.ensures (extent-past (target a.r) b.x b.y b.w b.h a.count)
 
 returns : tie.Need-returns
 returns c =
     let start = c.before.before.before.before.before.before in
     let a = start.args in
-    let b = bankOf a.r a.pattern.now in
+    let b = bank_of a.r a.pattern.now in
     let whole = sym (ap (λ (e : Extent). e.whole) c.before.before.before.extent-of.ensures) ∙ c.before.before.if1.true in
     c.mark-pages.ensures
-    ∙ ap (λ (e : Extent). markedAt (starts e.first (e.past - e.first)) a.marks.now) c.before.before.before.extent-of.ensures
+    ∙ ap (λ (e : Extent). marked_at (starts e.first (e.past - e.first)) a.marks.now) c.before.before.before.extent-of.ensures
     ∙ sym (extent-whole (lies b a.blit a.words.now a.mem.now a.count start.requires) whole a.marks.now)
 
 walk-requires : tie.Need-walk-requires

@@ -2,8 +2,8 @@
 -- Assumes nothing.
 use borrow.Author.Rules.{rules}
 use borrow.Author.Tests.{eq-eqb, ne_eqb}
-use Rattle.command.specs.Decode.{stretchOf}
-use Rattle.trail.specs.Trail.{sieveOf}
+use Rattle.command.specs.Decode.{stretch_of}
+use Rattle.trail.specs.Trail.{sieve_of}
 use Rattle.trail.proofs.sieve_of.Statement.{statement}
 use Rattle.trail.proofs.sieve_of.Tie as tie
 
@@ -17,14 +17,14 @@ no-scale-requires-2 : tie.Need-no-scale-requires-2
 no-scale-requires-2 c κs = search rules
 
 returns : tie.Need-returns
-unfolding sieveOf
+unfolding sieve_of
 returns c = rw (eq-eqb _ _ c.before.before.before.if1.true, c.before.before.copy-task.ensures, c.before.no-scale.ensures, c.no-scale2.ensures)
 
 decode-stretch-requires : tie.Need-decode-stretch-requires
 decode-stretch-requires c κs = search rules
 
 returns-2 : tie.Need-returns-2
-unfolding sieveOf stretchOf
+unfolding sieve_of stretch_of
 returns-2 c =
     rw (ne_eqb _ _ c.before.before.before.before.before.before.if1.false, eq-eqb _ _ c.before.before.before.before.before.if2.true, c.before.before.before.before.decode-stretch.ensures)
 
@@ -38,7 +38,7 @@ no-scale-requires-4 : tie.Need-no-scale-requires-4
 no-scale-requires-4 c κs = search rules
 
 returns-3 : tie.Need-returns-3
-unfolding sieveOf
+unfolding sieve_of
 returns-3 c =
     rw (ne_eqb _ _ c.before.before.before.before.if1.false, ne_eqb _ _ c.before.before.before.if2.false, c.before.before.fill-task.ensures, c.before.no-scale3.ensures, c.no-scale4.ensures)
 

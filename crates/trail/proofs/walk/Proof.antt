@@ -5,10 +5,10 @@ use mathlib.Core.Path.{ap, ◌∙◌}
 use mathlib.Core.List.{List}
 use native.Mathlib.Omega.{arith}
 use Rattle.surface.specs.Pixels.{Px}
-use Rattle.command.specs.Decode.{target, inkOf}
+use Rattle.command.specs.Decode.{target, ink_of}
 use Rattle.pages.specs.Pages.{marking}
-use Rattle.acts.specs.Deed.{bankOf}
-use Rattle.trail.specs.Trail.{sieveOf}
+use Rattle.acts.specs.Deed.{bank_of}
+use Rattle.trail.specs.Trail.{sieve_of}
 use Rattle.trail.proofs.Sieves.{copy-one, other-one}
 use Rattle.trail.proofs.Boxes.{host-asked, host-wet, line-asked, line-wet}
 use Rattle.trail.proofs.walk.Statement.{statement}
@@ -28,17 +28,17 @@ mark-data-requires c κs =
     let start = c.before.before.before.before.before.before.before.before in
     let a = start.args in
     rw (c.before.before.before.decode-ink.ensures, c.before.before.decode-clip.ensures, c.before.decode-feed.ensures)
-    (host-asked (bankOf a.r a.pattern.now) a.blit a.words.now a.mem.now a.count start.requires c.before.before.before.before.if1.true)
+    (host-asked (bank_of a.r a.pattern.now) a.blit a.words.now a.mem.now a.count start.requires c.before.before.before.before.if1.true)
 
 returns : tie.Need-returns
-unfolding inkOf
+unfolding ink_of
 returns c =
     let start = c.before.before.before.before.before.before.before.before.before in
     let a = start.args in
     c.mark-data.ensures
     ∙ rw (c.before.before.before.before.decode-ink.ensures, c.before.before.before.decode-clip.ensures, c.before.before.decode-feed.ensures)
     (ap (λ (ps : List Px). marking (target a.r) ps a.marks.now)
-    (host-wet (bankOf a.r a.pattern.now) a.blit a.words.now a.mem.now a.count start.requires c.before.before.before.before.before.if1.true))
+    (host-wet (bank_of a.r a.pattern.now) a.blit a.words.now a.mem.now a.count start.requires c.before.before.before.before.before.if1.true))
 
 decode-ink-requires-2 : tie.Need-decode-ink-requires-2
 decode-ink-requires-2 c κs = search rules
@@ -57,17 +57,17 @@ mark-dots-requires c κs =
     let start = c.before.before.before.before.before.before.before.before.before.before in
     let a = start.args in
     rw (c.before.before.before.before.decode-ink2.ensures, c.before.before.before.decode-clip2.ensures, c.before.before.decode-line.ensures)
-    (line-asked (bankOf a.r a.pattern.now) a.blit a.words.now a.mem.now a.count start.requires c.before.before.before.before.before.if2.true)
+    (line-asked (bank_of a.r a.pattern.now) a.blit a.words.now a.mem.now a.count start.requires c.before.before.before.before.before.if2.true)
 
 returns-2 : tie.Need-returns-2
-unfolding inkOf
+unfolding ink_of
 returns-2 c =
     let start = c.before.before.before.before.before.before.before.before.before.before.before in
     let a = start.args in
     c.mark-dots.ensures
     ∙ rw (c.before.before.before.before.before.decode-ink2.ensures, c.before.before.before.before.decode-clip2.ensures, c.before.before.before.decode-line.ensures, c.before.before.decode-pen.ensures)
     (ap (λ (ps : List Px). marking (target a.r) ps a.marks.now)
-    (line-wet (bankOf a.r a.pattern.now) a.blit a.words.now a.mem.now a.count start.requires c.before.before.before.before.before.before.if2.true))
+    (line-wet (bank_of a.r a.pattern.now) a.blit a.words.now a.mem.now a.count start.requires c.before.before.before.before.before.before.if2.true))
 
 sieve-of-requires : tie.Need-sieve-of-requires
 sieve-of-requires c κs = search rules
@@ -79,15 +79,15 @@ mark-some-requires : tie.Need-mark-some-requires
 mark-some-requires c κs =
     let start = c.before.before.before.before.before.before.before.before.before in
     let a = start.args in
-    let s = copy-one (bankOf a.r a.pattern.now) a.blit a.words.now a.mem.now a.count start.requires c.before.before.if3.true in
+    let s = copy-one (bank_of a.r a.pattern.now) a.blit a.words.now a.mem.now a.count start.requires c.before.before.if3.true in
     rw (c.before.before.before.sieve-of.ensures, c.copy-cut.ensures) (s.can, s.full)
 
 returns-3 : tie.Need-returns-3
-unfolding sieveOf
+unfolding sieve_of
 returns-3 c =
     let start = c.before.before.before.before.before.before.before.before.before.before in
     let a = start.args in
-    let s = copy-one (bankOf a.r a.pattern.now) a.blit a.words.now a.mem.now a.count start.requires c.before.before.before.if3.true in
+    let s = copy-one (bank_of a.r a.pattern.now) a.blit a.words.now a.mem.now a.count start.requires c.before.before.before.if3.true in
     c.mark-some.ensures
     ∙ rw (c.before.before.before.before.sieve-of.ensures, c.before.copy-cut.ensures, s.to) (s.same a.marks.now)
 
@@ -98,16 +98,16 @@ mark-some-requires-2 : tie.Need-mark-some-requires-2
 mark-some-requires-2 c κs =
     let start = c.before.before.before.before.before.before.before.before.before in
     let a = start.args in
-    let s = other-one (bankOf a.r a.pattern.now) a.blit a.words.now a.mem.now a.count start.requires c.before.before.if3.false c.before.before.before.before.before.if1.false
+    let s = other-one (bank_of a.r a.pattern.now) a.blit a.words.now a.mem.now a.count start.requires c.before.before.if3.false c.before.before.before.before.before.if1.false
     (omega (arith, c.before.before.before.before.if2.false)) in
     rw (c.before.before.before.sieve-of.ensures, c.fill-cut.ensures) (s.can, s.full)
 
 returns-4 : tie.Need-returns-4
-unfolding sieveOf
+unfolding sieve_of
 returns-4 c =
     let start = c.before.before.before.before.before.before.before.before.before.before in
     let a = start.args in
-    let s = other-one (bankOf a.r a.pattern.now) a.blit a.words.now a.mem.now a.count start.requires c.before.before.before.if3.false c.before.before.before.before.before.before.if1.false
+    let s = other-one (bank_of a.r a.pattern.now) a.blit a.words.now a.mem.now a.count start.requires c.before.before.before.if3.false c.before.before.before.before.before.before.if1.false
     (omega (arith, c.before.before.before.before.before.if2.false)) in
     c.mark-some2.ensures
     ∙ rw (c.before.before.before.before.sieve-of.ensures, c.before.fill-cut.ensures, s.to) (s.same a.marks.now)

@@ -12,7 +12,7 @@ use Rattle.surface.proofs.OnLaws.{on-column}
 use Rattle.paint.specs.Paint.{changing, summed}
 use Rattle.blocks.specs.Blocks.{Put}
 use Rattle.blocks.proofs.Blocks.{put-none}
-use Rattle.wash.specs.Wash.{washed, in_row, inRows}
+use Rattle.wash.specs.Wash.{washed, in_row, in_rows}
 use Rattle.wash.proofs.Pieces.{row_more}
 use Rattle.wash.proofs.Sums.{row-sum, rows_few}
 use Rattle.wash.proofs.wash_lines.Statement.{statement}
@@ -20,7 +20,7 @@ use Rattle.wash.proofs.wash_lines.Tie as tie
 
 abbrev invariant-loop : tie.invariant-loop
 invariant-loop mem₀ s keep flip x y w h old₀ new₀ r₀ j₀ mem old new r j =
-    Put s (washed s keep flip (inRows 160 (8 * s.bytes) (x * s.bytes) y) mem₀) (x * s.bytes) y (w * s.bytes) j mem₀ mem
+    Put s (washed s keep flip (in_rows 160 (8 * s.bytes) (x * s.bytes) y) mem₀) (x * s.bytes) y (w * s.bytes) j mem₀ mem
     × (r ≡ summed (changing s mem₀ mem) (rect false false x y w j)) × (j ≤ h) × (length old ≡ 1024) × (length new ≡ 1024)
 
 abbrev decreases-loop : tie.decreases-loop
@@ -31,7 +31,7 @@ unfolding summed rect
 loop-holds c =
     let a = c.before.args in
     let b = a.s.bytes in
-    (put-none a.s (washed a.s a.keep.now a.flip.now (inRows 160 (8 * b) (a.x * b) a.y) a.mem.now) (a.x * b) a.y (a.w * b) 0 a.mem.now (λ p i. omega arith), refl, omega arith, refl, refl)
+    (put-none a.s (washed a.s a.keep.now a.flip.now (in_rows 160 (8 * b) (a.x * b) a.y) a.mem.now) (a.x * b) a.y (a.w * b) 0 a.mem.now (λ p i. omega arith), refl, omega arith, refl, refl)
 
 mul_wide : tie.Need-overflow-mul-wide invariant-loop decreases-loop
 mul_wide c = search rules
@@ -117,7 +117,7 @@ returns c =
     let b = a.s.bytes in
     let l = c.before.loop in
     let end : l.j ≡ a.h = omega (arith, c.loop-test.false, l.invariant.2) in
-    subst (λ (j : ℕ). Put a.s (washed a.s a.keep.now a.flip.now (inRows 160 (8 * b) (a.x * b) a.y) a.mem.now) (a.x * b) a.y (a.w * b) j a.mem.now l.mem
+    subst (λ (j : ℕ). Put a.s (washed a.s a.keep.now a.flip.now (in_rows 160 (8 * b) (a.x * b) a.y) a.mem.now) (a.x * b) a.y (a.w * b) j a.mem.now l.mem
     × (l.r ≡ summed (changing a.s a.mem.now l.mem) (rect false false a.x a.y a.w j))) end (l.invariant.0, l.invariant.1)
 
 pub wash-lines-spec : {M : Type 1} → statement M

@@ -5,9 +5,9 @@ use mathlib.Core.Path.{subst⁻¹}
 use Rattle.bank.specs.declared.Bank.{Bank}
 use Rattle.rooms.specs.declared.Rooms.{Rooms}
 use Rattle.acts.specs.declared.Blit.{Blit}
-use Rattle.acts.specs.Fed.{fed, feedingRun}
+use Rattle.acts.specs.Fed.{fed, feeding_run}
 use Rattle.words.specs.declared.Sums.{Sums}
-use Rattle.words.specs.Words.{Ran, ranFrom}
+use Rattle.words.specs.Words.{Ran, ran_from}
 use Rattle.words.proofs.Laws.{Fits, part-rest, long-stops, other-stops, start-stops, start-goes, went-word, ran_ends}
 use Rattle.words.proofs.Feeds.{Turned, turned}
 use Rattle.words.proofs.take_run.Statement.{statement}
@@ -19,7 +19,7 @@ sofar opened rooms m b k t = record { engine = record { bank = b; blit = k; open
 
 abbrev invariant-loop : tie.invariant-loop
 invariant-loop mem₀ words opened rooms bank₀ blit₀ sums₀ mem bank blit sums =
-    (ranFrom (sofar opened rooms mem bank blit sums) (drop sums.taken words) ≡ ranFrom (sofar opened rooms mem₀ bank₀ blit₀ sums₀) (drop sums₀.taken words)) × (length mem ≡ length mem₀)
+    (ran_from (sofar opened rooms mem bank blit sums) (drop sums.taken words) ≡ ran_from (sofar opened rooms mem₀ bank₀ blit₀ sums₀) (drop sums₀.taken words)) × (length mem ≡ length mem₀)
 
 abbrev decreases-loop : tie.decreases-loop
 decreases-loop mem₀ words opened rooms bank₀ blit₀ sums₀ mem bank blit sums = length words - sums.taken
@@ -80,7 +80,7 @@ feed-run-requires c κs = search rules
 was-fed : (c : tie.After-feed-run invariant-loop decreases-loop) → let l = c.before.before.before.before.before.before.before.before in Turned (W l) (S l) (fed c.feed-run.result c.feed-run.new.1.1.0)
 was-fed c =
     let l = c.before.before.before.before.before.before.before.before in
-    subst⁻¹ (Turned (W l) (S l)) (c.feed-run.ensures ∙ ap (feedingRun l.loop.bank l.loop.blit l.loop.mem) (part-rest (W l) l.loop.sums.taken))
+    subst⁻¹ (Turned (W l) (S l)) (c.feed-run.ensures ∙ ap (feeding_run l.loop.bank l.loop.blit l.loop.mem) (part-rest (W l) l.loop.sums.taken))
     (turned (W l) (S l) (fits c.before.before.before.before) c.before.before.before.if4.true c.before.before.before.before.before.before.if1.true)
 
 ended-requires-3 : tie.Need-ended-requires-3 invariant-loop decreases-loop

@@ -1,7 +1,7 @@
 -- `engine::Engine::open` meets its contract.
 -- Assumes nothing.
 use borrow.Author.Rules.{rules}
-use Rattle.engine.specs.Step.{freshEngine}
+use Rattle.engine.specs.Step.{fresh_engine}
 use Rattle.engine.proofs.Engine.open.Statement.{statement}
 use Rattle.engine.proofs.Engine.open.Tie as tie
 
@@ -15,7 +15,7 @@ no-rooms-requires : tie.Need-no-rooms-requires
 no-rooms-requires c κs = search rules
 
 returns : tie.Need-returns
-unfolding freshEngine
+unfolding fresh_engine
 returns c = rw (c.before.before.fresh.ensures, c.before.no-blit.ensures, c.no-rooms.ensures)
 
 pub open_spec : {M : Type 1} → statement M

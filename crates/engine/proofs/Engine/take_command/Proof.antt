@@ -6,9 +6,9 @@ use borrow.Author.Tests.{eq-eqb, ne_eqb}
 use Rattle.bank.specs.declared.Bank.{Bank}
 use Rattle.bank.specs.Bank.{stored}
 use Rattle.acts.specs.declared.Blit.{Blit}
-use Rattle.acts.specs.Deed.{bankOf, carrying}
+use Rattle.acts.specs.Deed.{bank_of, carrying}
 use Rattle.engine.specs.declared.Answer.TheVariants.{Taken}
-use Rattle.engine.specs.Step.{storedIn, step, judging, carried, commanded}
+use Rattle.engine.specs.Step.{stored_in, step, judging, carried, commanded}
 use Rattle.engine.proofs.Laws.{settled-as}
 use Rattle.engine.proofs.Engine.take_command.Statement.{statement}
 use Rattle.engine.proofs.Engine.take_command.Tie as tie
@@ -29,20 +29,20 @@ same_length : tie.Need-same-length
 same_length c = search rules
 
 returns : tie.Need-returns
-unfolding commanded carried storedIn stored
+unfolding commanded carried stored_in stored
 returns c =
     let a = c.before.before.before.before.before.before.before.before.before.before.before.before.before.before.args in
     let e = a.self in
     let regs = c.before.before.before.before.before.before.before.before.before.before.before.store.result.regs in
     let resting = c.before.before.before.before.before.before.before.before.before.before.no-blit.result in
-    let next = bankOf regs e.bank.pattern in
-    let kept : next ≡ stored e.bank 0x70 a.word = ap (λ (b : Bank). bankOf b.regs e.bank.pattern) c.before.before.before.before.before.before.before.before.before.before.before.store.ensures in
+    let next = bank_of regs e.bank.pattern in
+    let kept : next ≡ stored e.bank 0x70 a.word = ap (λ (b : Bank). bank_of b.regs e.bank.pattern) c.before.before.before.before.before.before.before.before.before.before.before.store.ensures in
     rw (eq-eqb _ _ c.before.before.before.before.before.before.before.before.if1.true)
     (settled-as e regs c.before.before.before.carry.result _ (carrying next resting a.mem.now) next resting a.mem.now c.settle.ensures c.before.before.before.carry.ensures
     ∙ ap₂ (λ (b : Bank) (k : Blit). judging e e a.mem.now (carrying b k a.mem.now)) kept c.before.before.before.before.before.before.before.before.before.before.no-blit.ensures)
 
 returns-2 : tie.Need-returns-2
-unfolding commanded storedIn
+unfolding commanded stored_in
 returns-2 c =
     let a = c.before.before.before.before.before.before.args in
     rw (ne_eqb _ _ c.if1.false)

@@ -4,21 +4,21 @@ use borrow.Author.Rules.{rules}
 use mathlib.Core.Path.{ap, ◌∙◌}
 use Rattle.engine.proofs.Laws.{waits, rests}
 use Rattle.bank.specs.declared.Bank.{Bank}
-use Rattle.engine.specs.Step.{toPattern, step, withBank}
+use Rattle.engine.specs.Step.{to_pattern, step, with_bank}
 use Rattle.engine.specs.declared.Answer.TheVariants.{Taken}
 use Rattle.engine.proofs.Engine.take_pattern.Statement.{statement}
 use Rattle.engine.proofs.Engine.take_pattern.Tie as tie
 
 returns : tie.Need-returns
-unfolding toPattern
+unfolding to_pattern
 returns c = waits c.before.before.args.self.blit.waiting _ _ c.if1.true
 
 store-pattern-requires : tie.Need-store-pattern-requires
 store-pattern-requires c κs = search rules
 
 returns-2 : tie.Need-returns-2
-unfolding toPattern
-returns-2 c = ap (λ (b : Bank). step (withBank c.before.before.before.before.args.self b) c.before.before.before.before.args.mem.now (Taken 0 0)) c.store-pattern.ensures ∙ rests c.before.before.before.before.args.self.blit.waiting _ _ c.before.before.if1.false
+unfolding to_pattern
+returns-2 c = ap (λ (b : Bank). step (with_bank c.before.before.before.before.args.self b) c.before.before.before.before.args.mem.now (Taken 0 0)) c.store-pattern.ensures ∙ rests c.before.before.before.before.args.self.blit.waiting _ _ c.before.before.if1.false
 
 pub take-pattern-spec : {M : Type 1} → statement M
 take-pattern-spec = tie.close (tie.spec returns store-pattern-requires returns-2)

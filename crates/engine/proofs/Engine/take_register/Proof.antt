@@ -2,7 +2,7 @@
 -- Assumes nothing.
 use borrow.Author.Rules.{rules}
 use borrow.Author.Tests.{eq-eqb, ne_eqb}
-use Rattle.engine.specs.Step.{toRegister, storedIn}
+use Rattle.engine.specs.Step.{to_register, stored_in}
 use Rattle.engine.proofs.Laws.{waits, rests}
 use Rattle.engine.proofs.Engine.take_register.Statement.{statement}
 use Rattle.engine.proofs.Engine.take_register.Tie as tie
@@ -14,11 +14,11 @@ same_length : tie.Need-same-length
 same_length c = search rules
 
 returns : tie.Need-returns
-unfolding toRegister
+unfolding to_register
 returns c = rw (eq-eqb _ _ c.before.before.before.before.if1.true) c.before.before.take-command.ensures
 
 returns-2 : tie.Need-returns-2
-unfolding toRegister
+unfolding to_register
 returns-2 c = rw (ne_eqb _ _ c.before.if1.false) (waits c.before.before.before.args.self.blit.waiting _ _ c.if2.true)
 
 store-requires : tie.Need-store-requires
@@ -31,7 +31,7 @@ follow-requires : tie.Need-follow-requires
 follow-requires c κs = search rules
 
 returns-3 : tie.Need-returns-3
-unfolding toRegister storedIn
+unfolding to_register stored_in
 returns-3 c =
     let k = c.before.before.before.before in
     let a = k.before.before.before.before.before.args in

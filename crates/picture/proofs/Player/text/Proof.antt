@@ -3,7 +3,7 @@
 use Rattle.std.proofs.Common.{arith, rules, eq-eqb, ne_eqb}
 use Rattle.engine.specs.Step.{regs}
 use Rattle.ppm.specs.Picture.{picture}
-use Rattle.picture.specs.Player.{refusal, shortWrite, printed}
+use Rattle.picture.specs.Player.{refusal, short_write, printed}
 use Rattle.ppm.proofs.TextLaws.{text-within}
 use Rattle.picture.proofs.Player.text.Statement.{statement}
 use Rattle.picture.proofs.Player.text.Tie as tie
@@ -33,7 +33,7 @@ returns-2 : tie.Need-returns-2
 unfolding printed
 returns-2 c =
     let a = c.before.before.before.before.before.before.before.before.before.before.args in
-    (rw (eq-eqb a.self.refused 0 (omega arith), ne_eqb a.self.held 0 (λ e. omega arith)) c.before.before.say.ensures, text-within (shortWrite) a.out.now _ c.before.before.say.ensures)
+    (rw (eq-eqb a.self.refused 0 (omega arith), ne_eqb a.self.held 0 (λ e. omega arith)) c.before.before.say.ensures, text-within (short_write) a.out.now _ c.before.before.say.ensures)
 
 say-picture-requires : tie.Need-say-picture-requires
 say-picture-requires c κs = search rules

@@ -1,7 +1,7 @@
--- `registers::get` meets its contract: in an arm the offset is that arm's number, and `getReg` computes there.
+-- `registers::get` meets its contract: in an arm the offset is that arm's number, and `get_reg` computes there.
 -- Assumes nothing.
 use mathlib.Core.Path.{sym}
-use Rattle.registers.specs.Regs.{getReg}
+use Rattle.registers.specs.Regs.{get_reg}
 use Rattle.registers.proofs.Arms.{missed}
 use Rattle.registers.proofs.RegsLaws.{registers, get-nowhere}
 use Rattle.registers.proofs.Regs.get.Statement.{statement}
@@ -11,7 +11,7 @@ rest : tie.Need-returns-26
 rest c = sym (get-nowhere _ c.before.args.self (missed _ registers c.match.rest).1)
 
 pub get_spec : {M : Type 1} → statement M
-unfolding getReg
+unfolding get_reg
 get_spec =
     tie.close
     (tie.spec

@@ -1,7 +1,7 @@
--- `registers::put` meets its contract: in an arm the offset is that arm's number, and `putReg` computes there.
+-- `registers::put` meets its contract: in an arm the offset is that arm's number, and `put_reg` computes there.
 -- Assumes nothing.
 use mathlib.Core.Path.{sym}
-use Rattle.registers.specs.Regs.{putReg}
+use Rattle.registers.specs.Regs.{put_reg}
 use Rattle.registers.proofs.Arms.{missed}
 use Rattle.registers.proofs.RegsLaws.{registers, put-nowhere}
 use Rattle.registers.proofs.Regs.put.Statement.{statement}
@@ -11,7 +11,7 @@ rest : tie.Need-returns-26
 rest c = sym (put-nowhere _ _ _ (missed _ registers c.match.rest).1)
 
 pub put_spec : {M : Type 1} → statement M
-unfolding putReg
+unfolding put_reg
 put_spec =
     tie.close
     (tie.spec
