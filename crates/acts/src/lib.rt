@@ -1,4 +1,6 @@
 // The commands: each carried out on the registers and the memory, or refused by the number of its row in the table of answers.
+#![tactic(auto)]
+
 ghost use Rattle.std.specs.Prelude.{◌≡◌, List, ℕ, ◌+◌, ◌^◌, ◌≤◌, min, length};
 ghost use Rattle.paint.specs.Tally.{tally};
 ghost use Rattle.paint.specs.Paint.{tallied};
@@ -13,7 +15,7 @@ use registers::Regs;
 use rooms::Rooms;
 
 // A host blit: how many words it has taken, the last of them, and whether it waits for more.
-#[derive(Drop)]
+#[derive(Clone, Copy)]
 pub struct Blit {
     pub taken: u32,
     pub last: u32,
@@ -21,7 +23,7 @@ pub struct Blit {
 }
 
 // The registers that a command can change.
-#[derive(Drop)]
+#[derive(Clone, Copy)]
 pub struct Ends {
     pub line_style: u32,
     pub src_xy: u32,
@@ -29,7 +31,7 @@ pub struct Ends {
 }
 
 // What became of a command: the row that refuses it, or 0; those registers and the host blit after it; the tally of the pixels written.
-#[derive(Drop)]
+#[derive(Clone, Copy)]
 pub struct Act {
     pub number: u32,
     pub ends: Ends,
@@ -353,7 +355,7 @@ pub fn launch(
 }
 
 // What became of words of data: the row that refuses them, or 0; the host blit after those that were used; their tally, and how many they are.
-#[derive(Drop)]
+#[derive(Clone, Copy)]
 pub struct Fed {
     pub number: u32,
     pub blit: Blit,

@@ -1,18 +1,20 @@
 // The whole register state: the registers and the pattern, stored into and read.
+#![tactic(auto)]
+
 ghost use Rattle.std.specs.Prelude.{◌≡◌, ◌<◌};
 ghost use Rattle.bank.specs.Bank.{put_word, get_word, fresh_bank, stored, patterned, read_at};
 
 use registers::{Place, Regs};
 
 // The whole register state: the registers and the 256 bytes of the colour pattern.
-#[derive(Drop)]
+#[derive(Clone, Copy)]
 pub struct Bank {
     pub regs: Regs,
     pub pattern: [u8; 256],
 }
 
 // What a read gives.
-#[derive(Drop)]
+#[derive(Clone, Copy)]
 pub enum Reading {
     Value(u32),
     Refused,

@@ -1,5 +1,7 @@
 // What several rooms cite and none owns: words in bytes (specs/Word.antt), a list's numbers taken one after the other (specs/Each.antt and its laws), and that an
 // equation allows one outcome.
+#![tactic(auto)]
+
 ghost use Rattle.std.specs.Prelude.{◌≡◌, ◌+◌, ◌<◌, ◌≤◌, length};
 ghost use Rattle.basics.specs.Word.{word_at, with_word};
 

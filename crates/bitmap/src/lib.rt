@@ -1,4 +1,6 @@
 // The marks of the 4,096 pages of memory as bits in lent bytes: 512 bytes from `at` on, low bit first (specs/Bits.antt).
+#![tactic(auto)]
+
 ghost use Rattle.std.specs.Prelude.{◌≡◌, ◌+◌, ◌-◌, ◌/◌, ◌%◌, ◌^◌, ◌<◌, ◌≤◌, length, get_or};
 ghost use Rattle.pages.specs.Pages.{first_marked, count_marked};
 ghost use Rattle.bitmap.specs.Bits.{bits_in, with_bit, with_bits, with_marks, cleared};

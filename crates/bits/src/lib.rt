@@ -1,4 +1,6 @@
 // Mono sources: the bits of a byte as pixels, and a mono rectangle copied a byte at a time.
+#![tactic(auto)]
+
 ghost use Rattle.std.specs.Prelude.{◌≡◌, false, ◌+◌, ◌-◌, ◌<◌, ◌≤◌, length};
 ghost use Rattle.surface.specs.Asked.{Colour, Held};
 ghost use Rattle.surface.specs.Pixels.{across, rect};
@@ -12,7 +14,7 @@ use paint::Tally;
 use surface::Surface;
 
 // What each bit needs: the target, the colours of the two bits, and whether a 0 bit leaves its pixel unwritten.
-#[derive(Drop)]
+#[derive(Clone, Copy)]
 pub struct Plain {
     pub target: Surface,
     pub fore: u32,
@@ -21,7 +23,7 @@ pub struct Plain {
 }
 
 // A mono rectangle to be copied: its source, and the first pixel of the source and of the target.
-#[derive(Drop)]
+#[derive(Clone, Copy)]
 pub struct Mono {
     pub plain: Plain,
     pub from: Surface,

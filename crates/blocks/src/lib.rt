@@ -1,4 +1,6 @@
 // Rectangles of bytes moved block by block. A block is what lies in one tile, or all of it where the surface is in rows.
+#![tactic(auto)]
+
 ghost use Rattle.std.specs.Prelude.{◌≡◌, false, ◌+◌, ◌*◌, ◌<◌, ◌≤◌, length};
 ghost use Rattle.surface.specs.Pixels.{across, rect};
 ghost use Rattle.paint.specs.Paint.{state, tallied, paint};
@@ -11,7 +13,7 @@ use paint::Tally;
 use surface::Surface;
 
 // Bytes go from one surface to another: the first column and row of both, columns in bytes.
-#[derive(Drop)]
+#[derive(Clone, Copy)]
 pub struct Way {
     pub to: Surface,
     pub from: Surface,

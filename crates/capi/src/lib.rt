@@ -1,4 +1,6 @@
 // The engine for callers in C, C++ and Rust. Its state lies in bytes that the caller lends: crate state.
+#![tactic(auto)]
+
 ghost use Rattle.std.specs.Prelude.{◌≡◌, true, ◌+◌, ◌<◌, ◌≤◌, length};
 ghost use Rattle.state.specs.Layout.{state_size, is_state, Bytes};
 ghost use Rattle.capi.specs.Calls.{packed_answer, call, opening, written_to, run_call, ran_to, opened_to, read_of, part, part_of, plainly, registered};
@@ -146,7 +148,7 @@ pub extern "C" fn rimebarrow_run(
 }
 
 // What became of a piece: the reader, how many bytes were used, and how many answers were given.
-#[derive(Drop)]
+#[derive(Clone, Copy)]
 struct Fed {
     reader: Reader,
     used: usize,

@@ -1,4 +1,6 @@
 // Widening, and the conversion of a pixel's value from one format to another. A format is its bytes per pixel, 0 is mono.
+#![tactic(auto)]
+
 ghost use Rattle.std.specs.Prelude.{◌≡◌, ◌<◌, ◌%◌, eqb};
 ghost use Rattle.colour.specs.Convert.{repeated, widened, narrowed, lessened, converted, deep, allowed};
 

@@ -1,4 +1,6 @@
 // What the registers say of a command's surfaces, its ink and its work.
+#![tactic(auto)]
+
 ghost use Rattle.std.specs.Prelude.{◌≡◌, ◌-◌, ◌<◌};
 ghost use Rattle.command.specs.Decode.{target, origins, stretch_origins, ink_of, plain_blit, plain_of, fill_task, copy_task, stretch_of, line_of, pen_of, feed_of};
 

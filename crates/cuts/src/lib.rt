@@ -1,4 +1,6 @@
 // The clip, and what it leaves of a rectangle.
+#![tactic(auto)]
+
 ghost use Rattle.std.specs.Prelude.{◌≡◌, ◌-◌, ◌^◌, ◌<◌, ◌≤◌};
 ghost use Rattle.cuts.specs.Cut.{bit, clip_by, clip_of, first_of, cut_low, cut_size, cut_at, fill_cut, copy_cut};
 ghost use Rattle.cuts.specs.Asked.{Axis, CutRange};
@@ -7,7 +9,7 @@ use paint::Clip;
 use registers::Regs;
 
 // What the clip leaves of a rectangle: its first pixel and size, and the position of its first source pixel, counted from 16384.
-#[derive(Drop)]
+#[derive(Clone, Copy)]
 pub struct Cut {
     pub x: u32,
     pub y: u32,

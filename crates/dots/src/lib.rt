@@ -1,4 +1,6 @@
 // The pages of memory that a line's written points lie in, and a rectangle that holds these points.
+#![tactic(auto)]
+
 ghost use Rattle.std.specs.Prelude.{◌≡◌, [], ◌∷◌, ◌^◌, ◌<◌, max};
 ghost use Rattle.pages.specs.Pages.{marking};
 ghost use Rattle.paint.specs.Asked.{Bits12};

@@ -1,4 +1,6 @@
 // Which pages of memory the written pixels of a host blit's words lie in, and which rows the words can reach.
+#![tactic(auto)]
+
 ghost use Rattle.std.specs.Prelude.{◌≡◌, [], ◌∷◌, ◌+◌, ◌-◌, ◌*◌, ◌^◌, ◌<◌, ◌≤◌, min, max, length};
 ghost use Rattle.host.specs.Host.{pixel, by_byte, by_word, by_run};
 ghost use Rattle.host.specs.Draw.{host_source};

@@ -1,4 +1,6 @@
 // The engine: a register write decoded, judged by the table of answers, and carried out.
+#![tactic(auto)]
+
 ghost use Rattle.std.specs.Prelude.{◌≡◌, ◌^◌, ◌≤◌};
 ghost use Rattle.engine.specs.Step.{number_of, count_of, changed_of, refusal, fresh_engine, settled, step, launched, commanded, to_register, to_pattern, written, read_from};
 
@@ -8,7 +10,7 @@ use registers::{Place, Regs};
 use rooms::Rooms;
 
 // The register state, the host blit, the length of the memory that the engine was opened for, and what is kept of both surfaces beside the registers.
-#[derive(Drop)]
+#[derive(Clone, Copy)]
 pub struct Engine {
     pub bank: Bank,
     pub blit: Blit,
@@ -17,7 +19,7 @@ pub struct Engine {
 }
 
 // The answers of document 01's table, 0 to 8 in this order; 0 has the count of pixels written, and how many of them changed.
-#[derive(Drop)]
+#[derive(Clone, Copy)]
 pub enum Answer {
     Taken(u32, u32),
     Memory,
@@ -83,7 +85,7 @@ impl Answer {
     }
 }
 
-#[derive(Drop)]
+#[derive(Clone, Copy)]
 pub struct Outcome {
     pub engine: Engine,
     pub answer: Answer,

@@ -1,6 +1,8 @@
 // Worked examples of the databook, run on the engine from register writes: two host blits, the commands that are not built, the order of mono pixels, and
 // the steps of packed sources. A write that matters is printed as offset, word, answer, and the pixels written and changed; of a pixel the low byte is
 // shown: ff as #, 01 as o, 00 as a dot.
+#![tactic(auto)]
+
 use engine::{Answer, Engine};
 use libc::STDOUT_FILENO;
 

@@ -1,4 +1,6 @@
 // What the two words of a surface say: where it is, how its rows step, and its format.
+#![tactic(auto)]
+
 ghost use Rattle.std.specs.Prelude.{◌≡◌, ◌+◌, ◌-◌, ◌%◌, ◌^◌, ◌<◌};
 ghost use Rattle.formats.specs.Format.{bytes_of, coloured, is_tiled, target_named, view_named, target_of, source_named, host_named, source_of};
 ghost use Rattle.formats.specs.Step.{row_length, step_of};

@@ -1,4 +1,6 @@
 // Host blits: the pixels that a word of data finishes, painted. Nothing here knows a register's offset or an answer's number.
+#![tactic(auto)]
+
 ghost use Rattle.std.specs.Prelude.{◌≡◌, [], ◌∷◌, ◌+◌, ◌-◌, ◌*◌, ◌/◌, ◌%◌, ◌^◌, ◌<◌, length};
 ghost use Rattle.formats.specs.Step.{bits_per, data_words};
 ghost use Rattle.paint.specs.Paint.{state, tallied};
@@ -12,7 +14,7 @@ use paint::{Clip, Source, Tally};
 
 // The source (its step, its size in pixels, its bytes per pixel with 0 for mono), and the target position of its upper left pixel, counted from
 // 16384.
-#[derive(Drop)]
+#[derive(Clone, Copy)]
 pub struct Feed {
     pub step: u32,
     pub width: u32,

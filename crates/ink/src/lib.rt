@@ -1,4 +1,6 @@
 // What does not change within a command, and how its pattern lies.
+#![tactic(auto)]
+
 ghost use Rattle.std.specs.Prelude.{◌≡◌, cond, ◌+◌, ◌-◌, ◌*◌, ◌/◌, ◌%◌, ◌^◌, ◌<◌, ◌≤◌, eqb, get_or};
 ghost use Rattle.surface.specs.Asked.{Colour};
 ghost use Rattle.ink.specs.Pattern.{pattern_column, pattern_row, pattern_in, pattern_value, RowOf, ValuesOf};
@@ -7,7 +9,7 @@ ghost use Rattle.ink.specs.Asked.{Cell};
 use surface::Surface;
 
 // What does not change within a command: the target, the colours, the four raster operations, the two keys, and how the pattern lies.
-#[derive(Drop)]
+#[derive(Clone, Copy)]
 pub struct Ink {
     pub target: Surface,
     pub fore: u32,

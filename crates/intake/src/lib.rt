@@ -1,5 +1,7 @@
 // Command packets for the engine: a reader finds the register writes in bytes that come in pieces, cut anywhere, and the engine carries each out once its last
 // byte is there.
+#![tactic(auto)]
+
 ghost use Rattle.std.specs.Prelude.{◌≡◌, ◌*◌, ◌≤◌, length};
 ghost use Rattle.packets.specs.Answers.{lent, call, noting, called};
 ghost use Rattle.intake.specs.Intake.{machine, by_engine, fed_of};
@@ -8,7 +10,7 @@ use engine::Engine;
 use packets::{Event, Reader};
 
 // What a piece left: reader and engine, how many of its bytes were used, and how many answers were given.
-#[derive(Drop)]
+#[derive(Clone, Copy)]
 pub struct Fed {
     pub reader: Reader,
     pub engine: Engine,

@@ -1,11 +1,13 @@
 // Colour keys. A format is its bytes per pixel.
+#![tactic(auto)]
+
 ghost use Rattle.std.specs.Prelude.{◌≡◌, true, ◌&&◌, ◌<◌, ◌%◌, leb};
 ghost use Rattle.keys.specs.Key.{chan, channel, key_match};
 ghost use Rattle.keys.specs.Range.{range_of, in_range};
 ghost use Rattle.keys.specs.Asked.{listed};
 
 // The least and the most of each channel of a key; a format of one channel has the others 0.
-#[derive(Drop)]
+#[derive(Clone, Copy)]
 pub struct Range {
     pub low0: u32,
     pub high0: u32,

@@ -1,4 +1,6 @@
 // Which points a line has, the stipple's word from one to the next, and whether one of them is off the surface.
+#![tactic(auto)]
+
 ghost use Rattle.std.specs.Prelude.{◌≡◌, true, [], ◌∷◌, ◌+◌, ◌-◌, ◌%◌, ◌^◌, ◌<◌, ◌≤◌, min, max};
 ghost use Rattle.surface.specs.Asked.{Colour};
 ghost use Rattle.paint.specs.Asked.{Bits12};
@@ -11,14 +13,14 @@ ghost use Rattle.line.specs.Draw.{line_off};
 use paint::Clip;
 use surface::Surface;
 
-#[derive(Drop)]
+#[derive(Clone, Copy)]
 pub struct Point {
     pub x: u32,
     pub y: u32,
 }
 
 // From (x0, y0) to (x1, y1); poly: a part of a polyline, without its last point.
-#[derive(Drop)]
+#[derive(Clone, Copy)]
 pub struct Line {
     pub x0: u32,
     pub y0: u32,
@@ -27,7 +29,7 @@ pub struct Line {
     pub poly: bool,
 }
 
-#[derive(Drop)]
+#[derive(Clone, Copy)]
 pub struct Pen {
     pub stipple: u32,
     pub stippled: bool,
@@ -103,7 +105,7 @@ pub fn place_point(l: Line, a: u32, b: u32) -> Point
 }
 
 // Where a walk along a line is: the steps along the minor axis, and what the division leaves that gives their number.
-#[derive(Drop)]
+#[derive(Clone, Copy)]
 pub struct Tread {
     pub aside: u32,
     pub rest: u32,

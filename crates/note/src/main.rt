@@ -1,6 +1,8 @@
 // A sheet of 20 by 16 pixels is saved under a note, the note is drawn, and the sheet is put back, by register writes; at 16 and at 24 bits a pixel.
 // Of each drawing it says how many pixels were written and how many of these changed; then how many bytes the note changed, and how many outside the
 // place aside are different at the end.
+#![tactic(auto)]
+
 ghost use Rattle.std.specs.Prelude.{◌≤◌};
 
 use engine::{Answer, Engine};

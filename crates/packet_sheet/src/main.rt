@@ -1,12 +1,14 @@
 // The program for command packets: bytes of the command FIFO from standard input, delivered on 65,536 zero bytes. It prints clip0's rectangle of the target
 // surface as a plain PPM, or the first fault met: `refused N at K`, where K counts the answers from 0, or `short write` where the input ends inside a packet.
+#![tactic(auto)]
+
 use engine::Engine;
 use libc::{STDIN_FILENO, STDOUT_FILENO};
 use packets::{Reader, Rest};
 use picture::Player;
 
 // Reader and engine so far, how many answers were 0 before the first that was not, the number of that one, or 0, and whether there may be more to read.
-#[derive(Drop)]
+#[derive(Clone, Copy)]
 struct Turn {
     reader: Reader,
     engine: Engine,

@@ -1,5 +1,7 @@
 // Command packets: a reader takes the bytes of the command FIFO, cut anywhere, and says which register writes they bring. What carries the writes out is its
 // caller's.
+#![tactic(auto)]
+
 ghost use Rattle.std.specs.Prelude.{◌≡◌, ◌+◌, ◌*◌, ◌/◌, ◌%◌, ◌^◌, ◌<◌, length};
 ghost use Rattle.packets.specs.Header.{turned_down};
 ghost use Rattle.packets.specs.Reader.{counted, skipped, opened, advanced, between, blank, heard, headed, worded, shifted, took, is_between, next_of};
@@ -8,7 +10,7 @@ ghost use Rattle.packets.specs.Answers.{spare, lent, put};
 
 // What is left of the open packet: the offset of its next word, and either the step to the one after it and how many words are left, or the mask's bits that
 // are left, the lowest of them the next word's.
-#[derive(Drop)]
+#[derive(Clone, Copy)]
 pub enum Rest {
     Empty,
     Counted(u32, u32, u32),
@@ -17,7 +19,7 @@ pub enum Rest {
 
 // The unfinished tail: the bytes of a part of a word, the newest on top, and how many they are; what is left of the open packet. And whether a packet was
 // turned down.
-#[derive(Drop)]
+#[derive(Clone, Copy)]
 pub struct Reader {
     pub word: u32,
     pub held: u32,
@@ -26,21 +28,21 @@ pub struct Reader {
 }
 
 // What bytes bring: nothing, a register write of a word at an offset, or the 9 of a packet turned down.
-#[derive(Drop)]
+#[derive(Clone, Copy)]
 pub enum Event {
     Nothing,
     Write(u32, u32),
     Closed,
 }
 
-#[derive(Drop)]
+#[derive(Clone, Copy)]
 pub struct Heard {
     pub reader: Reader,
     pub event: Event,
 }
 
 // The same, and how many bytes of the piece are used then.
-#[derive(Drop)]
+#[derive(Clone, Copy)]
 pub struct Next {
     pub reader: Reader,
     pub event: Event,

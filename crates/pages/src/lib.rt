@@ -1,4 +1,6 @@
 // The marks of the 4,096 pages of memory: setting those of written pixels, the first that is set, and how many are.
+#![tactic(auto)]
+
 ghost use Rattle.std.specs.Prelude.{◌≡◌, false, [], ◌∷◌, ◌-◌, ◌^◌, ◌<◌, ◌≤◌};
 ghost use Rattle.surface.specs.Pixels.{px, rect};
 ghost use Rattle.surface.specs.Asked.{Small};
@@ -8,14 +10,14 @@ ghost use Rattle.pages.specs.Asked.{MarkablePixel, Markable, InBand, Sized};
 
 use surface::Surface;
 
-#[derive(Drop)]
+#[derive(Clone, Copy)]
 pub enum Marked {
     At(u32),
     Nothing,
 }
 
 // The pages from first up to, and without, past; and whether each of them has a byte of a written pixel for sure.
-#[derive(Drop)]
+#[derive(Clone, Copy)]
 pub struct Extent {
     pub first: usize,
     pub past: usize,

@@ -1,5 +1,7 @@
 // What changes memory: one covered pixel, stored and told in the tally, or left; and the place whose turn it is, of a row or a column of them. Nothing here
 // knows a register's offset or an answer's number.
+#![tactic(auto)]
+
 ghost use Rattle.std.specs.Prelude.{◌≡◌, false, cond, ◌+◌, ◌-◌, ◌^◌, ◌<◌, ◌≤◌, length};
 ghost use Rattle.std.proofs.Math.Option.{none, some};
 ghost use Rattle.surface.specs.Place.{read_px};
@@ -16,14 +18,14 @@ use ink::Ink;
 use surface::Surface;
 
 // What is told of the pixels written so far: how many they are, and how many of them have other bytes than just before they were written.
-#[derive(Drop)]
+#[derive(Clone, Copy)]
 pub struct Tally {
     pub count: u32,
     pub changed: u32,
 }
 
 // A pixel's source: its value in the target's format, whether it matches the source key, and whether the pixel is left unwritten.
-#[derive(Drop)]
+#[derive(Clone, Copy)]
 pub struct Source {
     pub value: u32,
     pub key: bool,
@@ -31,7 +33,7 @@ pub struct Source {
 }
 
 // Columns from left up to, and without, right; rows from top up to, and without, bottom.
-#[derive(Drop)]
+#[derive(Clone, Copy)]
 pub struct Clip {
     pub left: u32,
     pub right: u32,

@@ -3,6 +3,8 @@
 // its last byte; 2: the reader is opened anew first; 3: both), then the bytes, filled up to a multiple of four. For each stream it prints a head, a line
 // `number count changed` for each answer, `tail HELD WORD KIND OFFSET LEFT CLOSED` and checksums of registers and memory. A piece has no line of its own, so that
 // a stream prints the same text however it is cut.
+#![tactic(auto)]
+
 ghost use Rattle.std.specs.Prelude.{◌≡◌, ◌+◌, ◌≤◌, length};
 
 use engine::Engine;
@@ -11,7 +13,7 @@ use libc::{STDIN_FILENO, STDOUT_FILENO};
 use packets::{Reader, Rest};
 
 // Two words of the input, and how many of their eight bytes there were.
-#[derive(Drop)]
+#[derive(Clone, Copy)]
 struct Pair {
     first: u32,
     second: u32,
@@ -19,7 +21,7 @@ struct Pair {
 }
 
 // Reader and engine after a piece, and whether it was there whole.
-#[derive(Drop)]
+#[derive(Clone, Copy)]
 struct Turn {
     reader: Reader,
     engine: Engine,

@@ -1,4 +1,6 @@
 // Rectangles filled or copied with each pixel by itself, whatever the layouts of the surfaces.
+#![tactic(auto)]
+
 ghost use Rattle.std.specs.Prelude.{◌≡◌, length};
 ghost use Rattle.surface.specs.Pixels.{px, across, rect};
 ghost use Rattle.paint.specs.Paint.{state, tallied, paint};

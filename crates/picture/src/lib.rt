@@ -1,4 +1,6 @@
 // A stream of register writes played byte by byte, and what is printed of it.
+#![tactic(auto)]
+
 ghost use Rattle.std.specs.Prelude.{◌≡◌, ◌+◌, ◌/◌, ◌%◌, ◌^◌, ◌<◌, ◌≤◌, length};
 ghost use Rattle.engine.specs.Step.{written};
 ghost use Rattle.ppm.specs.Text.{page, said};
@@ -8,7 +10,7 @@ use engine::Engine;
 
 // The engine, the last eight bytes that came and how many of them are of an unfinished pair, the number of pairs taken, and the number of
 // the refusal met, or 0.
-#[derive(Drop)]
+#[derive(Clone, Copy)]
 pub struct Player {
     pub engine: Engine,
     pub window: u64,

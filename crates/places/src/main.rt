@@ -1,5 +1,7 @@
 // Addresses, tiles and steps that source documents print, held against the surface crate: a byte is marked at the printed address, and the view of
 // the pixel must show it; the tile of a byte and its place there are compared with the printed map; and the step of a packed source with the printed one.
+#![tactic(auto)]
+
 ghost use Rattle.std.specs.Prelude.{◌<◌};
 
 use libc::STDOUT_FILENO;

@@ -1,4 +1,6 @@
 // A plain host blit, drawn a part of a row at a time.
+#![tactic(auto)]
+
 ghost use Rattle.std.specs.Prelude.{◌≡◌, true, false, [], ◌∷◌, ◌+◌, ◌-◌, ◌*◌, ◌/◌, ◌%◌, ◌^◌, ◌<◌, ◌≤◌, length, take};
 ghost use Rattle.paint.specs.Paint.{state, tallied, paint};
 ghost use Rattle.paint.specs.Mix.{source};
@@ -16,7 +18,7 @@ use host::Feed;
 use paint::{Clip, Source, Tally};
 
 // What a turn over the words of a run did: how many it took, and the tally after them.
-#[derive(Drop)]
+#[derive(Clone, Copy)]
 struct Turn {
     taken: usize,
     n: Tally,

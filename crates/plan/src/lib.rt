@@ -1,4 +1,6 @@
 // What does not change while a rectangle is painted, worked out before its rows: the keys as ranges, and the raster operations of a row of the pattern.
+#![tactic(auto)]
+
 ghost use Rattle.std.specs.Prelude.{◌≡◌, ◌&&◌, ◌≤◌, ◌<◌};
 ghost use Rattle.keys.specs.Range.{range_of, in_range};
 ghost use Rattle.paint.specs.Mix.{colour_source};

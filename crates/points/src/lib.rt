@@ -1,4 +1,6 @@
 // A line drawn point by point.
+#![tactic(auto)]
+
 ghost use Rattle.std.specs.Prelude.{◌≡◌, [], ◌∷◌, ◌+◌, ◌-◌, ◌<◌, length};
 ghost use Rattle.surface.specs.Place.{read_px};
 ghost use Rattle.surface.specs.Pixels.{px};
@@ -17,7 +19,7 @@ use line::{Line, Pen, Point, Tread};
 use paint::{Clip, Tally};
 
 // What a line leaves: the word lineStyle, and the tally of the pixels it wrote.
-#[derive(Drop)]
+#[derive(Clone, Copy)]
 pub struct LineDone {
     pub style: u32,
     pub tally: Tally,

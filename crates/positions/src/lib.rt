@@ -1,4 +1,6 @@
 // Positions of 13 signed bits: read, counted from 16384, and stepped.
+#![tactic(auto)]
+
 ghost use Rattle.std.specs.Prelude.{◌≡◌, ◌<◌};
 ghost use Rattle.positions.specs.Position.{signed_of, placed, moved, stepped, stepped_xy};
 

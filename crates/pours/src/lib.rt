@@ -1,4 +1,6 @@
 // Words of host data put into memory as they are: whole pixels of the data's own format, one after the other from an address on.
+#![tactic(auto)]
+
 ghost use Rattle.std.specs.Prelude.{◌≡◌, ◌+◌, ◌*◌, ◌/◌, ◌%◌, ◌≤◌, length};
 ghost use Rattle.surface.specs.Asked.{Held};
 ghost use Rattle.paint.specs.Paint.{state};

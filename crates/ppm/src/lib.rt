@@ -1,4 +1,6 @@
 // Text put into a lent buffer, and clip0's rectangle of the target surface as the text of a plain PPM.
+#![tactic(auto)]
+
 ghost use Rattle.std.specs.Prelude.{◌≡◌, false, ◌+◌, ◌/◌, ◌%◌, ◌^◌, ◌<◌, length};
 ghost use Rattle.surface.specs.Place.{read_px};
 ghost use Rattle.surface.specs.Asked.{OnColour};

@@ -1,4 +1,6 @@
 // Raster operations, and which of them do not look at the pattern.
+#![tactic(auto)]
+
 ghost use Rattle.std.specs.Prelude.{◌≡◌, ◌%◌, ◌<◌};
 ghost use Rattle.raster.specs.Rop.{rop_bits, pattern_free};
 ghost use Rattle.raster.specs.Masks.{mask, muxed, merged, quad_of, turns, flips, quad_made};
@@ -39,7 +41,7 @@ pub fn raster(code: u32, p: u32, s: u32, d: u32) -> u32
 }
 
 // What a raster operation makes of a known source, by the bits of pattern and target: `merge` of the four.
-#[derive(Drop)]
+#[derive(Clone, Copy)]
 pub struct Quad {
     pub q0: u32,
     pub q1: u32,

@@ -1,4 +1,6 @@
 // What the programs that play recorded streams share: the memory at the start, how much of it is lent, and checksums.
+#![tactic(auto)]
+
 ghost use Rattle.std.specs.Prelude.{◌≡◌, ◌+◌, ◌*◌, ◌/◌, ◌%◌, ◌^◌, ◌≤◌, ◌<◌, length};
 ghost use Rattle.basics.specs.Each.{each};
 ghost use Rattle.bank.specs.Bank.{read_value};

@@ -1,4 +1,6 @@
 // Rectangles of pixels, filled or copied: in rows as runs of bytes or bits where they can be, on tiles in blocks where they can be, and else pixel by pixel.
+#![tactic(auto)]
+
 ghost use Rattle.std.specs.Prelude.{◌≡◌, true, false, ◌+◌, ◌-◌, ◌*◌, ◌^◌, ◌<◌, length};
 ghost use Rattle.surface.specs.Pixels.{rect};
 ghost use Rattle.paint.specs.Paint.{state, tallied, paint, changing, summed};

@@ -1,10 +1,12 @@
 // The registers of the engine: what an offset names, which bits a register keeps, and storing and reading back.
+#![tactic(auto)]
+
 ghost use Rattle.std.specs.Prelude.{◌≡◌};
 ghost use Rattle.registers.specs.Regs.{no_regs, put_reg, get_reg};
 ghost use Rattle.registers.specs.Kept.{kept};
 ghost use Rattle.registers.specs.Offsets.{place_of};
 
-#[derive(Drop)]
+#[derive(Clone, Copy)]
 pub struct Regs {
     pub clip0_min: u32,
     pub clip0_max: u32,
@@ -34,7 +36,7 @@ pub struct Regs {
 }
 
 // What an offset names: a register, a word of the pattern by its first byte, the launch area, or nothing.
-#[derive(Drop)]
+#[derive(Clone, Copy)]
 pub enum Place {
     Register,
     Pattern(usize),

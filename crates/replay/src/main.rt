@@ -3,13 +3,15 @@
 // kind (kind 1: the memory is lent without its last byte). One of kind 2 is a run of words for the launch area: how many they are, at most 1023,
 // whether the memory is lent as for kind 1, and kind; then the words, filled up to a multiple of three. For each stream it prints a head, a line
 // `number count changed` for each write, `run number taken count changed` for each run, and checksums of registers and memory.
+#![tactic(auto)]
+
 ghost use Rattle.std.specs.Prelude.{◌<◌, ◌≤◌};
 
 use engine::Engine;
 use libc::{STDIN_FILENO, STDOUT_FILENO};
 
 // Three words of the input, and how many of their twelve bytes there were.
-#[derive(Drop)]
+#[derive(Clone, Copy)]
 struct Record {
     first: u32,
     second: u32,
@@ -18,7 +20,7 @@ struct Record {
 }
 
 // The engine after a write, and whether there was one.
-#[derive(Drop)]
+#[derive(Clone, Copy)]
 struct Turn {
     engine: Engine,
     more: bool,

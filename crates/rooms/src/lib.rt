@@ -1,5 +1,7 @@
 // What is kept of source and target beside the registers: how many pixels a row has, and for how many whole rows memory has room. They are worked out when a
 // register of theirs is written, and shorten the test whether pixels are on a surface; what it says does not hang on them.
+#![tactic(auto)]
+
 ghost use Rattle.std.specs.Prelude.{◌≡◌, true, false, ◌+◌, ◌-◌, ◌^◌, ◌<◌, ◌≤◌, leb};
 ghost use Rattle.surface.specs.Place.{row_pixels};
 ghost use Rattle.surface.specs.Asked.{Small};
@@ -11,14 +13,14 @@ use registers::Regs;
 use surface::Surface;
 
 // Of one surface.
-#[derive(Drop)]
+#[derive(Clone, Copy)]
 pub struct Room {
     pub pixels: u32,
     pub rows: u32,
 }
 
 // Of both.
-#[derive(Drop)]
+#[derive(Clone, Copy)]
 pub struct Rooms {
     pub source: Room,
     pub target: Room,

@@ -1,5 +1,7 @@
 // Raster operation codes against formulas from outside: each line of standard input is `CODE formula`, the code in two hexadecimal digits and the
 // formula in reverse Polish over P, S, D, 0 and 1 with a (and), o (or), x (exclusive or) and n (not). Empty lines and lines that begin with # are passed over.
+#![tactic(auto)]
+
 ghost use Rattle.std.specs.Prelude.{◌<◌, ◌≤◌, length};
 
 use libc::{STDIN_FILENO, STDOUT_FILENO};
@@ -12,21 +14,21 @@ const SOURCE: u8 = 0xcc;
 const TARGET: u8 = 0xaa;
 
 // The values that a formula has put aside so far, and whether it is sound so far.
-#[derive(Drop)]
+#[derive(Clone, Copy)]
 struct Stack {
     cells: [u8; 16],
     depth: usize,
     sound: bool,
 }
 
-#[derive(Drop)]
+#[derive(Clone, Copy)]
 enum Line {
     Empty,
     Malformed,
     Pair(u8, u8),
 }
 
-#[derive(Drop)]
+#[derive(Clone, Copy)]
 struct Tally {
     agree: u64,
     differ: u64,

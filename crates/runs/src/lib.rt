@@ -1,4 +1,6 @@
 // Runs of bytes: a rectangle of one value, and pixels moved; those that change are counted before they do.
+#![tactic(auto)]
+
 ghost use Rattle.std.specs.Prelude.{◌≡◌, true, false, ℕ, ◌+◌, ◌*◌, ◌%◌, ◌<◌, ◌≤◌, length};
 ghost use Rattle.surface.specs.Place.{one};
 ghost use Rattle.surface.specs.Asked.{Colour};

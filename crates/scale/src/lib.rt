@@ -1,4 +1,6 @@
 // A stretch copy: which source pixel each target pixel takes, worked out at once or by a running remainder.
+#![tactic(auto)]
+
 ghost use Rattle.std.specs.Prelude.{◌≡◌, ◌^◌, ◌<◌};
 ghost use Rattle.scale.specs.Scale.{scaled, walk_at, next_of};
 ghost use Rattle.scale.specs.Asked.{OnScale, Steps};
@@ -7,7 +9,7 @@ use ink::Ink;
 use surface::Surface;
 
 // One axis: where the target and the source begin, counted from 16384, and how many pixels each has.
-#[derive(Drop)]
+#[derive(Clone, Copy)]
 pub struct Scale {
     pub to: u32,
     pub size: u32,
@@ -16,7 +18,7 @@ pub struct Scale {
 }
 
 // A stretch: the ink, the surface it takes from, and its columns and rows.
-#[derive(Drop)]
+#[derive(Clone, Copy)]
 pub struct Stretch {
     pub ink: Ink,
     pub from: Surface,
@@ -25,7 +27,7 @@ pub struct Stretch {
 }
 
 // A walk along an axis: the source place now, what its division leaves, and what a step adds to the two.
-#[derive(Drop)]
+#[derive(Clone, Copy)]
 pub struct Walk {
     pub at: u32,
     pub rest: u32,

@@ -1,10 +1,12 @@
 // The program: a recorded stream of register writes from standard input, played on 65,536 zero bytes. It prints clip0's rectangle of the target
 // surface as a plain PPM, or the first fault met.
+#![tactic(auto)]
+
 use libc::{STDIN_FILENO, STDOUT_FILENO};
 use picture::Player;
 
 // The player after one read, and whether there may be more to read.
-#[derive(Drop)]
+#[derive(Clone, Copy)]
 struct Turn {
     player: Player,
     more: bool,

@@ -1,5 +1,7 @@
 // The sheets that came out wrong, and an empty clip, drawn again by register writes: for each the pixels written, how many of them changed, the sheet, and
 // the sheet of an engine that is wrong in that way. A sheet has 16 by 8 pixels of 8 bits: 0 is shown as a dot, 1 as o, 2 as x.
+#![tactic(auto)]
+
 use bank::Reading;
 use engine::{Answer, Engine};
 use libc::STDOUT_FILENO;

@@ -1,4 +1,6 @@
 // The pages of a rectangle of which some pixels are left unwritten: a pattern's bit of 0 in a transparent fill, a mono source's in a transparent copy.
+#![tactic(auto)]
+
 ghost use Rattle.std.specs.Prelude.{◌≡◌, true, false, ◌+◌, ◌^◌, ◌<◌, ◌≤◌, length};
 ghost use Rattle.surface.specs.Pixels.{px, across, rect};
 ghost use Rattle.surface.specs.Asked.{Colour};
@@ -12,7 +14,7 @@ use surface::Surface;
 use sweep::Task;
 
 // A rectangle's work; and where it is a stretch copy, which source pixel each of its pixels takes.
-#[derive(Drop)]
+#[derive(Clone, Copy)]
 pub struct Sieve {
     pub task: Task,
     pub stretched: bool,

@@ -1,4 +1,6 @@
 // Which pixels are on a surface, and the span of a rectangle: from its lowest to its highest byte.
+#![tactic(auto)]
+
 ghost use Rattle.std.specs.Prelude.{◌≡◌, false, ◌+◌, ◌-◌, ◌^◌, ◌<◌, ◌≤◌};
 ghost use Rattle.surface.specs.Place.{row_pixels, first_byte, byte_count, on_surface};
 ghost use Rattle.surface.specs.Asked.{Small, Colour};
@@ -9,7 +11,7 @@ ghost use Rattle.spans.specs.Asked.{InRow};
 use surface::Surface;
 
 // The addresses from low up to, and without, past.
-#[derive(Drop)]
+#[derive(Clone, Copy)]
 pub struct Span {
     pub low: usize,
     pub past: usize,

@@ -1,4 +1,6 @@
 // The pages of the pixels that a command has written, marked in lent bytes that hold the marks as bits.
+#![tactic(auto)]
+
 ghost use Rattle.std.specs.Prelude.{◌≡◌, ◌+◌, ◌≤◌, length};
 ghost use Rattle.command.specs.Decode.{target};
 ghost use Rattle.pages.specs.Pages.{marking};

@@ -1,4 +1,6 @@
 // The state of an engine as bytes, laid out as specs/Layout.antt says.
+#![tactic(auto)]
+
 ghost use Rattle.std.specs.Prelude.{◌≡◌, true, ◌^◌, ◌≤◌, length, replicate};
 ghost use Rattle.state.specs.Layout.{state_size, regs_in, pattern_in, opened_in, room_in, decoded, is_state, Bytes, with_slots, command_slots, followed};
 

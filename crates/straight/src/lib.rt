@@ -1,4 +1,6 @@
 // Copies whose pixels get their source, converted, or stay as they are where the source matches the key.
+#![tactic(auto)]
+
 ghost use Rattle.std.specs.Prelude.{◌≡◌, true, false, ◌+◌, ◌*◌, ◌^◌, ◌<◌, length};
 ghost use Rattle.surface.specs.Place.{differ};
 ghost use Rattle.surface.specs.Pixels.{across, rect};
@@ -10,7 +12,7 @@ use paint::Tally;
 use surface::Surface;
 
 // What a straight copy needs: the two surfaces, the source key if there is one, and the first pixel of the target and of the source.
-#[derive(Drop)]
+#[derive(Clone, Copy)]
 pub struct Straight {
     pub target: Surface,
     pub from: Surface,

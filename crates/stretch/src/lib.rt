@@ -1,4 +1,6 @@
 // Stretch copies: walks along the rows and the columns say which source pixel each target pixel takes.
+#![tactic(auto)]
+
 ghost use Rattle.std.specs.Prelude.{◌≡◌, false, ◌+◌, ◌<◌, length};
 ghost use Rattle.surface.specs.Place.{differ};
 ghost use Rattle.surface.specs.Pixels.{px, across, rect};

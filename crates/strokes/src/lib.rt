@@ -1,4 +1,6 @@
 // A line drawn: walked by address where it lies inside the clip and its points get their source, and else point by point.
+#![tactic(auto)]
+
 ghost use Rattle.std.specs.Prelude.{◌≡◌, ◌+◌, ◌-◌, ◌/◌, ◌%◌, ◌^◌, ◌<◌, ◌≤◌, true, false, length, if◌then◌else◌};
 ghost use Rattle.paint.specs.Paint.{state, tallied, paint};
 ghost use Rattle.surface.specs.Asked.{Colour};
@@ -20,14 +22,14 @@ use raster::Quad;
 use surface::Surface;
 
 // Where a walk along a line is: the address of a point's first byte, and the remainder of its steps along the minor axis.
-#[derive(Drop)]
+#[derive(Clone, Copy)]
 pub struct Walk {
     pub at: usize,
     pub rest: u32,
 }
 
 // What a step adds to the address, along the major axis alone and along both; the remainder from which on it goes along both, and what it adds to one below that.
-#[derive(Drop)]
+#[derive(Clone, Copy)]
 pub struct Steps {
     pub along: usize,
     pub both: usize,
@@ -36,7 +38,7 @@ pub struct Steps {
 }
 
 // The four fields of the word lineStyle.
-#[derive(Drop)]
+#[derive(Clone, Copy)]
 pub struct Phase {
     pub repeat: u32,
     pub size: u32,
@@ -281,7 +283,7 @@ fn cell_of(pattern: &[u8; 256], n: u32, at: usize) -> u32
 }
 
 // A line and its ink, with what a walk along it goes by, worked out before: the walk's address has the pattern's cell in its high bits.
-#[derive(Drop)]
+#[derive(Clone, Copy)]
 pub struct Track {
     pub ink: Ink,
     pub line: Line,
@@ -365,7 +367,7 @@ fn walk_mixed(mem: &mut [u8], ink: Ink, pattern: &[u8; 256], l: Line) -> Tally
 }
 
 // A point of a line by its number, and the walk there.
-#[derive(Drop)]
+#[derive(Clone, Copy)]
 pub struct Spot {
     pub at: u32,
     pub tread: Tread,
@@ -446,7 +448,7 @@ fn leave(c: Clip, l: Line, from: Spot) -> u32
 }
 
 // The points of a line from a spot up to, and without, one of number `past`.
-#[derive(Drop)]
+#[derive(Clone, Copy)]
 pub struct Part {
     pub line: Line,
     pub from: Spot,

@@ -1,9 +1,11 @@
 // A surface, and the bytes and bits of its pixels in memory.
+#![tactic(auto)]
+
 ghost use Rattle.std.specs.Prelude.{◌≡◌, false, ◌+◌, ◌-◌, ◌/◌, ◌%◌, ◌^◌, ◌<◌, ◌≤◌, min, length, get_or, set};
 ghost use Rattle.surface.specs.Place.{same_surface, one, row_bytes, byte_at, byte_of, read_bytes, write_bytes, read_px, write_px, differ, differs, three, mono_bit};
 ghost use Rattle.surface.specs.Asked.{Small, Colour, Near, Close, Held, OnColour, OnClose, OnMono};
 
-#[derive(Drop)]
+#[derive(Clone, Copy)]
 pub struct Surface {
     pub base: u32,
     pub stride: u32,

@@ -1,4 +1,6 @@
 // Rectangles on surfaces in rows filled or copied pixel by pixel, row by row from one corner.
+#![tactic(auto)]
+
 ghost use Rattle.std.specs.Prelude.{◌≡◌, false, length};
 ghost use Rattle.surface.specs.Pixels.{px, across, rect};
 ghost use Rattle.paint.specs.Paint.{state, tallied, paint};
@@ -13,7 +15,7 @@ use paint::{Source, Tally};
 use surface::Surface;
 
 // A rectangle's work: the ink; where it is copied from, if it is; and the first pixel of the source and of the target.
-#[derive(Drop)]
+#[derive(Clone, Copy)]
 pub struct Task {
     pub ink: Ink,
     pub copies: bool,

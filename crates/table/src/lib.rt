@@ -1,4 +1,6 @@
 // Rows 5 to 8 of the table of answers, for a command as the registers have it. What is kept of both surfaces shortens the tests of row 7; no answer hangs on it.
+#![tactic(auto)]
+
 ghost use Rattle.std.specs.Prelude.{◌≡◌, ◌-◌, ◌<◌};
 ghost use Rattle.surface.specs.Asked.{Small};
 ghost use Rattle.spans.specs.Span.{span_of, meet};
@@ -114,7 +116,7 @@ pub fn copy_verdict(len: usize, r: Regs, k: Rooms) -> u32
 }
 
 // The source places that target places take, on one axis: the first, and how many there are from it to the last.
-#[derive(Drop)]
+#[derive(Clone, Copy)]
 struct Reach {
     pub at: u32,
     pub n: u32,

@@ -1,4 +1,6 @@
 // The reader of packets as bytes, laid out as specs/Layout.antt says.
+#![tactic(auto)]
+
 ghost use Rattle.std.specs.Prelude.{◌≡◌, length};
 ghost use Rattle.tail.specs.Layout.{reader_size, kind_of, offset_of, step_of, left_of, rest_of, encoded, decoded, is_reader, with_rest};
 

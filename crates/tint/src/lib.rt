@@ -1,4 +1,6 @@
 // Fills whose pixels depend on the pattern and on what stands there, by masks that are worked out before the pixels.
+#![tactic(auto)]
+
 ghost use Rattle.std.specs.Prelude.{◌≡◌, false, ℕ, ◌+◌, ◌*◌, ◌^◌, ◌<◌, ◌≤◌, length};
 ghost use Rattle.surface.specs.Asked.{Colour};
 ghost use Rattle.surface.specs.Pixels.{across, rect};
@@ -13,7 +15,7 @@ use paint::Tally;
 use surface::Surface;
 
 // The bits of a pixel that are kept, those that are then turned over, and 1 if the pixel is written.
-#[derive(Drop)]
+#[derive(Clone, Copy)]
 pub struct Mask {
     pub keep: u32,
     pub flip: u32,

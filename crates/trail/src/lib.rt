@@ -1,4 +1,6 @@
 // The pages of the pixels that a command has written, marked after it.
+#![tactic(auto)]
+
 ghost use Rattle.std.specs.Prelude.{◌≡◌, ◌*◌, length};
 ghost use Rattle.cuts.specs.Cut.{number, clip_of, fill_cut, covered};
 ghost use Rattle.command.specs.Decode.{target, line_of, feed_of};

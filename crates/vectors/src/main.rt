@@ -1,5 +1,7 @@
 // Lines, stipples and a pattern that the databook prints, drawn by the engine from register writes: a pixel of colorFore is shown as x, one of colorBack
 // as o, an untouched one as a dot.
+#![tactic(auto)]
+
 use bank::Reading;
 use engine::Engine;
 use libc::STDOUT_FILENO;

@@ -1,4 +1,6 @@
 // The view of some pixels of a row.
+#![tactic(auto)]
+
 ghost use Rattle.std.specs.Prelude.{◌≡◌, ◌+◌, ◌-◌, ◌<◌, length};
 ghost use Rattle.views.specs.View.{view_answer, view_start, viewed, further};
 

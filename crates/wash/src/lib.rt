@@ -1,4 +1,6 @@
 // Fills by masks: in rows as tint lays them; on tiles the masks' bytes, repeated, go over each row in pieces that reach over no edge of a tile.
+#![tactic(auto)]
+
 ghost use Rattle.std.specs.Prelude.{◌≡◌, true, false, ℕ, ◌+◌, ◌*◌, ◌%◌, ◌^◌, ◌<◌, ◌≤◌, length};
 ghost use Rattle.surface.specs.Pixels.{across, rect};
 ghost use Rattle.paint.specs.Paint.{state, tallied, paint, changing, summed};

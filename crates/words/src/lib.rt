@@ -1,4 +1,6 @@
 // Runs of words for the launch area: launch writes in order, up to the first that is refused.
+#![tactic(auto)]
+
 ghost use Rattle.std.specs.Prelude.{◌≡◌, ◌+◌, ◌%◌, ◌^◌, ◌<◌};
 ghost use Rattle.words.specs.Words.{ran, ran_of};
 
@@ -9,7 +11,7 @@ use paint::Tally;
 use rooms::Rooms;
 
 // How many words of a run were taken, and the sums of their two counts.
-#[derive(Drop)]
+#[derive(Clone, Copy)]
 pub struct Sums {
     pub taken: usize,
     pub count: u64,
@@ -17,7 +19,7 @@ pub struct Sums {
 }
 
 // What became of a run: the engine after the words that were taken, the number of the answer that stopped it, or 0, and what is told of those words.
-#[derive(Drop)]
+#[derive(Clone, Copy)]
 pub struct Run {
     pub engine: Engine,
     pub number: u32,
