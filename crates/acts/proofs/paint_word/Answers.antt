@@ -1,0 +1,34 @@
+-- `acts::paint_word` meets its contract: by whether the blit is plain.
+-- Assumes nothing.
+use lib.ListN.{length}
+use native.Mathlib.Omega.{arith}
+use Rattle.host.specs.Host.{by_word}
+use Rattle.table.proofs.Verdicts.{words-few}
+use Rattle.acts.proofs.Laws.{ink-opened, plain-opened, ink-drawn, plain-drawn}
+use Rattle.acts.proofs.paint_word.Goals as goal
+
+pub plain_word-requires : goal.plain_word-requires
+plain_word-requires c =
+    let b = c.before.before.before.before.before.before.before in
+    let o = plain-opened b.args.regs (length b.args.mem.now) c.decode_clip-clip.ensures c.decode_feed-feed.ensures b.requires.fine (omega (arith, b.requires.more))
+    c.is_plain.ensures c.if-is_plain.true c.decode_plain-plain.ensures in
+    (record { opened = o; few = omega (arith, words-few b.args.regs, b.requires.more) }, omega arith)
+
+pub returns-then-is_plain : goal.returns-then-is_plain
+returns-then-is_plain c =
+    let a = c.args in
+    plain-drawn a.regs a.pattern a.mem.now (λ f. by_word f a.blit.last a.word a.blit.taken) _ c.decode_clip-clip.ensures c.decode_feed-feed.ensures
+    c.is_plain.ensures c.if-is_plain.true c.decode_plain-plain.ensures c.plain_word.ensures
+
+pub host_word-requires : goal.host_word-requires
+host_word-requires c =
+    let b = c.before.before.before.before.before.before.before in
+    let o = ink-opened b.args.regs (length b.args.mem.now) c.decode_clip-clip.ensures c.decode_feed-feed.ensures b.requires.fine (omega (arith, b.requires.more))
+    c.decode_ink-ink.ensures in
+    (record { opened = o; few = omega (arith, words-few b.args.regs, b.requires.more) }, omega arith)
+
+pub returns : goal.returns
+returns c =
+    let a = c.args in
+    ink-drawn a.regs a.pattern a.mem.now (λ f. by_word f a.blit.last a.word a.blit.taken) _ c.decode_clip-clip.ensures c.decode_feed-feed.ensures
+    c.decode_ink-ink.ensures c.host_word.ensures

@@ -1,0 +1,21 @@
+-- `bits::put_bit` meets its contract: the one colour, or the other one, which may be left.
+-- Assumes nothing.
+use mathlib.Core.Path.{◌≡◌, ap, ◌∙◌}
+use mathlib.Core.Bool.{true, false, cond, not, ◌&&◌, and-true, and-false}
+use mathlib.Core.Logic.{⊎_elim}
+use mathlib.Core.Option.{Option, none, some}
+use Prim.Native.Nat.{ℕ}
+use lib.Dec.{eqb}
+use Rattle.paint.specs.Paint.{tallied, dab_at}
+use Rattle.bits.specs.Bits.{coloured}
+use Rattle.bits.proofs.put_bit.Goals as goal
+
+pub returns : goal.returns
+unfolding coloured
+returns c =
+    let a = c.args in
+    let v = c.if-set in
+    let o : cond (a.p.clear && not (eqb a.bit 1)) none (some v.v) ≡ coloured a.p a.bit =
+    ⊎_elim (λ w. let e : eqb a.bit 1 ≡ true = w.0.taken in rw (w.1, e, and-false a.p.clear))
+    (λ w. let e : eqb a.bit 1 ≡ false = w.0.left in rw (w.1, e, and-true a.p.clear)) v.branch in
+    c.put_value_at.ensures ∙ ap (λ (u : Option ℕ). dab_at a.at a.n u (tallied a.mem.now a.tally)) o

@@ -1,0 +1,71 @@
+-- `drips::mark_byte` meets its contract: what is left of the byte's pixels, marked now, is the byte, marked at the start.
+-- Assumes nothing.
+use native.Mathlib.Omega.{arith}
+use mathlib.Core.Path.{ap, ◌∙◌}
+use mathlib.Core.List.{List, [], ◌∷◌}
+use Prim.Native.Nat.{◌+◌, ◌-◌, ◌%◌}
+use Rattle.host.specs.Host.{Pixel, pixel, run}
+use Rattle.host.proofs.Places.{whole-width, step-some, column-small}
+use Rattle.host.proofs.Drawing.{run-turn, run-done, byte-run, byte-none}
+use Rattle.drips.proofs.Marks.{dripping, none-drips, drip-takes}
+use Rattle.drips.proofs.mark_byte.Goals as goal
+
+pub nonzero_div-j : goal.nonzero_div-j
+nonzero_div-j c = step-some c.args.feed c.requires.opened.rows
+
+pub returns-then-feed-j : goal.returns-then-feed-j
+returns-then-feed-j c =
+    let a = c.args in
+    none-drips a.ink a.c a.feed a.marks.now (byte-none a.feed a.last a.word a.o c.if-feed-j.true)
+
+pub nonzero_rem-column : goal.nonzero_rem-column
+nonzero_rem-column c = step-some c.args.feed c.requires.opened.rows
+
+pub whole_pixels-start-requires : goal.whole_pixels-start-requires
+whole_pixels-start-requires c =
+    let b = c.before.before in (b.requires.opened.rows.sizes.bytes, omega (arith, column-small b.args.feed b.requires.opened.rows b.args.o))
+
+pub overflow_add-column : goal.overflow_add-column
+overflow_add-column c = let b = c.before.before.before in omega (arith, column-small b.args.feed b.requires.opened.rows b.args.o)
+
+pub whole_pixels-end-requires : goal.whole_pixels-end-requires
+whole_pixels-end-requires c =
+    let b = c.before.before.before in (b.requires.opened.rows.sizes.bytes, omega (arith, column-small b.args.feed b.requires.opened.rows b.args.o))
+
+pub loop-i-init : goal.loop-i-init
+loop-i-init c =
+    let a = c.args in
+    ap (λ (ps : List Pixel). dripping a.ink a.c a.feed ps a.marks.now)
+    (byte-run a.feed a.last a.word a.o c.if-feed-j.false c.whole_pixels-start.ensures c.whole_pixels-end.ensures)
+
+pub value_of-v-requires : goal.value_of-v-requires
+value_of-v-requires c = (c.requires.opened.rows.sizes.bytes, omega arith)
+
+pub mark_one-requires : goal.mark_one-requires
+mark_one-requires c =
+    let l = c.before.before.before in
+    let b = l.before.before.before.before.before in
+    let w = whole-width b.args.feed (b.args.o % b.args.feed.step + 1) in
+    let f = l.whole_pixels-end.ensures in
+    let u = c.loop-i-test.true in
+    (b.requires, (omega arith, l.if-feed-j.false))
+
+pub overflow_add-i : goal.overflow_add-i
+overflow_add-i c = omega arith
+
+pub loop-i-smaller : goal.loop-i-smaller
+loop-i-smaller c = omega arith
+
+pub loop-i-preserved : goal.loop-i-preserved
+loop-i-preserved c =
+    let l = c.before.before.before.before in
+    let a = l.args in
+    let v = c.value_of-v in
+    drip-takes a.ink a.c a.feed (run a.feed a.last a.word a.o l.loop-i.i _) (pixel l.loop-i.i _ v.result ∷ []) _ _
+    (run-turn a.feed a.last a.word a.o l.loop-i.i _ v.result c.loop-i-test.true v.ensures) c.mark_one.ensures
+    ∙ l.loop-i.invariant
+
+pub returns : goal.returns
+returns c =
+    let a = c.args in
+    none-drips a.ink a.c a.feed _ (run-done a.feed a.last a.word a.o _ _ c.loop-i-test.false) ∙ c.loop-i.invariant

@@ -1,0 +1,46 @@
+-- `drips::mark_one` meets its contract: the pixel is marked, or it is left, or it is outside the clip.
+-- Assumes nothing.
+use native.Mathlib.Omega.{arith}
+use mathlib.Core.Path.{sym, ◌∙◌}
+use Prim.Native.Nat.{◌+◌}
+use Rattle.paint.proofs.ClipLaws.{Covered, in-clip}
+use Rattle.drips.proofs.Marks.{one-falls, one_left, one_outside}
+use Rattle.drips.proofs.mark_one.Goals as goal
+use Rattle.drips.proofs.mark_one.Lts as lts
+
+position : (c : lts.Then-covers) → let a = c.args in Covered a.c (a.feed.x + a.i) (a.feed.y + a.j)
+position c = in-clip _ _ _ (sym c.covers.ensures ∙ c.if-covers.true)
+
+pub returns-then-is_left : goal.returns-then-is_left
+returns-then-is_left c =
+    let a = c.args in
+    one_left a.ink a.c a.feed a.i a.j a.v a.marks.now (sym c.is_left.ensures ∙ c.if-is_left.true)
+
+pub overflow_sub-x : goal.overflow_sub-x
+overflow_sub-x c = omega (arith, position c.before.before.before)
+
+pub overflow_sub-y : goal.overflow_sub-y
+overflow_sub-y c = omega (arith, position c.before.before.before)
+
+pub mark_pixel-requires : goal.mark_pixel-requires
+mark_pixel-requires c =
+    let t = c.before.before.before in
+    let b = t.before.before.before.before in
+    record {
+      len = b.requires.0.len;
+      limit = b.requires.0.limit;
+      on = b.requires.0.opened.covered.on b.args.i b.args.j b.requires.1.0 b.requires.1.1 (sym t.covers.ensures ∙ t.if-covers.true);
+    }
+
+pub returns-else-is_left : goal.returns-else-is_left
+returns-else-is_left c =
+    let t = c.before.before.before.before in
+    let a = t.args in
+    c.mark_pixel.ensures
+    ∙ one-falls a.ink a.c a.feed a.i a.j a.v a.marks.now (sym t.covers.ensures ∙ t.if-covers.true)
+    (sym c.is_left.ensures ∙ c.if-is_left.false)
+
+pub returns-else-covers : goal.returns-else-covers
+returns-else-covers c =
+    let a = c.args in
+    one_outside a.ink a.c a.feed a.i a.j a.v a.marks.now (sym c.covers.ensures ∙ c.if-covers.false)

@@ -1,0 +1,16 @@
+-- `drips::mark_rows` meets its contract: the rows left, marked now, are all of them, marked at the start.
+-- Assumes nothing.
+use mathlib.Core.Path.{◌≡◌}
+use Prim.Native.Nat.{◌+◌, ◌-◌, ◌*◌, min}
+use Rattle.pages.specs.Pages.{marking}
+use Rattle.drips.specs.Drips.{first_row, past_row}
+use Rattle.drips.specs.Rows.{rows_drips}
+use Rattle.drips.proofs.mark_rows.Given as goal
+
+abbrev pub invariant-loop-j : goal.invariant-loop-j
+invariant-loop-j l =
+    marking l.ink.target (rows_drips l.c l.feed (4 * l.taken) (4 * (l.taken + l.n)) l.j (l.end - l.j)) l.marks
+    ≡ marking l.ink.target (rows_drips l.c l.feed (4 * l.taken) (4 * (l.taken + l.n)) (first_row l.feed l.taken) (min l.feed.height (past_row l.feed l.taken l.n) - first_row l.feed l.taken)) l.initial.marks
+
+abbrev pub decreases-loop-j : goal.decreases-loop-j
+decreases-loop-j l = l.end - l.j

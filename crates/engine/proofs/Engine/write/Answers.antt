@@ -1,0 +1,31 @@
+-- `engine::Engine::write` meets its contract: by the memory, and by what the offset names.
+-- Assumes nothing.
+use mathlib.Core.Path.{sym, ap, ◌∙◌}
+use borrow.Author.Tests.{eq-eqb, ne_eqb, lt-ltb, le-ltb}
+use Rattle.registers.specs.declared.Place.{Place}
+use Rattle.engine.specs.Step.{written, to_place}
+use Rattle.engine.proofs.Engine.write.Goals as goal
+
+pub returns-then-len-gt16777216 : goal.returns-then-len-gt16777216
+unfolding written
+returns-then-len-gt16777216 c = simp (lt-ltb _ _ c.if-len-gt16777216.true)
+
+pub returns-then-len-self : goal.returns-then-len-self
+unfolding written
+returns-then-len-self c = simp (le-ltb _ _ c.if-len-gt16777216.false, ne_eqb _ _ c.if-len-self.true)
+
+pub returns-in-Register : goal.returns-in-Register
+unfolding written
+returns-in-Register c = c.take_register.ensures ∙ ap (λ (p : Place). to_place p c.args.self c.args.mem.now c.args.offset c.args.word) (sym c.in-Register.is.1 ∙ c.find_place-place.ensures) ∙ simp (le-ltb _ _ c.if-len-gt16777216.false, eq-eqb _ _ c.if-len-self.false)
+
+pub returns-in-Pattern : goal.returns-in-Pattern
+unfolding written
+returns-in-Pattern c = c.take_pattern.ensures ∙ ap (λ (p : Place). to_place p c.args.self c.args.mem.now c.args.offset c.args.word) (sym c.in-Pattern.at.1 ∙ c.find_place-place.ensures) ∙ simp (le-ltb _ _ c.if-len-gt16777216.false, eq-eqb _ _ c.if-len-self.false)
+
+pub returns-in-Launch : goal.returns-in-Launch
+unfolding written
+returns-in-Launch c = c.launch.ensures ∙ ap (λ (p : Place). to_place p c.args.self c.args.mem.now c.args.offset c.args.word) (sym c.in-Launch.is.1 ∙ c.find_place-place.ensures) ∙ simp (le-ltb _ _ c.if-len-gt16777216.false, eq-eqb _ _ c.if-len-self.false)
+
+pub returns-in-Nowhere : goal.returns-in-Nowhere
+unfolding written
+returns-in-Nowhere c = ap (λ (p : Place). to_place p c.args.self c.args.mem.now c.args.offset c.args.word) (sym c.in-Nowhere.is.1 ∙ c.find_place-place.ensures) ∙ simp (le-ltb _ _ c.if-len-gt16777216.false, eq-eqb _ _ c.if-len-self.false)

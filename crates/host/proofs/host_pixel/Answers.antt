@@ -1,0 +1,40 @@
+-- `host::host_pixel` meets its contract: the pixel is put there, or it is outside the clip.
+-- Assumes nothing.
+use native.Mathlib.Omega.{arith}
+use mathlib.Core.Path.{sym, ◌∙◌}
+use Prim.Native.Nat.{◌+◌}
+use Rattle.paint.specs.Paint.{tallied}
+use Rattle.paint.proofs.ClipLaws.{Covered, in-clip}
+use Rattle.host.proofs.Drawing.{pixel-put, pixel-past}
+use Rattle.host.proofs.host_pixel.Goals as goal
+use Rattle.host.proofs.host_pixel.Lts as lts
+
+position : (c : lts.Then-covers) → let a = c.args in Covered a.c (a.feed.x + a.i) (a.feed.y + a.j)
+position c = in-clip _ _ _ (sym c.covers.ensures ∙ c.if-covers.true)
+
+pub overflow_sub-column : goal.overflow_sub-column
+overflow_sub-column c = omega (arith, position c)
+
+pub overflow_sub-row : goal.overflow_sub-row
+overflow_sub-row c = omega (arith, position c)
+
+pub put_source-requires : goal.put_source-requires
+put_source-requires c =
+    let t = c.before.before.before in
+    let b = t.before.before.before.before.before in
+    record {
+      on = b.requires.0.covered.on b.args.i b.args.j b.requires.1.0 b.requires.1.1.0 (sym t.covers.ensures ∙ t.if-covers.true);
+      room = b.requires.1.1.1;
+    }
+
+pub returns-then-covers : goal.returns-then-covers
+returns-then-covers c =
+    let t = c.before.before.before.before.before.before in
+    let a = t.args in
+    pixel-put a.ink a.pattern a.c a.feed a.i a.j a.v _ _ a.mem.now a.n _ (sym t.covers.ensures ∙ t.if-covers.true)
+    c.pattern_at-p.ensures c.source_of-s.ensures c.put_source.ensures
+
+pub returns : goal.returns
+returns c =
+    let a = c.args in
+    pixel-past a.ink a.pattern a.c a.feed a.i a.j a.v (tallied a.mem.now a.n) (sym c.covers.ensures ∙ c.if-covers.false)

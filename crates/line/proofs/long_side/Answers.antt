@@ -1,0 +1,13 @@
+-- `line::long_side` meets its contract: by the major axis.
+-- Assumes nothing.
+use mathlib.Core.Path.{sym, ◌∙◌}
+use Rattle.line.specs.Line.{longer}
+use Rattle.line.proofs.long_side.Goals as goal
+
+pub returns-then-x_major : goal.returns-then-x_major
+unfolding longer
+returns-then-x_major c = rw (sym c.x_major.ensures ∙ c.if-x_major.true) c.distance.ensures
+
+pub returns-else-x_major : goal.returns-else-x_major
+unfolding longer
+returns-else-x_major c = rw (sym c.x_major.ensures ∙ c.if-x_major.false) c.distance-else-x_major.ensures

@@ -1,0 +1,21 @@
+-- `pages::first_page` meets its contract.
+-- Assumes nothing.
+use mathlib.Core.Path.{ap, ap₂, ◌∙◌}
+use native.Mathlib.Omega.{arith}
+use Rattle.surface.specs.Place.{byte_at}
+use Rattle.pages.specs.Pages.{page_of}
+use Rattle.pages.proofs.RectLaws.{column-small}
+use Rattle.pages.proofs.first_page.Goals as goal
+
+pub overflow_mul-x : goal.overflow_mul-x
+overflow_mul-x c = record { fits = omega (arith, column-small c.args.x c.requires.0 c.requires.1) }
+
+pub byte_at-requires : goal.byte_at-requires
+byte_at-requires c =
+    let start = c.before.before.before in
+    record { small = start.requires.0; across = omega (arith, column-small start.args.x start.requires.0 start.requires.1); down = omega arith }
+
+pub returns : goal.returns
+returns c =
+    let a = c.args in
+    ap page_of (c.byte_at.ensures ∙ ap₂ (byte_at a.s) c.wide.ensures c.wide-2.ensures)

@@ -1,0 +1,60 @@
+-- `plain::colour_row` meets its contract: each turn draws the next pixel of the stretch, whose source is a colour.
+-- Assumes nothing.
+use native.Mathlib.Omega.{arith}
+use Prim.Native.Nat.{◌-◌}
+use Rattle.plain.specs.Asked.{Here}
+use Rattle.plain.proofs.Stretch.{here-small}
+use Rattle.plain.proofs.Parts.{stretch-begins, stretch-room, stretch-goes-on, stretch-ended}
+use Rattle.plain.proofs.colour_row.Goals as goal
+use Rattle.plain.proofs.colour_row.Lts as lts
+
+pub loop-i-init : goal.loop-i-init
+loop-i-init c = stretch-begins
+
+pub last_column-requires : goal.last_column-requires
+last_column-requires c = let b = c.before.before.before in (b.requires.0.rows.sizes.bytes, omega (arith, b.requires.0.rows.sizes.width, b.requires.1.0.past))
+
+here : (c : lts.In-loop-i) → let a = c.args in Here a.feed a.t a.j a.column c.loop-i.i
+here c = c.requires.1.0.here c.loop-i.i c.loop-i.invariant.low c.loop-i-test.true
+
+pub overflow_add-t : goal.overflow_add-t
+overflow_add-t c =
+    let b = c.before.before.before.before in
+    omega (arith, c.last_column.ensures, here-small b.requires.0.rows (omega (arith, c.loop-i-test.true, b.requires.1.0.past)) (here c.before))
+
+pub overflow_sub-t : goal.overflow_sub-t
+overflow_sub-t c = omega (arith, c.last_column.ensures, (here c.before).low)
+
+pub value_of-v-requires : goal.value_of-v-requires
+value_of-v-requires c = (c.requires.0.rows.sizes.bytes, omega (arith, c.last_column.ensures, (here c.before).high))
+
+pub plain_colour-s-requires : goal.plain_colour-s-requires
+plain_colour-s-requires c = c.requires.1.1
+
+pub plain_pixel-r-requires : goal.plain_pixel-r-requires
+plain_pixel-r-requires c =
+    let l = c.before.before.before.before in
+    let now = l.loop-i.invariant in
+    let b = l.before.before.before in
+    let w = b.requires.1.0 in
+    rw now.left.long
+    (b.requires.0, (omega (arith, l.loop-i-test.true, w.past), (w.row, (stretch-room now 1 w.room (omega (arith, l.loop-i-test.true)), c.plain_colour-s.ensures))))
+
+pub overflow_add-i : goal.overflow_add-i
+overflow_add-i c = omega (arith, c.loop-i-test.true)
+
+pub loop-i-smaller : goal.loop-i-smaller
+loop-i-smaller c = omega (arith, c.loop-i-test.true)
+
+pub loop-i-preserved : goal.loop-i-preserved
+loop-i-preserved c =
+    let l = c.before.before.before.before.before.before.before in
+    let v = c.value_of-v in
+    stretch-goes-on l.loop-i.invariant v.result l.loop-i-test.true (rw (c.last_column.ensures, (here l).byte) at v.ensures)
+    c.plain_pixel-r.ensures
+
+pub shape_of-mem : goal.shape_of-mem
+shape_of-mem c = c.loop-i.invariant.left.long
+
+pub returns : goal.returns
+returns c = stretch-ended c.loop-i.invariant c.loop-i-test.false

@@ -1,0 +1,48 @@
+-- `plain::is_whole` meets its contract: each test leaves a field of what it says.
+-- Assumes nothing.
+use borrow.Author.Tests.{eqb-true, eqb-false, not-false}
+use mathlib.Core.Path.{◌≡◌, sym, ◌∙◌}
+use mathlib.Core.Bool.{false, true≢false}
+use Prim.Native.Nat.{◌<◌}
+use Rattle.surface.proofs.OnLaws.{pos-of-ne}
+use Rattle.host.proofs.Needed.{some-pixel}
+use Rattle.plain.proofs.Straight.{neither}
+use Rattle.plain.proofs.is_whole.Goals as goal
+use Rattle.plain.proofs.is_whole.Lts as lts
+
+-- what the first test leaves
+like : (c : lts.Else-feed-p) → let a = c.args in (a.feed.bytes ≡ 0) × ((a.p.target.tiled ≡ false) × ((a.taken ≡ 0) × (0 < a.feed.height)))
+like c =
+    let a = c.args in
+    let o = neither _ _ c.if-feed-p.false in
+    let t = neither _ _ o.0 in
+    let b = neither _ a.p.target.tiled t.0 in
+    (eqb-true _ _ (not-false _ b.0), (b.1, (eqb-true _ _ (not-false _ t.1), pos-of-ne (eqb-false _ _ o.1))))
+
+pub returns-then-feed-p : goal.returns-then-feed-p
+returns-then-feed-p c = λ e. absurd (true≢false (sym e))
+
+pub returns-then-words_needed-n : goal.returns-then-words_needed-n
+returns-then-words_needed-n c = λ e. absurd (true≢false (sym e))
+
+pub overflow_sub-feed : goal.overflow_sub-feed
+overflow_sub-feed c = some-pixel _ c.requires.0
+
+pub overflow_sub-feed-then-covers : goal.overflow_sub-feed-then-covers
+overflow_sub-feed-then-covers c = (like c.before.before.before.before.before.before.before).1.1.1
+
+pub returns-then-covers : goal.returns-then-covers
+returns-then-covers c = λ e.
+    let l = like c.before.before.before.before.before.before.before.before.before in
+    record {
+      mono = l.0;
+      flat = l.1.0;
+      first = l.1.1.0;
+      some = l.1.1.1;
+      all = sym c.if-words_needed-n.false ∙ c.words_needed.ensures;
+      start = sym c.covers.ensures ∙ c.if-covers.true;
+      end = sym c.covers-then-covers.ensures ∙ e;
+    }
+
+pub returns : goal.returns
+returns c = λ e. absurd (true≢false (sym e))

@@ -1,0 +1,96 @@
+-- `plain::mono_part` meets its contract: the bits of one byte, or its pixels one by one.
+-- Assumes nothing.
+use native.Mathlib.Omega.{arith}
+use borrow.Author.Tests.{not-true}
+use mathlib.Core.Path.{◌≡◌, sym, ◌∙◌}
+use mathlib.Core.Bool.{true}
+use Prim.Native.Nat.{◌+◌, ◌-◌, ◌/◌, ◌<◌, ◌≤◌}
+use Rattle.surface.proofs.OnLaws.{and_left, and_right}
+use Rattle.paint.specs.Clip.{in_clip}
+use Rattle.paint.specs.Paint.{tallied}
+use Rattle.paint.proofs.Tallies.{room-less}
+use Rattle.paint.proofs.ClipLaws.{in-clip}
+use Rattle.host.proofs.Places.{mono-column}
+use Rattle.plain.specs.Plain.{plain_ink}
+use Rattle.plain.proofs.Bits.{between, byte-drawn}
+use Rattle.plain.proofs.mono_part.Goals as goal
+use Rattle.plain.proofs.mono_part.Lts as lts
+
+-- the byte of the word that holds the pixels
+held : (c : lts.Then-covers-p) → let a = c.args in (a.column ≤ a.i / 8) × (a.t + a.i / 8 - a.column < 4)
+held c =
+    let a = c.args in
+    let w = c.requires.1.0 in
+    let k = mono-column a.feed a.i c.requires.1.1.0 in
+    let h = w.here a.i (omega arith) (omega arith) in
+    (omega (arith, k, h.low), omega (arith, k, h.high))
+
+pub overflow_add-b : goal.overflow_add-b
+overflow_add-b c = omega (arith, held c)
+
+pub overflow_sub-b : goal.overflow_sub-b
+overflow_sub-b c = omega (arith, held c)
+
+pub overflow_mul-byte : goal.overflow_mul-byte
+overflow_mul-byte c = omega (arith, held c)
+
+pub overflow_shr-byte : goal.overflow_shr-byte
+overflow_shr-byte c = omega (arith, held c)
+
+first-in : (c : lts.Then-covers-p) → let a = c.args in in_clip a.c (a.feed.x + a.i) (a.feed.y + a.j) ≡ true
+first-in c = sym c.covers.ensures ∙ c.if-covers.true
+
+last-in : (c : lts.Then-covers-p) → let a = c.args in in_clip a.c (a.feed.x + a.i + (a.m - 1)) (a.feed.y + a.j) ≡ true
+last-in c = sym c.covers-then-covers.ensures ∙ and_left c.covers-then-covers.result _ c.if-covers-p.true
+
+pub overflow_sub-x : goal.overflow_sub-x
+overflow_sub-x c = omega (arith, in-clip _ _ _ (first-in c.before))
+
+pub overflow_sub-y : goal.overflow_sub-y
+overflow_sub-y c = omega (arith, in-clip _ _ _ (first-in c.before))
+
+pub put_bits-requires : goal.put_bits-requires
+unfolding plain_ink
+put_bits-requires c =
+    let a = c.args in
+    let p = c.requires in
+    let k = in-clip _ _ _ (first-in c.before) in
+    let w = p.1.0 in (
+      (
+        (p.0.colour, not-true a.p.target.tiled (and_right c.covers-then-covers.result _ c.if-covers-p.true)),
+        (
+          record {
+            wide = omega (arith, in-clip _ _ _ (last-in c.before), p.0.bits12);
+            on = λ q l h.
+                let e : a.feed.x + (a.i + (q - (a.feed.x + a.i - 16384))) - 16384 ≡ q = omega (arith, k) in
+                let f : a.feed.x + a.i + (q - (a.feed.x + a.i - 16384)) ≡ a.feed.x + (a.i + (q - (a.feed.x + a.i - 16384))) = omega arith in
+                rw e at (p.0.covered.on (a.i + (q - (a.feed.x + a.i - 16384))) a.j (omega (arith, k, w.past)) w.row
+                (rw f at (between a.c (a.feed.x + a.i) (a.feed.y + a.j) a.m (q - (a.feed.x + a.i - 16384)) (first-in c.before) (last-in c.before) (omega (arith, k)))));
+          },
+          room-less w.room (omega arith),
+        ),
+      ),
+      omega (arith, p.1.1.1.1),
+    )
+
+pub returns-then-covers-p : goal.returns-then-covers-p
+returns-then-covers-p c =
+    let t = c.before.before.before.before in
+    let b = c.before.before.before.before.before.before.before.before.before.before.before.before in
+    let a = b.args in
+    let mono = b.requires.1.1.0 in
+    let fits = b.requires.1.1.1.1 in
+    c.put_bits.ensures
+    ∙ byte-drawn a.p a.c a.feed a.last a.word (a.t + a.i / 8 - a.column) a.j a.i mono (omega (arith, b.well_formed)) (omega (arith, b.well_formed)) (omega (arith, b.well_formed))
+    (held t).1 (omega (arith, in-clip _ _ _ (first-in t))) a.m (tallied a.mem.now a.n)
+    (λ q h. between a.c (a.feed.x + a.i) (a.feed.y + a.j) a.m q (first-in t) (last-in t) h)
+    (λ q h. omega (arith, mono-column a.feed (a.i + q) mono, (b.requires.1.0.here (a.i + q) (omega arith) (omega arith)).byte, fits)) fits
+
+pub mono_each-requires : goal.mono_each-requires
+mono_each-requires c = let p = c.requires in (p.0, (p.1.0, p.1.1.0))
+
+pub returns : goal.returns
+returns c =
+    let a = c.args in
+    let e : a.i + a.m - a.i ≡ a.m = omega arith in
+    rw e at c.mono_each.ensures

@@ -1,0 +1,42 @@
+-- `plain::plain_pixel` meets its contract: its source is put there or left, or it is outside the clip.
+-- Assumes nothing.
+use native.Mathlib.Omega.{arith}
+use mathlib.Core.Path.{◌≡◌, sym, ◌∙◌}
+use mathlib.Core.Bool.{true}
+use mathlib.Core.List.{[]}
+use Prim.Native.Nat.{◌+◌}
+use Rattle.paint.specs.Paint.{tallied}
+use Rattle.paint.specs.Clip.{in_clip}
+use Rattle.paint.proofs.ClipLaws.{in-clip}
+use Rattle.plain.specs.Plain.{plain_ink}
+use Rattle.host.proofs.Drawing.{pixel-past}
+use Rattle.plain.proofs.PlainLaws.{plain-put}
+use Rattle.plain.proofs.plain_pixel.Goals as goal
+use Rattle.plain.proofs.plain_pixel.Lts as lts
+
+inside : (c : lts.Then-covers) → let a = c.args in in_clip a.c (a.feed.x + a.i) (a.feed.y + a.j) ≡ true
+inside c = sym c.covers.ensures ∙ c.if-covers.true
+
+pub overflow_sub-x : goal.overflow_sub-x
+overflow_sub-x c = omega (arith, in-clip _ _ _ (inside c.before))
+
+pub overflow_sub-y : goal.overflow_sub-y
+overflow_sub-y c = omega (arith, in-clip _ _ _ (inside c.before))
+
+pub put_value-requires : goal.put_value-requires
+unfolding plain_ink
+put_value-requires c =
+    let b = c.before.before.before.before.before.before in
+    (b.requires.0.covered.on b.args.i b.args.j b.requires.1.0 b.requires.1.1.0 (inside c.before), b.requires.1.1.1.0)
+
+pub returns-then-covers : goal.returns-then-covers
+returns-then-covers c =
+    let t = c.before.before.before.before in
+    let b = t.before.before.before.before.before in
+    let a = b.args in
+    plain-put a.p a.c a.feed a.i a.j a.v (tallied a.mem.now a.n) (inside t) (omega arith) b.requires.1.1.1.1 c.put_value.ensures
+
+pub returns : goal.returns
+returns c =
+    let a = c.args in
+    pixel-past (plain_ink a.p) [] a.c a.feed a.i a.j a.v (tallied a.mem.now a.n) (sym c.covers.ensures ∙ c.if-covers.false)

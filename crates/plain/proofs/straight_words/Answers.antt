@@ -1,0 +1,110 @@
+-- `plain::straight_words` meets its contract: each test leaves a field of what it says.
+-- Assumes nothing.
+use native.Mathlib.Omega.{arith}
+use native.Mathlib.Nat.{mul_comm, div-le_of_le-mul}
+use borrow.Author.Tests.{eqb-true, eqb-false, leb-false, not-false}
+use lib.Dec.{eqb}
+use mathlib.Core.Path.{◌≡◌, refl, sym, ◌∙◌}
+use mathlib.Core.Bool.{false}
+use Prim.Native.Nat.{◌+◌, ◌-◌, ◌*◌, ◌/◌, ◌%◌, ◌^◌, ◌<◌, ◌≤◌}
+use Rattle.surface.proofs.Bytes.{product_lt}
+use Rattle.surface.proofs.OnLaws.{pos-of-ne}
+use Rattle.plain.proofs.Straight.{neither, pixels-some}
+use Rattle.plain.proofs.straight_words.Goals as goal
+use Rattle.plain.proofs.straight_words.Lts as lts
+
+-- what the first test leaves
+like : (c : lts.Else-bytes-p) → let a = c.args in (0 < a.feed.bytes) × ((a.feed.bytes ≡ a.p.target.bytes) × (a.p.target.tiled ≡ false))
+like c =
+    let a = c.args in
+    let o = neither _ a.p.target.tiled c.if-bytes-p.false in
+    let e = neither (eqb a.feed.bytes 0) _ o.0 in
+    (pos-of-ne (eqb-false _ _ e.0), (eqb-true _ _ (not-false _ e.1), o.1))
+
+-- the third
+begun : (c : lts.Else-column-bytes) → let a = c.args in (4 * a.k % a.feed.step % a.feed.bytes ≡ 0) × (4 * a.k % a.feed.step / a.feed.bytes < a.feed.width)
+begun c = let o = neither _ _ c.if-column-bytes.false in (eqb-true _ _ (not-false _ o.0), leb-false _ _ o.1)
+
+-- how many bytes are left in the row
+most : (c : lts.After-struct_known-5-1) → let a = c.args in (a.feed.width - 4 * a.k % a.feed.step / a.feed.bytes) * a.feed.bytes < 2 ^ 16
+most c =
+    let s = c.before.before.before.before.before.before.before.before in
+    product_lt 13 3 (omega (arith, s.requires.0.sizes.width)) (omega (arith, s.requires.0.sizes.bytes))
+
+-- what the fourth test leaves
+counted : (c : lts.Else-w-eq0) → let a = c.args in let w = c.whole_words-w.result in
+    (0 < w) × ((w ≤ a.left) × (4 * a.k % a.feed.step / a.feed.bytes + 4 * w / a.feed.bytes ≤ a.feed.width))
+counted c =
+    let a = c.args in
+    let w = c.whole_words-w.result in
+    let u = a.feed.width - 4 * a.k % a.feed.step / a.feed.bytes in
+    let h = c.least.ensures in
+    let l = c.whole_words-w.ensures.0 in
+    let n : 4 * w / a.feed.bytes ≤ u = div-le_of_le-mul a.feed.bytes (omega (arith, h, l, mul_comm u a.feed.bytes)) in
+    (omega (arith, c.if-w-eq0.false), (omega (arith, h, l), omega (arith, n, begun c.before.before.before.before)))
+
+pub returns-then-bytes-p : goal.returns-then-bytes-p
+returns-then-bytes-p c = λ n. absurd (n refl)
+
+pub returns-then-feed-j : goal.returns-then-feed-j
+returns-then-feed-j c = λ n. absurd (n refl)
+
+pub nonzero_div-i : goal.nonzero_div-i
+nonzero_div-i c = (like c.before.before).0
+
+pub nonzero_rem-column-2 : goal.nonzero_rem-column-2
+nonzero_rem-column-2 c = (like c.before.before).0
+
+pub returns-then-column-bytes : goal.returns-then-column-bytes
+returns-then-column-bytes c = λ n. absurd (n refl)
+
+pub overflow_sub-feed : goal.overflow_sub-feed
+overflow_sub-feed c = omega (arith, begun c.before)
+
+pub overflow_mul-feed : goal.overflow_mul-feed
+overflow_mul-feed c = omega (arith, most c)
+
+pub returns-then-w-eq0 : goal.returns-then-w-eq0
+returns-then-w-eq0 c = λ n. absurd (n refl)
+
+pub overflow_add-x : goal.overflow_add-x
+overflow_add-x c = omega (arith, begun c.before.before.before.before.before, c.requires.0.sizes.width, c.requires.1.1.0)
+
+pub overflow_add-y : goal.overflow_add-y
+overflow_add-y c = omega (arith, c.if-feed-j.false, c.requires.0.sizes.height, c.requires.1.1.1.0)
+
+pub overflow_mul-w : goal.overflow_mul-w
+overflow_mul-w c = omega (arith, most c.before.before.before.before.before.before.before, c.least.ensures, c.whole_words-w.ensures.0)
+
+pub nonzero_div-w : goal.nonzero_div-w
+nonzero_div-w c = (like c.before.before.before.before.before.before.before.before.before.before.before.before).0
+
+pub overflow_sub-w : goal.overflow_sub-w
+overflow_sub-w c = pixels-some _ _ (like c.before.before.before.before.before.before.before.before.before.before.before.before).0 c.requires.0.sizes.bytes (counted c.before.before.before.before).0
+
+pub overflow_add-x-then-covers : goal.overflow_add-x-then-covers
+overflow_add-x-then-covers c = omega (arith, counted c.before.before.before.before, c.requires.0.sizes.width, c.requires.1.1.0)
+
+pub returns-then-covers-2 : goal.returns-then-covers-2
+returns-then-covers-2 c = λ _.
+    let l = like c.before.before.before.before.before.before.before.before.before.before.before.before.before.before in
+    let n = counted c.before.before.before.before.before.before in
+    record {
+      some = n.0;
+      fits = n.1.0;
+      colour = l.0;
+      same = l.1.0;
+      flat = l.1.1;
+      row = c.if-feed-j.false;
+      begins = (begun c.before.before.before.before.before.before.before.before.before.before).0;
+      whole = c.whole_words-w.ensures.1;
+      past = n.1.1;
+      first = sym c.covers.ensures ∙ c.if-covers.true;
+      last = sym c.covers-then-covers.ensures ∙ c.if-covers-2.true;
+    }
+
+pub returns-else-covers-2 : goal.returns-else-covers-2
+returns-else-covers-2 c = λ n. absurd (n refl)
+
+pub returns-else-covers : goal.returns-else-covers
+returns-else-covers c = λ n. absurd (n refl)

@@ -1,0 +1,23 @@
+-- `plan::code_of` meets its contract: by the number.
+-- Assumes nothing.
+-- `plan::code_of` meets its contract: by the number.
+-- Assumes nothing.
+use borrow.Author.Tests.{ne_eqb}
+use Rattle.plan.specs.Plan.{code_of}
+use Rattle.plan.proofs.code_of.Goals as goal
+
+pub returns-in-0 : goal.returns-in-0
+unfolding code_of
+returns-in-0 c = rw c.in-0.is
+
+pub returns-in-1 : goal.returns-in-1
+unfolding code_of
+returns-in-1 c = rw c.in-1.is
+
+pub returns-in-2 : goal.returns-in-2
+unfolding code_of
+returns-in-2 c = rw c.in-2.is
+
+pub returns-in_default : goal.returns-in_default
+unfolding code_of
+returns-in_default c = rw (ne_eqb _ _ c.in_default.in_default-own.rest.0.0.1, ne_eqb _ _ c.in_default.in_default-own.rest.0.1, ne_eqb _ _ c.in_default.in_default-own.rest.1)

@@ -1,0 +1,30 @@
+-- `pours::put_twos` meets its contract: the pixels of the words passed are poured.
+-- Assumes nothing.
+use native.Mathlib.Omega.{arith}
+use mathlib.Core.Path.{◌≡◌}
+use Prim.Native.Nat.{◌-◌}
+use lib.ListN.{length}
+use Rattle.pours.proofs.Spilt.{poured-none}
+use Rattle.pours.proofs.Turns.{twos-turn}
+use Rattle.pours.proofs.put_twos.Goals as goal
+
+pub loop-i-init : goal.loop-i-init
+loop-i-init c = (poured-none, omega arith)
+
+pub loop-i-preserved : goal.loop-i-preserved
+loop-i-preserved c =
+    let k = c.loop-i in
+    let e = c.unlike_halves-r.ensures in (
+      twos-turn k.i (omega (arith, c.shared_slice_known-in-loop-i-1.given k.i)) (omega arith) c.put_bytes.ensures k.invariant.0 c.word_at-old.ensures e.0 e.1,
+      omega arith,
+    )
+
+pub shape_of-mem : goal.shape_of-mem
+shape_of-mem c = c.loop-i.invariant.0.long
+
+pub returns : goal.returns
+returns c =
+    let a = c.args in
+    let k = c.loop-i in
+    let end : k.i ≡ length a.words.now = omega arith in
+    rw (← end) k.invariant.0.done

@@ -1,0 +1,12 @@
+-- `runs::solid_short` meets its contract: what remains of the pixels, painted on the memory now, is all of them painted on the memory at the start.
+-- Assumes nothing.
+use mathlib.Core.Path.{◌≡◌}
+use Prim.Native.Nat.{◌-◌}
+use Rattle.runs.proofs.Along.{EvenLeft}
+use Rattle.runs.proofs.solid_short.Given as goal
+
+abbrev pub invariant-loop-i : goal.invariant-loop-i
+invariant-loop-i l = EvenLeft l.bytes l.v l.at l.w l.initial.mem l.i l.mem l.r × (l.b ≡ l.bytes)
+
+abbrev pub decreases-loop-i : goal.decreases-loop-i
+decreases-loop-i l = l.w - l.i

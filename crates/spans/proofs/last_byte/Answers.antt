@@ -1,0 +1,24 @@
+-- `spans::last_byte` meets its contract: by the test for mono.
+-- Assumes nothing.
+use native.Mathlib.Omega.{arith}
+use borrow.Author.Tests.{eq-eqb, ne_eqb}
+use Rattle.surface.specs.Place.{first_byte, byte_count}
+use Rattle.surface.proofs.Bytes.{product_lt}
+use Rattle.spans.proofs.last_byte.Goals as goal
+
+pub returns-then-n-eq0 : goal.returns-then-n-eq0
+unfolding first_byte byte_count
+returns-then-n-eq0 c = (rw (eq-eqb _ _ c.if-n-eq0.true) (omega arith), omega arith)
+
+pub overflow_mul-result : goal.overflow_mul-result
+overflow_mul-result c = omega (arith, product_lt 34 3 {a = c.args.x} {b = c.wide.result} c.requires.1 (omega arith))
+
+pub overflow_add-result : goal.overflow_add-result
+overflow_add-result c = omega (arith, product_lt 34 3 {a = c.args.x} {b = c.wide.result} c.requires.1 (omega arith))
+
+pub returns : goal.returns
+unfolding first_byte byte_count
+returns c =
+    let x = c.args.x in
+    let small = product_lt 34 3 {a = x} {b = c.wide.result} c.requires.1 (omega arith) in
+    (rw (ne_eqb _ _ c.if-n-eq0.false, c.wide.ensures, c.wide-2.ensures), omega arith)

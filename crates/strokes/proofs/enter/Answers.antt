@@ -1,0 +1,35 @@
+-- `strokes::enter` meets its contract: a point is what is sought, or it is passed.
+-- Assumes nothing.
+use Rattle.std.proofs.Common.{◌-◌, true, arith}
+use Rattle.line.proofs.TreadLaws.{way-starts, way-placed, way-small}
+use Rattle.strokes.proofs.PartLaws.{search-finds, search-goes, search-ends}
+use Rattle.strokes.proofs.enter.Goals as goal
+
+pub loop-i-init : goal.loop-i-init
+loop-i-init c = record {
+  ahead = omega arith;
+  upto = omega arith;
+  way = λ h. way-starts c.long_side-n.ensures c.short_side-m.ensures;
+  passed = λ j g h. absurd (omega arith);
+}
+
+pub place_point-p-requires : goal.place_point-p-requires
+place_point-p-requires c = way-placed (c.loop-i.invariant.way (omega (arith, c.loop-i-test.true, c.point_count-total.ensures)))
+
+pub returns-then-covers : goal.returns-then-covers
+returns-then-covers c = search-finds c.loop-i.invariant (omega (arith, c.loop-i-test.true, c.point_count-total.ensures)) c.place_point-p.ensures c.covers.ensures c.if-covers.true
+
+pub tread_on-t-requires : goal.tread_on-t-requires
+tread_on-t-requires c = way-small (c.loop-i.invariant.way (omega (arith, c.loop-i-test.true, c.point_count-total.ensures))) c.requires.0
+
+pub overflow_add-i : goal.overflow_add-i
+overflow_add-i c = omega arith
+
+pub loop-i-smaller : goal.loop-i-smaller
+loop-i-smaller c = omega arith
+
+pub loop-i-preserved : goal.loop-i-preserved
+loop-i-preserved c = search-goes c.loop-i.invariant (omega (arith, c.loop-i-test.true, c.point_count-total.ensures)) c.place_point-p.ensures c.covers.ensures c.tread_on-t.ensures c.if-covers.false
+
+pub returns : goal.returns
+returns c = search-ends c.loop-i.invariant (omega (arith, c.loop-i-test.false, c.point_count-total.ensures))

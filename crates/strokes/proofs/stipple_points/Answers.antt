@@ -1,0 +1,112 @@
+-- `strokes::stipple_points` meets its contract: what the points that are left do from now on is what all of them do from the start, and the walk is at the next of them.
+-- Assumes nothing.
+use Rattle.std.proofs.Common.{ℕ, ◌-◌, ◌<◌, ◌≤◌, List, [], ◌∷◌, sym, refl, ap, ◌∙◌, ap₂, arith}
+use mathlib.Core.Option.{Option}
+use Rattle.paint.specs.Tally.{tally}
+use Rattle.paint.specs.Paint.{tallied, dab_at, paint}
+use Rattle.paint.specs.Mix.{bit_source, sourced}
+use Rattle.paint.specs.Clip.{pixel_at}
+use Rattle.surface.proofs.Run.{in-rows, pixel-held}
+use Rattle.line.specs.declared.Point.{Point}
+use Rattle.line.specs.Line.{point_at, point_count}
+use Rattle.line.specs.Stipple.{stipple_bit, style_after}
+use Rattle.strokes.specs.Walk.{walk_touches, word_of}
+use Rattle.line.proofs.Sides.{count-le, longer-lt}
+use Rattle.line.proofs.PointLaws.{from_start}
+use Rattle.line.proofs.StippleLaws.{style-start, style-turn, style-done}
+use Rattle.paint.proofs.Tallies.{room-first}
+use Rattle.paint.proofs.Turns.{dab-at}
+use Rattle.paint.proofs.Loops.{left-begins, left-takes, left_ended}
+use Rattle.strokes.proofs.WalkLaws.{small_low, steps-small, walk_start, walk-next}
+use Rattle.strokes.proofs.WalkDraw.{walk-left, walk_none, stipple-given}
+use Rattle.strokes.proofs.stipple_points.Goals as goal
+
+pub steps_of-t-requires : goal.steps_of-t-requires
+steps_of-t-requires c = c.requires.0.ahead.line
+
+pub overflow_sub-l : goal.overflow_sub-l
+overflow_sub-l c = c.requires.0.ahead.left
+
+pub overflow_sub-l-2 : goal.overflow_sub-l-2
+overflow_sub-l-2 c = c.requires.0.ahead.top
+
+pub close_byte-requires : goal.close_byte-requires
+close_byte-requires c =
+    let p = c.requires.0 in
+    (p.surface, p.surface.some, omega (arith, p.ahead.line.x0), omega (arith, p.ahead.line.y0))
+
+pub phase_of-p-requires : goal.phase_of-p-requires
+phase_of-p-requires c = c.requires.0.fields
+
+pub loop-i-init : goal.loop-i-init
+loop-i-init c =
+    let a = c.args in
+    let e = c.phase_of-p.ensures.1 in
+    let n = point_count a.l in (
+      left-begins (ap₂ (λ (u : ℕ) (ps : List Point). walk_touches a.ink a.pen u ps) e (from_start a.l n refl)),
+      ap (style_after a.pen (n - 0)) e ∙ style-start a.pen n n a.style refl,
+      (λ h. walk_start a.ink.target a.l _ _ c.close_byte.ensures c.long_side.ensures),
+      c.phase_of-p.ensures.0,
+      omega arith,
+    )
+
+pub point_count-requires : goal.point_count-requires
+point_count-requires c = c.requires.0.ahead.line
+
+pub phase_bit-on-requires : goal.phase_bit-on-requires
+phase_bit-on-requires c = c.loop-i.invariant.3
+
+pub put_value_at-tally-requires : goal.put_value_at-tally-requires
+put_value_at-tally-requires c =
+    let a = c.args in
+    let p = c.requires.0 in
+    let k = c.loop-i in
+    let h : k.i < point_count a.l = omega (arith, c.wide.ensures, c.point_count.ensures) in (
+      rw (k.invariant.0.long, c.requires.1) (pixel-held (in-rows p.flat) (record { colour = p.surface; on = p.on k.i h }) _ (k.invariant.2 h).at),
+      room-first k.invariant.0.upto (omega (arith, longer-lt p.ahead.line, count-le a.l)),
+    )
+
+pub walk_on-w-requires : goal.walk_on-w-requires
+walk_on-w-requires c = rw c.steps_of-t.ensures (steps-small _ _ c.args.l c.requires.0.ahead.line)
+
+pub phase_after-p-requires : goal.phase_after-p-requires
+phase_after-p-requires c = c.loop-i.invariant.3
+
+pub overflow_add-i : goal.overflow_add-i
+overflow_add-i c = omega (arith, c.wide.ensures, c.point_count.ensures)
+
+pub loop-i-smaller : goal.loop-i-smaller
+loop-i-smaller c = omega (arith, c.wide.ensures, c.point_count.ensures)
+
+pub loop-i-preserved : goal.loop-i-preserved
+unfolding paint walk_touches
+loop-i-preserved c =
+    let a = c.args in
+    let p = c.requires.0 in
+    let k = c.loop-i in
+    let s = a.ink.target in
+    let h : k.i < point_count a.l = omega (arith, c.wide.ensures, c.point_count.ensures) in
+    let at = k.invariant.2 h in
+    let q = point_at a.l k.i in
+    let put = c.put_value_at-tally.ensures
+    ∙ ap₂ (λ (n : ℕ) (o : Option ℕ). dab_at k.w.at n o (tallied k.mem k.tally)) c.requires.1 (stipple-given a.ink a.pen (word_of k.p) c.phase_bit-on.ensures c.pick-v.ensures)
+    ∙ dab-at s (in-rows p.flat) (pixel_at q.x q.y) _ (sourced (bit_source a.ink (stipple_bit a.pen (word_of k.p)))) (tallied k.mem k.tally) at.at in (
+      left-takes k.invariant.0 (walk_touches a.ink a.pen (word_of k.p) (q ∷ [])) (walk-left a.ink a.pen a.l k.i (point_count a.l) (word_of k.p) h c.phase_after-p.ensures.1)
+          (omega arith) put,
+      style-turn a.pen k.i (point_count a.l) (word_of k.p) _ h c.phase_after-p.ensures.1 ∙ k.invariant.1,
+      (λ g. rw (c.walk_on-w.ensures, c.steps_of-t.ensures) (walk-next s p.flat (small_low p.surface.small) a.l p.ahead k.i (omega (arith, count-le a.l)) k.w at)),
+      c.phase_after-p.ensures.0,
+      omega arith,
+    )
+
+pub style_of-requires : goal.style_of-requires
+style_of-requires c = c.loop-i.invariant.3
+
+pub returns : goal.returns
+returns c =
+    let a = c.args in
+    let k = c.loop-i in
+    let h : point_count a.l ≤ k.i = omega (arith, c.wide.ensures, c.point_count.ensures) in (
+      left_ended k.invariant.0 (walk_none a.ink a.pen a.l k.i (point_count a.l) (word_of k.p) h),
+      c.style_of.ensures ∙ sym (style-done a.pen k.i (point_count a.l) (word_of k.p) h) ∙ k.invariant.1,
+    )

@@ -1,0 +1,10 @@
+-- `surface::store_three` meets its contract: what was read before the store, and what is read after it.
+-- Assumes nothing.
+use mathlib.Core.Path.{ap₂}
+use mathlib.Core.Bool.{not}
+use Prim.Native.Nat.{ℕ}
+use lib.Dec.{eqb}
+use Rattle.surface.proofs.store_three.Goals as goal
+
+pub returns : goal.returns
+returns c = (c.put_three.ensures, ap₂ (λ (a b : ℕ). not (eqb a b)) c.get_three-old.ensures c.get_three.ensures)

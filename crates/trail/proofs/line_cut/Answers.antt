@@ -1,0 +1,14 @@
+-- `trail::line_cut` meets its contract.
+-- Assumes nothing.
+use mathlib.Core.Path.{ap₂, ◌∙◌}
+use Rattle.cuts.proofs.CutLaws.{clip-bits}
+use Rattle.table.proofs.Verdicts.{line-placed}
+use Rattle.dots.specs.Dots.{line_box}
+use Rattle.trail.proofs.line_cut.Goals as goal
+
+pub line_box-requires : goal.line_box-requires
+line_box-requires c =
+    let start = c.before.before in rw (c.decode_line.ensures, c.decode_clip.ensures) (line-placed start.args.r, clip-bits start.args.r)
+
+pub returns : goal.returns
+returns c = c.line_box.ensures ∙ ap₂ line_box c.decode_line.ensures c.decode_clip.ensures

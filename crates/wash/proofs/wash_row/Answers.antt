@@ -1,0 +1,87 @@
+-- `wash::wash_row` meets its contract: the pieces so far are changed.
+-- Assumes nothing.
+use mathlib.Core.Path.{◌≡◌, sym, ap, subst, ◌∙◌}
+use Prim.Native.Nat.{ℕ, ◌+◌, ◌-◌, ◌%◌, ◌<◌}
+use native.Mathlib.Nat.{mod-lt}
+use native.Mathlib.Omega.{arith}
+use Rattle.surface.specs.Place.{byte_at}
+use Rattle.tint.specs.Masking.{blended}
+use Rattle.blocks.specs.Blocks.{Put}
+use Rattle.blocks.proofs.Blocks.{row_small, put-none}
+use Rattle.wash.specs.Wash.{washed, in_row}
+use Rattle.wash.proofs.Pieces.{piece-at, piece-put, piece-more}
+use Rattle.wash.proofs.wash_row.Goals as goal
+
+pub loop-i-init : goal.loop-i-init
+loop-i-init c =
+    let a = c.args in
+    (put-none a.s (washed a.s a.keep.now a.flip.now (in_row a.first a.period a.x) a.mem.now) a.x a.y 0 1 a.mem.now (λ p i. omega arith), omega arith)
+
+pub overflow_add-x : goal.overflow_add-x
+overflow_add-x c = let p = c.requires in omega (arith, p.wide, row_small _ p.small)
+
+pub overflow_add-x-in-loop-i : goal.overflow_add-x-in-loop-i
+overflow_add-x-in-loop-i c = let p = c.requires in omega (arith, p.wide, row_small _ p.small, c.loop-i-test.true)
+
+pub byte_at-at-requires : goal.byte_at-at-requires
+byte_at-at-requires c =
+    let p = c.requires in
+    record { small = p.small; across = omega (arith, p.wide, row_small _ p.small, c.loop-i-test.true); down = omega (arith, p.high) }
+
+pub nonzero_rem-i : goal.nonzero_rem-i
+nonzero_rem-i c = omega (arith, c.requires.steps.some)
+
+pub overflow_add-first : goal.overflow_add-first
+overflow_add-first c =
+    let p = c.requires in
+    omega (arith, p.room, p.steps.few, mod-lt c.loop-i.i p.steps.some)
+
+pub tint_bytes-requires : goal.tint_bytes-requires
+tint_bytes-requires c =
+    let e = c.to_edge-k.ensures in
+    let l = c.loop-i in
+    let a = c.args in
+    let p = c.requires in
+    let low = mod-lt l.i p.steps.some in (
+      λ i h. rw (c.byte_at-at.ensures, ← piece-at a.s a.keep.now a.flip.now (a.x + l.i) a.y _ (e.2 p.tiled) i h, l.invariant.0.long)
+          (p.held (a.x + l.i + i) (omega arith) (omega (arith, e.0))),
+      omega (arith, p.room, p.steps.few, e.2 p.tiled),
+      omega (arith, p.room, p.steps.few, e.2 p.tiled),
+    )
+
+pub overflow_add-i : goal.overflow_add-i
+overflow_add-i c = omega (arith, c.to_edge-k.ensures.0)
+
+pub loop-i-smaller : goal.loop-i-smaller
+loop-i-smaller c =
+    let e = c.to_edge-k.ensures in
+    let taken = c.loop-i-test.true in
+    omega (arith, e.0, e.1 (omega arith))
+
+pub loop-i-preserved : goal.loop-i-preserved
+loop-i-preserved c =
+    let b = c.before.before.before.before.before.before in
+    let e = b.to_edge-k.ensures in
+    let k = b.to_edge-k.result in
+    let l = b.loop-i in
+    let a = b.args in
+    let p = b.requires in
+    let from = a.first + l.i % a.period in
+    let piece = piece-put a.s a.keep.now a.flip.now (a.x + l.i) a.y k (e.2 p.tiled) from l.mem
+    (λ i h u. subst (λ (n : ℕ). byte_at a.s i a.y < n) (sym l.invariant.0.long) (p.held i (omega arith) (omega (arith, e.0)))) in
+    let made = c.tint_bytes.ensures ∙ ap (λ (at : ℕ). blended a.keep.now a.flip.now from at k l.mem) b.byte_at-at.ensures in (
+      piece-more a.s a.keep.now a.flip.now a.first a.period a.x a.y a.n l.i k p.steps p.wide (omega (arith, e.0)) (omega (arith, e.2 p.tiled))
+          p.keeps p.flips l.invariant.0
+          (subst (Put a.s (washed a.s a.keep.now a.flip.now (λ q. from + (q.x - (a.x + l.i))) l.mem) (a.x + l.i) a.y k 1 l.mem) (sym made) piece),
+      omega (arith, e.0),
+    )
+
+pub shape_of-mem : goal.shape_of-mem
+shape_of-mem c = c.loop-i.invariant.0.long
+
+pub returns : goal.returns
+returns c =
+    let a = c.args in
+    let l = c.loop-i in
+    let end : l.i ≡ a.n = omega (arith, c.loop-i-test.false, l.invariant.1) in
+    subst (λ (i : ℕ). Put a.s (washed a.s a.keep.now a.flip.now (in_row a.first a.period a.x) a.mem.now) a.x a.y i 1 a.mem.now l.mem) end l.invariant.0
