@@ -25,13 +25,13 @@ def turned(name):
 
 def parts(text, rust):
     """The text cut into pieces, each with its kind: code, comment or string."""
-    pattern = r'//[^\n]*|"(?:\\.|[^"\\])*"' if rust else r"--[^\n]*|\{-.*?-\}"
+    pattern = r'//[^\n]*|"(?:\\.|[^"\\])*"|\'(?:\\.|[^\'\\])\'' if rust else r"--[^\n]*|\{-.*?-\}"
     at = 0
     for m in re.finditer(pattern, text, re.S):
         if not rust and m.group().startswith("--") and m.start() and text[m.start() - 1] not in " \t\n":
             continue
         yield "code", text[at:m.start()]
-        yield ("string" if m.group().startswith('"') else "comment"), m.group()
+        yield ("string" if m.group()[0] in "\"'" else "comment"), m.group()
         at = m.end()
     yield "code", text[at:]
 

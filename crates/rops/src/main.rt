@@ -99,9 +99,9 @@ fn combine(s: Stack, operator: u8) -> Stack {
 
 fn step(s: Stack, c: u8) -> Stack {
     match c {
-        b'_p' => push(s, PATTERN),
-        b'_s' => push(s, SOURCE),
-        b'_d' => push(s, TARGET),
+        b'P' => push(s, PATTERN),
+        b'S' => push(s, SOURCE),
+        b'D' => push(s, TARGET),
         b'0' => push(s, 0),
         b'1' => push(s, 255),
         b'n' => negate(s),
@@ -132,7 +132,7 @@ fn digit(c: u8) -> u8
 {
     match c {
         b'0'..=b'9' => c - b'0',
-        b'_a'..=b'_f' => c - b'_a' + 10,
+        b'A'..=b'F' => c - b'A' + 10,
         b'a'..=b'f' => c - b'a' + 10,
         _ => 16,
     }
