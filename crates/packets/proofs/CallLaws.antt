@@ -93,7 +93,9 @@ module _ {S : Type 0} (write : Writer S) where
         record {
           further = omega arith;
           within = omega arith;
-          same = rw (one-first piece u some, f);
+          same =
+              ap (λ (t : Bool). each (took_one write) (drop (u + 1) piece) (cond t (call r s l u) (after (next (took (get_or piece u 0) r) (u + 1))))) (sym f)
+              ∙ sym (ap (λ (t : List ℕ). each (took_one write) t (call r s l u)) (one-first piece u some));
         }
 
     pub turned : is_full (call r s l u) ≡ false → {n : Next} → n ≡ next_of r piece u (room l) → {c' : Call S} → c' ≡ noting write n.event n.reader s l n.used

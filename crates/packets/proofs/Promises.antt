@@ -64,11 +64,11 @@ module _ {S : Type 0} (write : Writer S) where
   unfolding each carried
   words-carried over s notes [] h = refl
   words-carried over s notes (w ∷ ws) h = absurd (omega arith)
-  words-carried (going {rest} g) s notes [] h = absurd (omega (arith, ap length (going-left g)))
-  words-carried (going {rest} g) s notes (w ∷ ws) h =
+  words-carried {rest = rest} (going g) s notes [] h = absurd (omega (arith, ap length (going-left g)))
+  words-carried {rest = rest} (going g) s notes (w ∷ ws) h =
       let st = write (next_offset rest) w s in
       let h' : length ws ≡ length (offsets_left (advanced rest)) = omega (arith, ap length (going-left g)) in
-      word_first rest s notes w ws ∙ rw (going-word g w, going-left g) (words-carried (going-live g) st.state (notes ++ (st.note ∷ [])) ws h')
+      word_first rest s notes w ws ∙ rw (going-word g w, going-left g) (words-carried {rest = advanced rest} (going-live g) st.state (notes ++ (st.note ∷ [])) ws h')
 
   -- a header in an empty reader
   header-first : (s : S) (notes : List Note) (h : ℕ) (ws : List ℕ) → turned_down h ≡ false

@@ -12,7 +12,6 @@ use Rattle.paint.proofs.Loops.{row-begins, row_room, row-goes-on, row-ended}
 use Rattle.bits.specs.Bits.{coloured, bit_of}
 use Rattle.bits.proofs.BitLaws.{run-held, run-dab}
 use Rattle.bits.proofs.put_run.Goals as goal
-use Rattle.bits.proofs.put_run.Lts as lts
 
 pub loop-i-init : goal.loop-i-init
 loop-i-init c = row-begins
@@ -31,7 +30,7 @@ overflow_mul-i c =
     let b = c.before.before.before.before.before in
     omega (arith, product_lt 3 3 {a = c.loop-i.i} {b = b.args.n} (omega (arith, c.loop-i-test.true, b.requires.1.0)) (omega (arith, b.requires.1.1, b.requires.0.0.0.small.bytes)))
 
-held : (c : lts.After-wide) → let a = c.args in
+held : (c : goal.After-wide) → let a = c.args in
     Held (c.place_in_rows-at.result + c.loop-i.i * a.n) a.n (length a.mem.now)
 held c =
     let b = c.before.before.before.before.before.before in

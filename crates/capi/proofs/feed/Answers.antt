@@ -10,7 +10,6 @@ use Rattle.packets.specs.Answers.{lent, took_one}
 use Rattle.packets.proofs.CallLaws.{Turned, turned, tested, noting-by, full-stays}
 use Rattle.capi.specs.Packets.{kept, by_call, piece_call}
 use Rattle.capi.proofs.feed.Goals as goal
-use Rattle.capi.proofs.feed.Lts as lts
 
 pub loop-used-init : goal.loop-used-init
 loop-used-init c = (refl, (refl, (refl, refl)))
@@ -21,7 +20,7 @@ returns-then-r-room c =
     full-stays by_call (drop k.used c.args.piece.now) (piece_call k.r k.state k.memory k.answers k.used k.answered)
     (tested by_call k.r (kept k.state k.memory) (lent k.answers k.answered) k.used c.has_room-room.ensures c.if-r-room.true) ∙ k.invariant.0
 
-turn : (c : lts.After-after-1)
+turn : (c : goal.After-after-1)
     → let k = c.loop-used in
     let t = c.tell-answered in
     let n = c.next-n.result in

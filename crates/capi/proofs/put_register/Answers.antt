@@ -10,7 +10,6 @@ use Rattle.state.specs.Layout.{followed}
 use Rattle.capi.specs.Calls.{opening, tested, plainly}
 use Rattle.capi.proofs.Writes.{tested-refused, tested-taken}
 use Rattle.capi.proofs.put_register.Goals as goal
-use Rattle.capi.proofs.put_register.Lts as lts
 
 pub returns-then-answer-ne0 : goal.returns-then-answer-ne0
 returns-then-answer-ne0 c =
@@ -20,7 +19,7 @@ returns-then-answer-ne0 c =
     (f.put_plain-answer.ensures ∙ ap (plainly a.s.now a.len a.offset) f.kept_bits-kept.ensures) c.if-answer-ne0.true
 
 -- past the test the word was let through
-through : (c : lts.Else-answer-ne0) → let f = c.before.before.before in let a = f.args in
+through : (c : goal.Else-answer-ne0) → let f = c.before.before.before in let a = f.args in
     (f.put_plain-answer.new.s ≡ with_word a.s.now a.offset (kept a.offset a.word)) × (a.len ≤ 2 ^ 24) × ((y : List ℕ) → opening y 0 ≡ tested a.s.now a.len y)
 through c =
     let f = c.before.before.before in

@@ -7,21 +7,20 @@ use Rattle.tail.specs.Layout.{is_reader}
 use Rattle.tail.proofs.Laws.{valid}
 use Rattle.capi.proofs.Packets.{not-reader, not-state, packets-fed}
 use Rattle.capi.proofs.rimebarrow_packets.Goals as goal
-use Rattle.capi.proofs.rimebarrow_packets.Lts as lts
 
 -- past the first test the bytes are a reader's
-reader : (c : lts.Else-not-is_reader) → is_reader c.args.reader.now ≡ true
-reader c = sym c.is_reader.ensures ∙ not-false c.is_reader.result c.if-not-is_reader.false
+reader : (c : goal.Else-not-is_reader) → is_reader c.args.reader.now ≡ true
+reader c = sym c.is_reader.ensures ∙ c.if-not-is_reader.false
 
 pub returns-then-not-is_reader : goal.returns-then-not-is_reader
 returns-then-not-is_reader c =
     let a = c.args in
-    not-reader a.reader.now a.state.now a.memory.now a.piece.now a.answers.now (sym c.is_reader.ensures ∙ not-true c.is_reader.result c.if-not-is_reader.true)
+    not-reader a.reader.now a.state.now a.memory.now a.piece.now a.answers.now (sym c.is_reader.ensures ∙ c.if-not-is_reader.true)
 
 pub returns-then-not-is_state : goal.returns-then-not-is_state
 returns-then-not-is_state c =
     let a = c.args in
-    not-state a.reader.now a.state.now a.memory.now a.piece.now a.answers.now (reader c.before.before.before) (sym c.is_state.ensures.0 ∙ not-true c.is_state.result c.if-not-is_state.true)
+    not-state a.reader.now a.state.now a.memory.now a.piece.now a.answers.now (reader c.before.before.before) (sym c.is_state.ensures.0 ∙ c.if-not-is_state.true)
 
 pub decode-requires : goal.decode-requires
 decode-requires c = (valid _ (reader c.before.before.before.before)).size
@@ -33,5 +32,5 @@ pub returns : goal.returns
 returns c =
     let a = c.args in
     packets-fed a.reader.now a.state.now a.memory.now a.piece.now a.answers.now (reader c.before.before.before.before.before.before.before.before.before.before.before.before.before.before.before.before.before.before.before.before)
-    (sym c.is_state.ensures.0 ∙ not-false c.is_state.result c.if-not-is_state.false)
+    (sym c.is_state.ensures.0 ∙ c.if-not-is_state.false)
     c.decode.ensures c.feed-fed.ensures c.save.ensures

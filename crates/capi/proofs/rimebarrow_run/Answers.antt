@@ -10,23 +10,22 @@ use Rattle.state.specs.Layout.{state_size, is_state, Bytes}
 use Rattle.state.proofs.Back.{opened}
 use Rattle.capi.proofs.Runs.{not-run, state-run}
 use Rattle.capi.proofs.rimebarrow_run.Goals as goal
-use Rattle.capi.proofs.rimebarrow_run.Lts as lts
 
-abbrev S : lts.Else-not-is_state → List ℕ
+abbrev S : goal.Else-not-is_state → List ℕ
 S c = c.args.state.now
 
 -- past the first test the bytes are a state
-whole : (c : lts.Else-not-is_state) → is_state (S c) ≡ true
-whole c = sym c.is_state.ensures.0 ∙ not-false c.is_state.result c.if-not-is_state.false
+whole : (c : goal.Else-not-is_state) → is_state (S c) ≡ true
+whole c = sym c.is_state.ensures.0 ∙ c.if-not-is_state.false
 
-each-byte : (c : lts.Else-not-is_state) → Bytes (S c)
-each-byte c = c.is_state.ensures.1 (not-false c.is_state.result c.if-not-is_state.false)
+each-byte : (c : goal.Else-not-is_state) → Bytes (S c)
+each-byte c = c.is_state.ensures.1 (c.if-not-is_state.false)
 
-size : (c : lts.Else-not-is_state) → length (S c) ≡ state_size
+size : (c : goal.Else-not-is_state) → length (S c) ≡ state_size
 size c = (opened (S c) (whole c) (each-byte c)).size
 
 pub returns-then-not-is_state : goal.returns-then-not-is_state
-returns-then-not-is_state c = not-run _ _ _ (sym c.is_state.ensures.0 ∙ not-true c.is_state.result c.if-not-is_state.true)
+returns-then-not-is_state c = not-run _ _ _ (sym c.is_state.ensures.0 ∙ c.if-not-is_state.true)
 
 pub decode-e-requires : goal.decode-e-requires
 decode-e-requires c = size c.before

@@ -11,15 +11,14 @@ use Rattle.paint.proofs.ClipLaws.{in-clip}
 use Rattle.line.proofs.DrawLaws.{point-on}
 use Rattle.dots.proofs.DotLaws.{dot-written, dot-left, dot-clipped}
 use Rattle.dots.proofs.mark_dot.Goals as goal
-use Rattle.dots.proofs.mark_dot.Lts as lts
 
-inside : (c : lts.Else-not-covers) → in_clip c.args.c c.args.p.x c.args.p.y ≡ true
-inside c = sym c.covers.ensures ∙ not-false c.covers.result c.if-not-covers.false
+inside : (c : goal.Else-not-covers) → in_clip c.args.c c.args.p.x c.args.p.y ≡ true
+inside c = sym c.covers.ensures ∙ c.if-not-covers.false
 
 pub returns-then-not-covers : goal.returns-then-not-covers
 returns-then-not-covers c =
     let a = c.args in
-    let out = sym c.covers.ensures ∙ not-true c.covers.result c.if-not-covers.true in
+    let out = sym c.covers.ensures ∙ c.if-not-covers.true in
     (dot-clipped a.ink a.c a.pen a.style a.p a.marks.now out, c.style_after-next.ensures)
 
 pub overflow_sub-p : goal.overflow_sub-p

@@ -6,9 +6,8 @@ use Prim.Native.Nat.{◌+◌}
 use Rattle.paint.proofs.ClipLaws.{Covered, in-clip}
 use Rattle.drips.proofs.Marks.{one-falls, one_left, one_outside}
 use Rattle.drips.proofs.mark_one.Goals as goal
-use Rattle.drips.proofs.mark_one.Lts as lts
 
-position : (c : lts.Then-covers) → let a = c.args in Covered a.c (a.feed.x + a.i) (a.feed.y + a.j)
+position : (c : goal.Then-covers) → let a = c.args in Covered a.c (a.feed.x + a.i) (a.feed.y + a.j)
 position c = in-clip _ _ _ (sym c.covers.ensures ∙ c.if-covers.true)
 
 pub returns-then-is_left : goal.returns-then-is_left

@@ -7,9 +7,8 @@ use Rattle.paint.specs.Paint.{tallied}
 use Rattle.paint.proofs.ClipLaws.{Covered, in-clip}
 use Rattle.host.proofs.Drawing.{pixel-put, pixel-past}
 use Rattle.host.proofs.host_pixel.Goals as goal
-use Rattle.host.proofs.host_pixel.Lts as lts
 
-position : (c : lts.Then-covers) → let a = c.args in Covered a.c (a.feed.x + a.i) (a.feed.y + a.j)
+position : (c : goal.Then-covers) → let a = c.args in Covered a.c (a.feed.x + a.i) (a.feed.y + a.j)
 position c = in-clip _ _ _ (sym c.covers.ensures ∙ c.if-covers.true)
 
 pub overflow_sub-column : goal.overflow_sub-column

@@ -5,7 +5,6 @@ use Prim.Native.Nat.{◌+◌, ◌-◌, ◌*◌, ◌^◌, ◌≤◌}
 use Rattle.formats.specs.Step.{data_words}
 use Rattle.host.proofs.Needed.{some-needed, narrow, flat, data-small}
 use Rattle.host.proofs.words_needed.Goals as goal
-use Rattle.host.proofs.words_needed.Lts as lts
 
 pub returns-then-feed-eq0 : goal.returns-then-feed-eq0
 returns-then-feed-eq0 c = let a = c.args.feed in narrow a.bytes a.step a.width a.height c.if-feed-eq0.true
@@ -13,7 +12,7 @@ returns-then-feed-eq0 c = let a = c.args.feed in narrow a.bytes a.step a.width a
 pub returns-then-feed-eq0-2 : goal.returns-then-feed-eq0-2
 returns-then-feed-eq0-2 c = let a = c.args.feed in flat a.bytes a.step a.width a.height c.if-feed-eq0.false c.if-feed-eq0-2.true
 
-small : (c : lts.After-struct_known-4-1) → let f = c.args.feed in (f.height - 1) * f.step + c.row_length-row.result ≤ 2 ^ 30 + 2 ^ 16
+small : (c : goal.After-struct_known-4-1) → let f = c.args.feed in (f.height - 1) * f.step + c.row_length-row.result ≤ 2 ^ 30 + 2 ^ 16
 small c = let b = c.before.before.before.before.before.before.before in rw c.row_length-row.ensures (data-small b.args.feed b.requires)
 
 pub overflow_mul-result : goal.overflow_mul-result

@@ -9,7 +9,6 @@ use mir.Syntax.{w8}
 use mathlib.Core.Path.{◌∙◌}
 use Rattle.ink.proofs.PatternLaws.{in-pattern, value_there}
 use Rattle.ink.proofs.pattern_in.Goals as goal
-use Rattle.ink.proofs.pattern_in.Lts as lts
 
 pub overflow_mul-at-2 : goal.overflow_mul-at-2
 overflow_mul-at-2 c = omega (arith, in-pattern c.requires)
@@ -38,11 +37,11 @@ overflow_add-at-4 c = omega (arith, in-pattern c.requires)
 pub bounds-pattern-at-4 : goal.bounds-pattern-at-4
 bounds-pattern-at-4 c = omega (arith, in-pattern c.requires)
 
-small : (c : lts.After-value_of) (i : ℕ) → Fits w8 (get_or c.args.t2 i 0)
+small : (c : goal.After-value_of) (i : ℕ) → Fits w8 (get_or c.args.pattern i 0)
 small c i = search rules
 
 pub returns : goal.returns
 returns c =
     let b = c.before.before.before.before in
     c.value_of.ensures
-    ∙ value_there b.args.ink b.args.t2 b.args.column b.args.row b.requires (λ i. omega (arith, small c i)) c.wide-byte.ensures.0 c.word_of-word.ensures
+    ∙ value_there b.args.ink b.args.pattern b.args.column b.args.row b.requires (λ i. omega (arith, small c i)) c.wide-byte.ensures.0 c.word_of-word.ensures

@@ -7,10 +7,9 @@ use borrow.Author.Tests.{not-true, not-false, eq-eqb, ne_eqb}
 use Rattle.ink.specs.Pattern.{pattern_bit, pattern_pixel, pattern_in}
 use Rattle.ink.proofs.PatternLaws.{in-pattern}
 use Rattle.ink.proofs.pattern_seen.Goals as goal
-use Rattle.ink.proofs.pattern_seen.Lts as lts
 
 -- the pixel's bytes are the pattern's
-there : (c : lts.After-get_bytes-arg-1) → (c.pattern_row-row.result * 8 + c.pattern_column-column.result) * c.args.ink.target.bytes + 3 < 256
+there : (c : goal.After-get_bytes-arg-1) → (c.pattern_row-row.result * 8 + c.pattern_column-column.result) * c.args.ink.target.bytes + 3 < 256
 there c = in-pattern (record { some = c.requires.some; four = c.requires.small.bytes; column8 = c.pattern_column-column.ensures.1; row8 = c.pattern_row-row.ensures.1 })
 
 pub overflow_mul-row-then-not-ink : goal.overflow_mul-row-then-not-ink

@@ -3,23 +3,15 @@
 use native.Mathlib.Omega.{arith}
 use borrow.Author.Rules.{rules}
 use mathlib.Core.Path.{◌≡◌, refl, ap₂, ◌∙◌}
-use mathlib.Core.List.{List}
-use Prim.Native.Nat.{ℕ, ◌+◌, ◌-◌, ◌*◌, ◌/◌, ◌%◌, ◌<◌, ◌≤◌}
-use lib.ListN.{length, get_or, length-set}
+use Prim.Native.Nat.{ℕ, ◌+◌, ◌-◌, ◌*◌, ◌/◌, ◌%◌}
+use lib.ListN.{get_or, length-set}
 use lib.Seq.{get_or-set_other}
 use mir.Val.{Fits}
 use mir.Syntax.{w8}
-use Rattle.ink.specs.declared.Ink.{Ink}
 use Rattle.ink.specs.Pattern.{pattern_value, pattern_in}
 use Rattle.ink.specs.Asked.{Cell}
 use Rattle.ink.proofs.PatternLaws.{in-pattern, value_there, zeros, filled_more}
 use Rattle.ink.proofs.values_at.Goals as goal
-use Rattle.ink.proofs.values_at.Lts as lts
-
--- the first k of them
-abbrev First : Ink → List ℕ → ℕ → ℕ → ℕ → List ℕ → Type 0
-First ink pattern x y k values =
-    (length values ≡ 64) × ((l : ℕ) → l < k → get_or values l 0 ≡ pattern_value ink pattern (x + l % 8) (y + l / 8)) × ((l : ℕ) → k ≤ l → get_or values l 0 ≡ 0)
 
 pub loop-j-init : goal.loop-j-init
 loop-j-init c = (omega arith, (refl, λ l h. absurd (omega arith), λ l h. zeros 64 l))
@@ -30,7 +22,7 @@ loop-i-init c =
     (omega arith, (l.invariant.1.0, λ k h. l.invariant.1.1 k (omega arith), λ k h. l.invariant.1.2 k (omega arith)))
 
 -- the place that is read
-cell : (c : lts.After-pattern_column-column)
+cell : (c : goal.After-pattern_column-column)
     → Cell c.args.ink.target.bytes c.pattern_column-column.result c.pattern_row-row.result
 cell c =
     let p = c.requires.0 in
@@ -66,7 +58,7 @@ bounds-pattern-at-in-loop-i-3 c = omega (arith, in-pattern (cell c))
 pub value_of-requires : goal.value_of-requires
 value_of-requires c = let p = cell c.before in (p.some, p.four, p.column8)
 
-small : (c : lts.After-value_of) (i : ℕ) → Fits w8 (get_or c.args.t2 i 0)
+small : (c : goal.After-value_of) (i : ℕ) → Fits w8 (get_or c.args.pattern i 0)
 small c i = search rules
 
 pub loop-i-preserved : goal.loop-i-preserved
@@ -79,17 +71,17 @@ loop-i-preserved c =
     let k = o.j * 8 + l.i in
     let column = d.pattern_column-column.ensures.0 in
     let row = r.pattern_row-row.ensures.0 in
-    let value : c.value_of.result ≡ pattern_value a.ink a.t2 (a.x + l.i) (a.y + o.j) =
+    let value : c.value_of.result ≡ pattern_value a.ink a.pattern (a.x + l.i) (a.y + o.j) =
     c.value_of.ensures
-    ∙ value_there a.ink a.t2 d.pattern_column-column.result r.pattern_row-row.result (cell d) (λ i. omega (arith, small c i)) d.wide-byte.ensures.0 c.word_of-word.ensures
-    ∙ ap₂ (pattern_in a.ink a.t2) column row in
+    ∙ value_there a.ink a.pattern d.pattern_column-column.result r.pattern_row-row.result (cell d) (λ i. omega (arith, small c i)) d.wide-byte.ensures.0 c.word_of-word.ensures
+    ∙ ap₂ (pattern_in a.ink a.pattern) column row in
     let across : l.i ≡ k % 8 = omega (arith, d.loop-i-test.true) in
     let down : o.j ≡ k / 8 = omega (arith, d.loop-i-test.true) in
-    let there = value ∙ ap₂ (λ (i j : ℕ). pattern_value a.ink a.t2 (a.x + i) (a.y + j)) across down in (
+    let there = value ∙ ap₂ (λ (i j : ℕ). pattern_value a.ink a.pattern (a.x + i) (a.y + j)) across down in (
       omega arith,
       (
         simp length-set l.invariant.1.0,
-        λ m h. filled_more l.values k _ (λ m. pattern_value a.ink a.t2 (a.x + m % 8) (a.y + m / 8)) (omega arith) there l.invariant.1.1 m (omega arith),
+        λ m h. filled_more l.values k _ (λ m. pattern_value a.ink a.pattern (a.x + m % 8) (a.y + m / 8)) (omega arith) there l.invariant.1.1 m (omega arith),
         λ m h. get_or-set_other l.values k m _ 0 (λ e. omega arith) ∙ l.invariant.1.2 m (omega arith),
       ),
     )

@@ -13,7 +13,6 @@ use Rattle.packets.proofs.CallLaws.{Turned, turned, tested, full-stays}
 use Rattle.packets.proofs.Holding.{called-within}
 use Rattle.intake.specs.Intake.{Machine, machine, by_engine, fed_of}
 use Rattle.intake.proofs.feed.Goals as goal
-use Rattle.intake.proofs.feed.Lts as lts
 
 -- what a call leaves, and that it stays within piece and run
 ending : (r : Reader) (s : Machine) (piece run : List ℕ) {c : Call Machine} → c ≡ called by_engine r s piece run
@@ -31,7 +30,7 @@ returns-then-r-room c =
     full-stays by_engine (drop k.f.used c.args.piece.now) (fed_of k.f k.mem k.answers)
     (tested by_engine k.f.reader (machine k.f.engine k.mem) (lent k.answers k.f.answered) k.f.used c.has_room-room.ensures c.if-r-room.true) ∙ k.invariant.0)
 
-turn : (c : lts.After-slice_known-in-loop-f-2-1)
+turn : (c : goal.After-slice_known-in-loop-f-2-1)
     → let k = c.loop-f in
     Turned by_engine c.args.piece.now (fed_of k.f k.mem k.answers) (fed_of c.tell-f.result c.tell-f.new.mem c.tell-f.new.answers)
 turn c =

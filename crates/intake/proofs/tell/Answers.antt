@@ -10,18 +10,18 @@ pub returns-in-Nothing : goal.returns-in-Nothing
 returns-in-Nothing c =
     let a = c.args in
     noting-by by_engine a.reader a.used
-    (nothing-done by_engine (machine a.engine a.mem.now) (lent a.answers.now a.answered) c.in-Nothing.is.1)
+    (nothing-done by_engine (machine a.engine a.mem.now) (lent a.answers.now a.answered) c.in-Nothing.is)
 
 pub returns-in-Write : goal.returns-in-Write
 returns-in-Write c =
     let a = c.args in
     let out = c.write-out in
     noting-by by_engine a.reader a.used
-    (write_done by_engine (machine a.engine a.mem.now) (lent a.answers.now a.answered) c.in-Write.offset.1
+    (write_done by_engine (machine a.engine a.mem.now) (lent a.answers.now a.answered) c.in-Write.is
     (rw (c.number.ensures, c.count.ensures, c.changed.ensures) (ap stepped out.ensures)) c.put_answer.ensures)
 
 pub returns-in-Closed : goal.returns-in-Closed
 returns-in-Closed c =
     let a = c.args in
     noting-by by_engine a.reader a.used
-    (nine-done by_engine (machine a.engine a.mem.now) (lent a.answers.now a.answered) c.in-Closed.is.1 c.put_answer-in-Closed.ensures)
+    (nine-done by_engine (machine a.engine a.mem.now) (lent a.answers.now a.answered) c.in-Closed.is c.put_answer-in-Closed.ensures)

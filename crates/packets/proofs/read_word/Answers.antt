@@ -6,14 +6,14 @@ use Rattle.packets.specs.Reader.{worded}
 use Rattle.packets.proofs.read_word.Goals as goal
 
 pub returns-in-Empty : goal.returns-in-Empty
-returns-in-Empty c = rw (c.read_header.ensures, c.in-Empty.is.1)
+returns-in-Empty c = rw (c.read_header.ensures, c.in-Empty.is)
 
 pub returns-in-Counted : goal.returns-in-Counted
 returns-in-Counted c =
     let a = c.args in
-    c.read_data.ensures ∙ ap (λ (p : Rest). worded p a.word) (sym c.in-Counted.offset.1)
+    c.read_data.ensures ∙ ap (λ (p : Rest). worded p a.word) (sym c.in-Counted.is)
 
 pub returns-in-Masked : goal.returns-in-Masked
 returns-in-Masked c =
     let a = c.args in
-    c.read_data-in-Masked.ensures ∙ ap (λ (p : Rest). worded p a.word) (sym c.in-Masked.offset.1)
+    c.read_data-in-Masked.ensures ∙ ap (λ (p : Rest). worded p a.word) (sym c.in-Masked.is)

@@ -1,6 +1,6 @@
 -- `packets::skip` meets its contract: what the bits that are left give is what they all gave at the start.
 -- Assumes nothing.
-use Rattle.std.proofs.Common.{◌-◌, refl, ◌∙◌}
+use Rattle.std.proofs.Common.{refl, ◌∙◌}
 use Rattle.packets.proofs.SkipLaws.{skip-none, skip-found, skip-again, skip-ends}
 use Rattle.packets.proofs.skip.Goals as goal
 
@@ -18,7 +18,7 @@ returns-then-m-eq1 c =
 pub loop-left-preserved : goal.loop-left-preserved
 loop-left-preserved c =
     let k = c.loop-left in
-    rw c.wrapping_add_u32-o.ensures (skip-again k.o k.m k.left c.loop-left-test.true c.if-m-eq1.false ∙ k.invariant)
+    rw c.wrapping_add_u32-o.ensures.value (skip-again k.o k.m k.left c.loop-left-test.true c.if-m-eq1.false ∙ k.invariant)
 
 pub returns : goal.returns
 returns c =

@@ -1,6 +1,6 @@
 -- `packets::skip` meets its contract: what the bits that are left give is what they all gave at the start.
 -- Assumes nothing.
-use Rattle.std.proofs.Common.{◌≡◌, ◌-◌}
+use Rattle.std.proofs.Common.{◌≡◌}
 use Rattle.packets.specs.Reader.{skipped}
 use Rattle.packets.proofs.skip.Given as goal
 

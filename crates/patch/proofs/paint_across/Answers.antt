@@ -32,7 +32,7 @@ loop-i-preserved c =
     let a = b.args in
     let x = b.place-x.result in
     row-goes-on k.invariant x b.loop-i-test.true b.place-x.ensures c.put_source-r.ensures
-    (pixel-given a.t a.t3 k.mem a.bits x a.y c.pattern_column-column.ensures.0 c.bit_of.ensures c.source_at-s.ensures)
+    (pixel-given a.t a.values k.mem a.bits x a.y c.pattern_column-column.ensures.0 c.bit_of.ensures c.source_at-s.ensures)
 
 pub returns : goal.returns
 returns c = row-ended c.loop-i.invariant c.loop-i-test.false

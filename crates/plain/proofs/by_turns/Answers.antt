@@ -10,7 +10,6 @@ use Rattle.host.specs.Host.{last_of}
 use Rattle.host.proofs.Runs.{RunLeft, run-begins, run_room, run-takes, run-ended, last_some}
 use Rattle.plain.specs.Plain.{plain_ink}
 use Rattle.plain.proofs.by_turns.Goals as goal
-use Rattle.plain.proofs.by_turns.Lts as lts
 
 -- ---- the words from number i on, and the last of n of them
 rest : (ws : List ℕ) (i : ℕ) → take (length ws - i) (drop i ws) ≡ drop i ws
@@ -45,7 +44,7 @@ take_some-t-requires c =
     rw (rest ws i, length-drop i ws, now.left.long)
     (record { opened = s.requires.opened; few = omega (arith, s.requires.few); short = omega (arith, s.requires.short) }, (omega arith, run_room now (length ws - i) s.requires.short (omega arith)))
 
-took : (c : lts.After-take_some-t) → (0 < c.take_some-t.result.taken) × (c.loop-i.i + c.take_some-t.result.taken ≤ length c.args.words.now)
+took : (c : goal.After-take_some-t) → (0 < c.take_some-t.result.taken) × (c.loop-i.i + c.take_some-t.result.taken ≤ length c.args.words.now)
 took c =
     let ws = c.args.words.now in
     let i = c.loop-i.i in

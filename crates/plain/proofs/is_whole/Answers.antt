@@ -8,10 +8,9 @@ use Rattle.surface.proofs.OnLaws.{pos-of-ne}
 use Rattle.host.proofs.Needed.{some-pixel}
 use Rattle.plain.proofs.Straight.{neither}
 use Rattle.plain.proofs.is_whole.Goals as goal
-use Rattle.plain.proofs.is_whole.Lts as lts
 
 -- what the first test leaves
-like : (c : lts.Else-feed-p) → let a = c.args in (a.feed.bytes ≡ 0) × ((a.p.target.tiled ≡ false) × ((a.taken ≡ 0) × (0 < a.feed.height)))
+like : (c : goal.Else-feed-p) → let a = c.args in (a.feed.bytes ≡ 0) × ((a.p.target.tiled ≡ false) × ((a.taken ≡ 0) × (0 < a.feed.height)))
 like c =
     let a = c.args in
     let o = neither _ _ c.if-feed-p.false in

@@ -6,7 +6,6 @@ use Rattle.plain.specs.Asked.{Here}
 use Rattle.plain.proofs.Stretch.{here-small}
 use Rattle.plain.proofs.Parts.{stretch-begins, stretch-room, stretch-goes-on, stretch-ended}
 use Rattle.plain.proofs.mono_each.Goals as goal
-use Rattle.plain.proofs.mono_each.Lts as lts
 
 pub loop-i-init : goal.loop-i-init
 loop-i-init c = stretch-begins
@@ -14,7 +13,7 @@ loop-i-init c = stretch-begins
 pub last_column-requires : goal.last_column-requires
 last_column-requires c = let b = c.before.before.before in (b.requires.0.rows.sizes.bytes, omega (arith, b.requires.0.rows.sizes.width, b.requires.1.0.past))
 
-here : (c : lts.In-loop-i) → let a = c.args in Here a.feed a.t a.j a.column c.loop-i.i
+here : (c : goal.In-loop-i) → let a = c.args in Here a.feed a.t a.j a.column c.loop-i.i
 here c = c.requires.1.0.here c.loop-i.i c.loop-i.invariant.low c.loop-i-test.true
 
 pub overflow_add-t : goal.overflow_add-t

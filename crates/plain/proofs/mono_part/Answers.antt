@@ -14,10 +14,9 @@ use Rattle.host.proofs.Places.{mono-column}
 use Rattle.plain.specs.Plain.{plain_ink}
 use Rattle.plain.proofs.Bits.{between, byte-drawn}
 use Rattle.plain.proofs.mono_part.Goals as goal
-use Rattle.plain.proofs.mono_part.Lts as lts
 
 -- the byte of the word that holds the pixels
-held : (c : lts.Then-covers-p) → let a = c.args in (a.column ≤ a.i / 8) × (a.t + a.i / 8 - a.column < 4)
+held : (c : goal.Then-covers-p) → let a = c.args in (a.column ≤ a.i / 8) × (a.t + a.i / 8 - a.column < 4)
 held c =
     let a = c.args in
     let w = c.requires.1.0 in
@@ -37,10 +36,10 @@ overflow_mul-byte c = omega (arith, held c)
 pub overflow_shr-byte : goal.overflow_shr-byte
 overflow_shr-byte c = omega (arith, held c)
 
-first-in : (c : lts.Then-covers-p) → let a = c.args in in_clip a.c (a.feed.x + a.i) (a.feed.y + a.j) ≡ true
+first-in : (c : goal.Then-covers-p) → let a = c.args in in_clip a.c (a.feed.x + a.i) (a.feed.y + a.j) ≡ true
 first-in c = sym c.covers.ensures ∙ c.if-covers.true
 
-last-in : (c : lts.Then-covers-p) → let a = c.args in in_clip a.c (a.feed.x + a.i + (a.m - 1)) (a.feed.y + a.j) ≡ true
+last-in : (c : goal.Then-covers-p) → let a = c.args in in_clip a.c (a.feed.x + a.i + (a.m - 1)) (a.feed.y + a.j) ≡ true
 last-in c = sym c.covers-then-covers.ensures ∙ and_left c.covers-then-covers.result _ c.if-covers-p.true
 
 pub overflow_sub-x : goal.overflow_sub-x

@@ -12,9 +12,8 @@ use Rattle.plain.specs.Plain.{plain_ink}
 use Rattle.host.proofs.Drawing.{pixel-past}
 use Rattle.plain.proofs.PlainLaws.{plain-put}
 use Rattle.plain.proofs.plain_pixel.Goals as goal
-use Rattle.plain.proofs.plain_pixel.Lts as lts
 
-inside : (c : lts.Then-covers) → let a = c.args in in_clip a.c (a.feed.x + a.i) (a.feed.y + a.j) ≡ true
+inside : (c : goal.Then-covers) → let a = c.args in in_clip a.c (a.feed.x + a.i) (a.feed.y + a.j) ≡ true
 inside c = sym c.covers.ensures ∙ c.if-covers.true
 
 pub overflow_sub-x : goal.overflow_sub-x

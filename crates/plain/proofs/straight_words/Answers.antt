@@ -11,10 +11,9 @@ use Rattle.surface.proofs.Bytes.{product_lt}
 use Rattle.surface.proofs.OnLaws.{pos-of-ne}
 use Rattle.plain.proofs.Straight.{neither, pixels-some}
 use Rattle.plain.proofs.straight_words.Goals as goal
-use Rattle.plain.proofs.straight_words.Lts as lts
 
 -- what the first test leaves
-like : (c : lts.Else-bytes-p) → let a = c.args in (0 < a.feed.bytes) × ((a.feed.bytes ≡ a.p.target.bytes) × (a.p.target.tiled ≡ false))
+like : (c : goal.Else-bytes-p) → let a = c.args in (0 < a.feed.bytes) × ((a.feed.bytes ≡ a.p.target.bytes) × (a.p.target.tiled ≡ false))
 like c =
     let a = c.args in
     let o = neither _ a.p.target.tiled c.if-bytes-p.false in
@@ -22,17 +21,17 @@ like c =
     (pos-of-ne (eqb-false _ _ e.0), (eqb-true _ _ (not-false _ e.1), o.1))
 
 -- the third
-begun : (c : lts.Else-column-bytes) → let a = c.args in (4 * a.k % a.feed.step % a.feed.bytes ≡ 0) × (4 * a.k % a.feed.step / a.feed.bytes < a.feed.width)
+begun : (c : goal.Else-column-bytes) → let a = c.args in (4 * a.k % a.feed.step % a.feed.bytes ≡ 0) × (4 * a.k % a.feed.step / a.feed.bytes < a.feed.width)
 begun c = let o = neither _ _ c.if-column-bytes.false in (eqb-true _ _ (not-false _ o.0), leb-false _ _ o.1)
 
 -- how many bytes are left in the row
-most : (c : lts.After-struct_known-5-1) → let a = c.args in (a.feed.width - 4 * a.k % a.feed.step / a.feed.bytes) * a.feed.bytes < 2 ^ 16
+most : (c : goal.After-struct_known-5-1) → let a = c.args in (a.feed.width - 4 * a.k % a.feed.step / a.feed.bytes) * a.feed.bytes < 2 ^ 16
 most c =
     let s = c.before.before.before.before.before.before.before.before in
     product_lt 13 3 (omega (arith, s.requires.0.sizes.width)) (omega (arith, s.requires.0.sizes.bytes))
 
 -- what the fourth test leaves
-counted : (c : lts.Else-w-eq0) → let a = c.args in let w = c.whole_words-w.result in
+counted : (c : goal.Else-w-eq0) → let a = c.args in let w = c.whole_words-w.result in
     (0 < w) × ((w ≤ a.left) × (4 * a.k % a.feed.step / a.feed.bytes + 4 * w / a.feed.bytes ≤ a.feed.width))
 counted c =
     let a = c.args in

@@ -16,7 +16,6 @@ use Rattle.plain.specs.Plain.{plain_ink}
 use Rattle.plain.specs.Asked.{Straight}
 use Rattle.plain.proofs.Straight.{part_small, PutAfter, straight-held, straight-put}
 use Rattle.plain.proofs.take_some.Goals as goal
-use Rattle.plain.proofs.take_some.Lts as lts
 
 pub overflow_cast-words : goal.overflow_cast-words
 overflow_cast-words c = omega (arith, c.requires.0.short)
@@ -39,10 +38,10 @@ returns-then-w-eq0 c =
     (omega arith, (s.requires.1.0, rw (one, run-one s.args.feed (get_or ws 0 0) s.args.last s.args.k) c.plain_word-r.ensures))
 
 -- ---- words that go into memory as they are
-straight : (c : lts.Else-w-eq0) → let a = c.args in Straight a.p a.c a.feed a.k (length a.words.now) c.straight_words-w.result
+straight : (c : goal.Else-w-eq0) → let a = c.args in Straight a.p a.c a.feed a.k (length a.words.now) c.straight_words-w.result
 straight c = c.straight_words-w.ensures c.if-w-eq0.false
 
-long : (c : lts.Else-w-eq0) → let w = c.straight_words-w.result in length (take w c.args.words.now) ≡ w
+long : (c : goal.Else-w-eq0) → let w = c.straight_words-w.result in length (take w c.args.words.now) ≡ w
 long c = length-take-le _ _ (straight c).ranges
 
 pub nonzero_div-x : goal.nonzero_div-x
@@ -80,7 +79,7 @@ put_words-changed-requires c =
       held = omega (arith, l, c.place_in_rows-at.ensures, straight-held s.opened w);
     }
 
-put : (c : lts.After-put_words-changed) → let a = c.args in let w = c.straight_words-w.result in
+put : (c : goal.After-put_words-changed) → let a = c.args in let w = c.straight_words-w.result in
     PutAfter a.p a.c a.feed (by_run a.feed a.last (take w a.words.now) a.k) (4 * w / a.feed.bytes) a.mem.now c.put_words-changed.new.mem c.put_words-changed.result
 put c =
     let s = c.before.before.before.before.before.before.before.before.before.before.before.before in

@@ -17,7 +17,7 @@ loop-i-preserved c =
     let k = c.loop-i in (
       omega arith,
       simp length-set k.invariant.1,
-      filled_more k.quads k.i _ (λ j. muxed (get_or a.t2 (j / 4 % 8) 0) (get_or a.t1 (j / 32 * 8 + j % 4 + 4) 0) (get_or a.t1 (j / 32 * 8 + j % 4) 0)) (omega arith) c.lay.ensures k.invariant.2,
+      filled_more k.quads k.i _ (λ j. muxed (get_or a.values (j / 4 % 8) 0) (get_or a.masks (j / 32 * 8 + j % 4 + 4) 0) (get_or a.masks (j / 32 * 8 + j % 4) 0)) (omega arith) c.lay.ensures k.invariant.2,
     )
 
 pub returns : goal.returns

@@ -9,15 +9,14 @@ use Rattle.paint.specs.Clip.{in_clip}
 use Rattle.paint.proofs.ClipLaws.{in-clip}
 use Rattle.line.proofs.DrawLaws.{point-on, paint-covered, paint-clipped}
 use Rattle.points.proofs.paint_point.Goals as goal
-use Rattle.points.proofs.paint_point.Lts as lts
 
-inside : (c : lts.Else-not-covers) → in_clip c.args.c c.args.p.x c.args.p.y ≡ true
-inside c = sym c.covers.ensures ∙ not-false c.covers.result c.if-not-covers.false
+inside : (c : goal.Else-not-covers) → in_clip c.args.c c.args.p.x c.args.p.y ≡ true
+inside c = sym c.covers.ensures ∙ c.if-not-covers.false
 
 pub returns-then-not-covers : goal.returns-then-not-covers
 returns-then-not-covers c =
     let a = c.args in
-    let out = sym c.covers.ensures ∙ not-true c.covers.result c.if-not-covers.true in
+    let out = sym c.covers.ensures ∙ c.if-not-covers.true in
     (paint-clipped a.ink a.pattern.now a.c a.pen a.p a.done.style (tallied a.mem.now a.done.tally) out, c.style_after-next.ensures)
 
 pub overflow_sub-x : goal.overflow_sub-x

@@ -12,12 +12,11 @@ use Rattle.surface.specs.Pixels.{origin}
 use Rattle.positions.specs.Position.{placed}
 use Rattle.positions.proofs.PositionLaws.{origin-signed}
 use Rattle.positions.proofs.place13.Goals as goal
-use Rattle.positions.proofs.place13.Lts as lts
 
-sum : (c : lts.After-signed13) → to_z w32 origin +ℤ to_z w32 (of_z w32 c.signed13.result) ≡ pos (placed c.args.raw)
-sum c = ap (λ z. pos origin +ℤ z) (to_z-of_z (record { sfits = c.signed13.type-inv }) ∙ c.signed13.ensures) ∙ origin-signed c.args.raw
+sum : (c : goal.After-signed13) → to_z w32 origin +ℤ to_z w32 (of_z w32 c.signed13.result) ≡ pos (placed c.args.raw)
+sum c = ap (λ z. pos origin +ℤ z) (to_z-of_z (record { sfits = c.signed13.type_inv }) ∙ c.signed13.ensures) ∙ origin-signed c.args.raw
 
-fits : (c : lts.After-signed13) → SFits w32 (to_z w32 origin +ℤ to_z w32 (of_z w32 c.signed13.result))
+fits : (c : goal.After-signed13) → SFits w32 (to_z w32 origin +ℤ to_z w32 (of_z w32 c.signed13.result))
 fits c = subst⁻¹ (λ (z : ℤ). SFits w32 z) (sum c) (record { sfits = lt_trans {m = 20480} (omega arith) (lit< tt) })
 
 pub overflow_add-result : goal.overflow_add-result

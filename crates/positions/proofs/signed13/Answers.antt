@@ -12,4 +12,4 @@ pub overflow_sub-result : goal.overflow_sub-result
 overflow_sub-result c = subst⁻¹ (λ (z : ℤ). SFits w32 z) (turned-value c.args.raw) (signed-fits c.args.raw)
 
 pub returns : goal.returns
-returns c = to_z-of_z (sub-result c) ∙ turned-value c.args.raw
+returns c = to_z-of_z (overflow_sub-result c) ∙ turned-value c.args.raw

@@ -6,10 +6,9 @@ use borrow.Author.Tests.{leb-true}
 use Rattle.surface.proofs.Bytes.{product_lt}
 use Rattle.rooms.proofs.RoomLaws.{tiled-fits, flat-fits}
 use Rattle.rooms.proofs.has_rows.Goals as goal
-use Rattle.rooms.proofs.has_rows.Lts as lts
 
 -- the bytes of whole rows of tiles
-area : (c : lts.After-wide) → let a = c.args in (a.n + 31) / 32 * (4096 * a.s.stride) < 2 ^ 57
+area : (c : goal.After-wide) → let a = c.args in (a.n + 31) / 32 * (4096 * a.s.stride) < 2 ^ 57
 area c =
     let a = c.args in
     product_lt 28 29 {a = (a.n + 31) / 32} {b = 4096 * a.s.stride} (omega arith) (omega (arith, c.requires.stride))

@@ -8,10 +8,9 @@ use Rattle.rooms.proofs.rect_in.Goals as goal
 
 pub returns-then-has_pixels-has_rows : goal.returns-then-has_pixels-has_rows
 returns-then-has_pixels-has_rows c =
-    let f = c.before.before.before in
     sym (has-rect (record {
       across = c.has_pixels.ensures (and_left c.has_pixels.result c.has_rows.result c.if-has_pixels-has_rows.true);
       down = c.has_rows.ensures (and_right c.has_pixels.result c.has_rows.result c.if-has_pixels-has_rows.true);
     }) _ _ _ _
-    (leb-true _ _ (sym f.fits-2.ensures ∙ and_left f.fits-2.result f.before.fits3.result f.if-fits.true))
-    (leb-true _ _ (sym f.before.fits3.ensures ∙ and_right f.fits-2.result f.before.fits3.result f.if-fits.true)))
+    (leb-true _ _ (sym c.fits.ensures ∙ and_left c.fits.result c.fits-2.result c.if-fits.true))
+    (leb-true _ _ (sym c.fits-2.ensures ∙ and_right c.fits.result c.fits-2.result c.if-fits.true)))

@@ -61,7 +61,7 @@ loop-i-preserved c =
     let k = c.loop-i in
     let more = c.loop-i-test.true in
     let given =
-    taken-given a.t a.t6 k.mem (a.x + k.i) a.y (ap (λ (z : ℕ). z - 16384) (walk-place a.t.columns _ k.invariant.1)) begin.requires.1.1.0 c.source_at-s.ensures c.get_pixel-old.ensures c.pattern_column-column.ensures.0 c.quad_at-k.ensures.0
+    taken-given a.t a.quads k.mem (a.x + k.i) a.y (ap (λ (z : ℕ). z - 16384) (walk-place a.t.columns _ k.invariant.1)) begin.requires.1.1.0 c.source_at-s.ensures c.get_pixel-old.ensures c.pattern_column-column.ensures.0 c.quad_at-k.ensures.0
     c.merge-v.ensures in (
       row-goes-on k.invariant.0 (a.x + k.i) more refl c.put_value-r.ensures given,
       steps_on a.x a.w k.i begin.requires.0.0.first begin.requires.0.0.last k.invariant.1 more c.next-walk.ensures,

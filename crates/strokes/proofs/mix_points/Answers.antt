@@ -27,10 +27,9 @@ use Rattle.strokes.specs.Mixed.{pair_of, pair_at, track_of, mix_touches}
 use Rattle.strokes.proofs.WalkLaws.{steps-small, walk_start, walk-next}
 use Rattle.strokes.proofs.MixedLaws.{pair-address, pair-low, place-said, column-said, row-said, point-given, mix-left, mix-none}
 use Rattle.strokes.proofs.mix_points.Goals as goal
-use Rattle.strokes.proofs.mix_points.Lts as lts
 
 -- what was worked out before, and what an address says
-module _ (c : lts.Start) where
+module _ (c : goal.Start) where
   count : c.args.track.total ≡ point_count c.args.track.line
   unfolding track_of
   count = ap (λ (u : Track). u.total) c.requires.worked
@@ -128,7 +127,7 @@ loop-i-preserved c =
     ∙ ap (λ (n : ℕ). dab_at (k.w.at % 2 ^ 32) n (some c.by_quad-v.result) (tallied k.mem k.tally)) p.bytes
     ∙ dab-at s (in-rows w.flat) (pixel_at q.x q.y) _ (some c.by_quad-v.result) (tallied k.mem k.tally) here
     ∙ ap (λ (o : Option ℕ). dab s (pixel_at q.x q.y) o (tallied k.mem k.tally))
-    (point-given a.track.ink a.pattern.now a.n k.w.at (q.x - origin) (q.y - origin) _ _ a.flip p.mixable.keyless p.mixable.colour p.bytes (cell c.before.before.before.before.before.before.before.before.before.before.before.before.before.before.before.before.before k.i h k.w at) p.flipping c.get_bytes-old.type-inv value
+    (point-given a.track.ink a.pattern.now a.n k.w.at (q.x - origin) (q.y - origin) _ _ a.flip p.mixable.keyless p.mixable.colour p.bytes (cell c.before.before.before.before.before.before.before.before.before.before.before.before.before.before.before.before.before k.i h k.w at) p.flipping c.get_bytes-old.type_inv value
     ∙ ap (λ (o : ℕ). mixed a.track.ink (pattern_value a.track.ink a.pattern.now (q.x - origin) (q.y - origin)) (bit_source a.track.ink 1) o) old) in (
       left-takes k.invariant.0 (mix_touches a.track.ink a.pattern.now (q ∷ [])) (mix-left a.track.ink a.pattern.now l k.i (point_count l) h) (omega arith) put,
       (λ g. rw (c.walk_on-w.ensures, course c.before.before.before.before.before.before.before.before.before.before.before.before.before.before.before.before.before) (walk-next (pair_of a.track.ink) refl (pair-low a.track.ink w.flat w.surface) l w.ahead k.i (omega (arith, count-le l)) k.w at)),

@@ -56,7 +56,7 @@ loop-i-preserved c =
     let at = c.place_in_rows-at in
     row-goes-on k.invariant x b.loop-i-test.true b.place-x.ensures
     (c.put_value_at-r.ensures ∙ dab-at a.t.ink.target piece (px x a.y) at.result _ (tallied k.mem k.r) at.ensures)
-    (pixel-given a.t a.t5 k.mem a.bits x a.y c.pattern_column-column.ensures.0 c.bit_of-bit.ensures c.source_at-s.ensures
+    (pixel-given a.t a.quads k.mem a.bits x a.y c.pattern_column-column.ensures.0 c.bit_of-bit.ensures c.source_at-s.ensures
     (c.get_bytes-old.ensures ∙ read-run a.t.ink.target piece x a.y at.result at.ensures k.mem) c.quad_at-k.ensures.0 c.merge-v.ensures)
 
 pub returns : goal.returns

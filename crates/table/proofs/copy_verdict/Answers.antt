@@ -9,7 +9,7 @@ use Rattle.table.proofs.Rows.{copy-format, copy-rows}
 use Rattle.table.proofs.copy_verdict.Goals as goal
 
 pub returns-then-not-both_fine : goal.returns-then-not-both_fine
-returns-then-not-both_fine c = copy-format c.args.r c.args.len (sym c.both_fine.ensures ∙ not-true c.both_fine.result c.if-not-both_fine.true)
+returns-then-not-both_fine c = copy-format c.args.r c.args.len (sym c.both_fine.ensures ∙ c.if-not-both_fine.true)
 
 pub source_rows-requires : goal.source_rows-requires
 source_rows-requires c =

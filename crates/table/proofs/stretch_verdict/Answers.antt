@@ -9,10 +9,10 @@ use Rattle.table.proofs.Stretches.{stretch-scales, stretch-format, stretch-fault
 use Rattle.table.proofs.stretch_verdict.Goals as goal
 
 pub returns-then-not-both_fine : goal.returns-then-not-both_fine
-returns-then-not-both_fine c = stretch-format c.args.r c.args.len (sym c.both_fine.ensures ∙ not-true c.both_fine.result c.if-not-both_fine.true)
+returns-then-not-both_fine c = stretch-format c.args.r c.args.len (sym c.both_fine.ensures ∙ c.if-not-both_fine.true)
 
 pub returns-then-stretch_fault : goal.returns-then-stretch_fault
-returns-then-stretch_fault c = stretch-faulty c.args.r c.args.len (sym c.both_fine.ensures ∙ not-false c.both_fine.result c.if-not-both_fine.false) (sym c.stretch_fault.ensures ∙ c.if-stretch_fault.true)
+returns-then-stretch_fault c = stretch-faulty c.args.r c.args.len (sym c.both_fine.ensures ∙ c.if-not-both_fine.false) (sym c.stretch_fault.ensures ∙ c.if-stretch_fault.true)
 
 pub stretch_rows-requires : goal.stretch_rows-requires
 stretch_rows-requires c = rw (c.decode_stretch-t.ensures, c.fill_cut-c.ensures) (stretch-scales c.args.r)
@@ -23,5 +23,5 @@ returns c =
     c.stretch_rows.ensures
     ∙ ap₂ (λ (t : Stretch) (k : Cut). stretch_rows t k a.len) c.decode_stretch-t.ensures c.fill_cut-c.ensures
     ∙ stretch-by a.r a.len
-    (sym c.both_fine.ensures ∙ not-false c.both_fine.result c.if-not-both_fine.false)
+    (sym c.both_fine.ensures ∙ c.if-not-both_fine.false)
     (sym c.stretch_fault.ensures ∙ c.if-stretch_fault.false)

@@ -9,12 +9,11 @@ use Rattle.tint.specs.Masking.{mask_for, mask_here, tables, MadeOf}
 use Rattle.tint.proofs.ByteLaws.{one_more, made_none, made_more}
 use Rattle.tint.proofs.FillLaws.{bit-there}
 use Rattle.tint.proofs.masks_at.Goals as goal
-use Rattle.tint.proofs.masks_at.Lts as lts
 
 pub loop-j-init : goal.loop-j-init
 loop-j-init c =
     let a = c.args in
-    (omega arith, made_none a.ink a.t5 a.x a.y (tables a.keep.now a.flip.now a.adds.now))
+    (omega arith, made_none a.ink a.pattern a.x a.y (tables a.keep.now a.flip.now a.adds.now))
 
 pub loop-i-init : goal.loop-i-init
 loop-i-init c =
@@ -22,8 +21,8 @@ loop-i-init c =
     (omega arith, λ old m. rw e m)
 
 -- ---- in a turn of the inner loop
-module _ (c : lts.In-loop-i) where
-  abbrev start : lts.Start
+module _ (c : goal.In-loop-i) where
+  abbrev start : goal.Start
   start = c.before.before.before.before.before.before.before
 
   abbrev j : ℕ
@@ -44,7 +43,7 @@ module _ (c : lts.In-loop-i) where
   room = one_more k start.args.ink.target.bytes few start.pre.0.small.bytes
 
   -- the tables so far
-  so_far : MadeOf start.args.ink start.args.t5 start.args.x start.args.y k (tables start.args.keep.now start.args.flip.now start.args.adds.now)
+  so_far : MadeOf start.args.ink start.args.pattern start.args.x start.args.y k (tables start.args.keep.now start.args.flip.now start.args.adds.now)
       (tables c.loop-i.keep c.loop-i.flip c.loop-i.adds)
   so_far = c.loop-i.invariant.1 _ c.loop-j.invariant.1
 
@@ -90,12 +89,12 @@ loop-i-preserved c =
     let across : i b ≡ k b % 8 = omega (arith, b.loop-i-test.true) in
     let down : j b ≡ k b / 8 = omega (arith, b.loop-i-test.true) in
     let r = b.before.before.before in
-    let bit : d.bit_of-bit.result ≡ pattern_bit a.t5 (pattern_column a.ink (a.x + i b)) (pattern_row a.ink (a.y + j b)) =
-    bit-there a.t5 d.pattern_column.result r.pattern_row-row.result d.bit_of-bit.ensures b.wide-byte.ensures
-    ∙ ap₂ (pattern_bit a.t5) d.pattern_column.ensures.0 r.pattern_row-row.ensures.0 in
-    let there = bit ∙ ap₂ (λ (i j : ℕ). pattern_bit a.t5 (pattern_column a.ink (a.x + i)) (pattern_row a.ink (a.y + j))) across down in
+    let bit : d.bit_of-bit.result ≡ pattern_bit a.pattern (pattern_column a.ink (a.x + i b)) (pattern_row a.ink (a.y + j b)) =
+    bit-there a.pattern d.pattern_column.result r.pattern_row-row.result d.bit_of-bit.ensures b.wide-byte.ensures
+    ∙ ap₂ (pattern_bit a.pattern) d.pattern_column.ensures.0 r.pattern_row-row.ensures.0 in
+    let there = bit ∙ ap₂ (λ (i j : ℕ). pattern_bit a.pattern (pattern_column a.ink (a.x + i)) (pattern_row a.ink (a.y + j))) across down in
     let value = b.values_at-values.ensures.at (k b) (omega arith) in
-    let mask : d.mask_of-m.result ≡ mask_here a.ink a.t5 a.x a.y (k b) = d.mask_of-m.ensures ∙ ap₂ (mask_for a.ink) value there in
+    let mask : d.mask_of-m.result ≡ mask_here a.ink a.pattern a.x a.y (k b) = d.mask_of-m.ensures ∙ ap₂ (mask_for a.ink) value there in
     let e : j b * 8 + (i b + 1) ≡ k b + 1 = omega arith in
     (omega arith, λ old m. rw (e, c.put_bytes-in-loop-i.ensures, c.put_bytes.ensures) (made_more (l.invariant.1 old m) (omega (arith, room b, keeps b)) (omega (arith, room b, flips b)) (omega (arith, few b, counts b)) mask))
 

@@ -8,13 +8,12 @@ use Rattle.tint.specs.Masking.{blended}
 use Rattle.tint.proofs.ByteLaws.{in_table}
 use Rattle.tint.proofs.RowLaws.{total, total-more, row-blended, row-held}
 use Rattle.tint.proofs.tint_across.Goals as goal
-use Rattle.tint.proofs.tint_across.Lts as lts
 
-abbrev start : lts.After-slice_known-2-1 → lts.Start
+abbrev start : goal.After-slice_known-2-1 → goal.Start
 start c = c.before.before.before.before.before.before.before.before
 
 -- the masks' bytes are in their tables
-room : (c : lts.Start) → c.args.first * c.args.bytes + c.args.w * c.args.bytes ≤ 256
+room : (c : goal.Start) → c.args.first * c.args.bytes + c.args.w * c.args.bytes ≤ 256
 room c =
     let p = c.requires in
     in_table c.args.first c.args.w c.args.bytes (omega (arith, p.0.eight, p.2)) (omega (arith, p.0.colour.small.bytes, p.1))
@@ -48,10 +47,10 @@ unfolding total
 loop-i-init c = (refl, omega arith, omega arith)
 
 -- the number of a mask, and that it counts one pixel at most
-within : (c : lts.In-loop-i) → (start c.before.before).args.first + c.loop-i.i < 64
+within : (c : goal.In-loop-i) → (start c.before.before).args.first + c.loop-i.i < 64
 within c = let p = (start c.before.before).pre in omega (arith, p.0.eight, p.2, c.loop-i-test.true)
 
-one : (c : lts.In-loop-i) → get_or (start c.before.before).args.adds.now ((start c.before.before).args.first + c.loop-i.i) 0 ≤ 1
+one : (c : goal.In-loop-i) → get_or (start c.before.before).args.adds.now ((start c.before.before).args.first + c.loop-i.i) 0 ≤ 1
 one c = let p = (start c.before.before).pre in (p.0.sound c.loop-i.i (omega (arith, p.2, c.loop-i-test.true))).few
 
 pub overflow_add-more : goal.overflow_add-more

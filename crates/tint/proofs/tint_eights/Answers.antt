@@ -6,14 +6,13 @@ use Prim.Native.Nat.{◌+◌, ◌-◌, ◌*◌, ◌≤◌}
 use Rattle.paint.proofs.Loops.{row-begins}
 use Rattle.tint.proofs.RowLaws.{RunLeft, can-part, run-few, run-takes, run-ended}
 use Rattle.tint.proofs.tint_eights.Goals as goal
-use Rattle.tint.proofs.tint_eights.Lts as lts
 
 pub loop-i-init : goal.loop-i-init
 loop-i-init c = (0, row-begins)
 
 -- eight more are there
-module _ (c : lts.In-loop-i) where
-  abbrev start : lts.Start
+module _ (c : goal.In-loop-i) where
+  abbrev start : goal.Start
   start = c.before.before.before.before.before
 
   fits : 8 * c.loop-i.i + 8 ≤ 8 * start.args.eights
@@ -31,7 +30,7 @@ tint_across-r-requires c =
     (can-part p.0 c.loop-i.invariant.1 8 (fits c.before), p.1, omega arith)
 
 -- and are tinted
-next : (c : lts.After-slice_known-in-loop-i-1) → let b = c.before.before.before.before in
+next : (c : goal.After-slice_known-in-loop-i-1) → let b = c.before.before.before.before in
     let a = (start b).args in
     let l = b.loop-i in
     RunLeft a.s a.keep.now a.flip.now a.adds.now a.first a.x (8 * a.eights) a.y a.mem.now (8 * l.i + 8) c.tint_across-r.new.mem (l.r + c.tint_across-r.result)

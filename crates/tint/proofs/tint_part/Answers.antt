@@ -11,10 +11,9 @@ use Rattle.runs.specs.Runs.{RowKept}
 use Rattle.runs.proofs.Keeping.{pixels-held, buffer-on}
 use Rattle.tint.proofs.TellLaws.{row_on, part-few, part-after}
 use Rattle.tint.proofs.tint_part.Goals as goal
-use Rattle.tint.proofs.tint_part.Lts as lts
 
 -- the row's bytes
-module _ (c : lts.Start) where
+module _ (c : goal.Start) where
   wide : c.args.w * c.args.s.bytes ≤ 1024
   wide = mul-le-mul {n₁ = c.args.w} {m₁ = c.args.s.bytes} {n₂ = 256} {m₂ = 4} c.requires.0.1.0 (omega (arith, c.requires.0.0.colour.small.bytes))
 
@@ -50,8 +49,8 @@ unlike-requires c =
     )
 
 -- what was kept, and the row as it is then
-module _ (c : lts.After-unlike) where
-  abbrev start : lts.Start
+module _ (c : goal.After-unlike) where
+  abbrev start : goal.Start
   start = c.before.before.before.before.before.before.before.before.before.before.before.before.before.before.before.before.before.before.before.before.before.before
 
   kept : RowKept start.args.s start.args.mem.now (start.args.x * start.args.s.bytes) start.args.y (start.args.w * start.args.s.bytes) start.args.old.now c.keep_row.new.out

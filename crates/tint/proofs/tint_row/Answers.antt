@@ -7,14 +7,13 @@ use Rattle.paint.proofs.Tallies.{room-left}
 use Rattle.paint.proofs.Loops.{row-begins, row-ended}
 use Rattle.tint.proofs.RowLaws.{can-part, tint-takes}
 use Rattle.tint.proofs.tint_row.Goals as goal
-use Rattle.tint.proofs.tint_row.Lts as lts
 
 pub loop-i-init : goal.loop-i-init
 loop-i-init c = (row-begins, λ l. refl, refl)
 
 -- so many more are there
-module _ (c : lts.After-least-k) where
-  abbrev start : lts.Start
+module _ (c : goal.After-least-k) where
+  abbrev start : goal.Start
   start = c.before.before.before.before.before.before.before
 
   part : (c.loop-i.i + c.least-k.result ≤ start.args.w) × (c.least-k.result ≤ 256)

@@ -10,7 +10,6 @@ use Rattle.paint.specs.Paint.{state, Touch}
 use Rattle.tint.specs.Masking.{Painted}
 use Rattle.tint.proofs.RowLaws.{RunLeft, can-part, run-few, run-takes, run-ended, can-begin, run-begun}
 use Rattle.tint.proofs.tint_run.Goals as goal
-use Rattle.tint.proofs.tint_run.Lts as lts
 
 pub tint_eights-r-requires : goal.tint_eights-r-requires
 tint_eights-r-requires c = let p = c.requires in (can-begin p _ (omega arith), omega (arith, c.in-1.is))
@@ -31,8 +30,8 @@ painted-as : (s : Surface) (ts : List Touch) (m₀ : List ℕ) {m m' : List ℕ}
 painted-as s ts m₀ e f put = (put.0, ap₂ (λ (m : List ℕ) (k : ℕ). state m k put.0) e f ∙ put.1)
 
 -- after the eights
-module _ (c : lts.Joined-bytes) where
-  abbrev start : lts.Start
+module _ (c : goal.Joined-bytes) where
+  abbrev start : goal.Start
   start = c.before.before.before.before
 
   abbrev eights : ℕ
@@ -53,7 +52,7 @@ pub tint_across-requires : goal.tint_across-requires
 tint_across-requires c = let b = c.before in (can-part (start b).requires (left b).1 ((start b).args.w % 8) (fits b), refl, omega arith)
 
 -- the row
-whole : (c : lts.After-row_known-1) → let b = c.before.before.before.before.before in
+whole : (c : goal.After-row_known-1) → let b = c.before.before.before.before.before in
     let a = (start b).args in
     RunLeft a.s a.keep.now a.flip.now a.adds.now a.first a.x a.w a.y a.mem.now (eights b + a.w % 8)
     c.tint_across.new.mem (b.match-bytes.r + c.tint_across.result)

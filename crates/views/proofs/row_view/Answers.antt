@@ -44,5 +44,5 @@ returns c = (
       (c.wide-2.ensures ∙ ap (λ (s : Surface). s.bytes) c.target_of-s.ensures),
   part-place c.args.mem.now c.args.base c.args.format c.args.x c.args.y c.args.width (sym c.view_answer-answer.ensures ∙ c.if-answer-ne0.false)
       (c.byte_of-start.ensures ∙ ap (λ (s : Surface). byte_of s c.args.x c.args.y 0) c.target_of-s.ensures) c.wide.ensures
-      (c.wide-2.ensures ∙ ap (λ (s : Surface). s.bytes) c.target_of-s.ensures) c.args.mem.ptr,
+      (c.wide-2.ensures ∙ ap (λ (s : Surface). s.bytes) c.target_of-s.ensures) c.args.mem.ref_ptr,
 )

@@ -19,11 +19,11 @@ returns-then-len-gt16777216 c = rw (lt-ltb _ _ c.if-len-gt16777216.true)
 
 pub returns-then-not-names_view : goal.returns-then-not-names_view
 unfolding view_answer
-returns-then-not-names_view c = rw (le-ltb _ _ c.if-len-gt16777216.false, ← c.names_view.ensures, not-true c.names_view.result c.if-not-names_view.true)
+returns-then-not-names_view c = rw (le-ltb _ _ c.if-len-gt16777216.false, ← c.names_view.ensures, c.if-not-names_view.true)
 
 pub returns-then-width-eq0 : goal.returns-then-width-eq0
 unfolding view_answer
-returns-then-width-eq0 c = rw (le-ltb _ _ c.if-len-gt16777216.false, ← c.names_view.ensures, not-false c.names_view.result c.if-not-names_view.false, eq-eqb _ _ c.if-width-eq0.true)
+returns-then-width-eq0 c = rw (le-ltb _ _ c.if-len-gt16777216.false, ← c.names_view.ensures, c.if-not-names_view.false, eq-eqb _ _ c.if-width-eq0.true)
 
 pub rect_on-requires : goal.rect_on-requires
 rect_on-requires c = rw c.target_of-s.ensures (target_small c.args.base c.args.format)
@@ -34,7 +34,7 @@ returns-then-rect_on c =
     let a = c.args in
     let on = sym (row_on (target_of a.base a.format) a.len a.x a.y a.width)
     ∙ ap (λ (s : Surface). all_on s a.len (rect false false a.x a.y a.width 1)) (sym c.target_of-s.ensures) ∙ sym c.rect_on.ensures in
-    rw (le-ltb _ _ c.if-len-gt16777216.false, ← c.names_view.ensures, not-false c.names_view.result c.if-not-names_view.false, ne_eqb _ _ c.if-width-eq0.false, on, c.if-rect_on.true)
+    rw (le-ltb _ _ c.if-len-gt16777216.false, ← c.names_view.ensures, c.if-not-names_view.false, ne_eqb _ _ c.if-width-eq0.false, on, c.if-rect_on.true)
 
 pub returns : goal.returns
 unfolding view_answer
@@ -42,4 +42,4 @@ returns c =
     let a = c.args in
     let on = sym (row_on (target_of a.base a.format) a.len a.x a.y a.width)
     ∙ ap (λ (s : Surface). all_on s a.len (rect false false a.x a.y a.width 1)) (sym c.target_of-s.ensures) ∙ sym c.rect_on.ensures in
-    rw (le-ltb _ _ c.if-len-gt16777216.false, ← c.names_view.ensures, not-false c.names_view.result c.if-not-names_view.false, ne_eqb _ _ c.if-width-eq0.false, on, c.if-rect_on.false)
+    rw (le-ltb _ _ c.if-len-gt16777216.false, ← c.names_view.ensures, c.if-not-names_view.false, ne_eqb _ _ c.if-width-eq0.false, on, c.if-rect_on.false)

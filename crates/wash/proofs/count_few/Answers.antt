@@ -6,13 +6,12 @@ use Prim.Native.Nat.{◌+◌, ◌-◌, ◌%◌, ◌≤◌}
 use lib.ListN.{get_or}
 use Rattle.wash.proofs.Counting.{count_turn, count-done}
 use Rattle.wash.proofs.count_few.Goals as goal
-use Rattle.wash.proofs.count_few.Lts as lts
 
 pub loop-i-init : goal.loop-i-init
 loop-i-init c = let e : c.args.n - 0 ≡ c.args.n = omega arith in (rw e (omega arith), omega arith, omega arith)
 
 -- a mask that counts one pixel at most
-one : (c : lts.After-wide) → get_or c.args.adds.now (c.args.first + c.wide.result) 0 ≤ 1
+one : (c : goal.After-wide) → get_or c.args.adds.now (c.args.first + c.wide.result) 0 ≤ 1
 one c = rw c.wide.ensures (c.requires.0.one (c.loop-i.i % 8) (omega arith))
 
 pub overflow_add-r : goal.overflow_add-r

@@ -6,9 +6,8 @@ use mathlib.Core.Path.{ap₂, ◌∙◌}
 use Prim.Native.Nat.{ℕ, ◌+◌, ◌*◌, ◌/◌, ◌≤◌}
 use Rattle.wash.proofs.Counting.{by-eights}
 use Rattle.wash.proofs.count_row.Goals as goal
-use Rattle.wash.proofs.count_row.Lts as lts
 
-eights : (c : lts.After-count_few) → c.args.w / 8 * c.count_few.result ≤ c.args.w / 8 * 8
+eights : (c : goal.After-count_few) → c.args.w / 8 * c.count_few.result ≤ c.args.w / 8 * 8
 eights c = mul-le-mul_left (c.args.w / 8) c.count_few.ensures.1
 
 pub overflow_mul-result : goal.overflow_mul-result

@@ -8,7 +8,6 @@ use lib.ListN.{length, length-set}
 use Rattle.wash.specs.Wash.{Spread}
 use Rattle.wash.proofs.Spreading.{begins-again, goes_on, spread_none, spread-more}
 use Rattle.wash.proofs.spread_row.Goals as goal
-use Rattle.wash.proofs.spread_row.Lts as lts
 
 pub loop-i-init : goal.loop-i-init
 loop-i-init c =
@@ -16,11 +15,11 @@ loop-i-init c =
     (spread_none a.table.now a.at a.first a.period a.out.now, sym (zero-mod a.period), omega arith, refl)
 
 -- where the next byte goes
-there : (c : lts.In-loop-i) → c.args.at + c.loop-i.i < length c.loop-i.out
+there : (c : goal.In-loop-i) → c.args.at + c.loop-i.i < length c.loop-i.out
 there c = omega (arith, c.requires.1, c.loop-i.invariant.3, c.loop-i-test.true)
 
 -- and where it comes from
-low : (c : lts.In-loop-i) → c.loop-i.p < c.args.period
+low : (c : goal.In-loop-i) → c.loop-i.p < c.args.period
 low c = omega (arith, c.loop-i.invariant.1, mod-lt c.loop-i.i c.requires.0.some)
 
 pub overflow_add-out : goal.overflow_add-out

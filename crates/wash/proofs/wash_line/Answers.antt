@@ -16,7 +16,6 @@ use Rattle.wash.proofs.Pieces.{part-more}
 use Rattle.wash.proofs.Sums.{part-sum, line-few}
 use Rattle.wash.proofs.Tables.{can-part}
 use Rattle.wash.proofs.wash_line.Goals as goal
-use Rattle.wash.proofs.wash_line.Lts as lts
 
 pub loop-i-init : goal.loop-i-init
 unfolding summed across
@@ -26,8 +25,8 @@ loop-i-init c =
     (put-none a.s (washed a.s a.keep.now a.flip.now (in_row a.first (8 * b) (a.x * b)) a.mem.now) (a.x * b) a.y (0 * b) 1 a.mem.now (λ p i. omega arith), refl, omega arith, λ l. refl, refl, refl)
 
 -- so many more are there
-module _ (c : lts.After-least-k) where
-  abbrev start : lts.Start
+module _ (c : goal.After-least-k) where
+  abbrev start : goal.Start
   start = c.before.before.before.before.before.before
 
   part : (c.loop-i.i + c.least-k.result ≤ start.args.w) × (c.least-k.result ≤ 256)
@@ -51,7 +50,7 @@ wash_part-r-requires c =
     )
 
 -- what has changed, with these
-more : (c : lts.After-wash_part-r) → let b = c.before.before.before.before in let a = (start b).args in let l = b.loop-i in
+more : (c : goal.After-wash_part-r) → let b = c.before.before.before.before in let a = (start b).args in let l = b.loop-i in
     l.r + c.wash_part-r.result ≡ summed (changing a.s a.mem.now c.wash_part-r.new.mem) (across false a.x (l.i + b.least-k.result) a.y)
 more c =
     let b = c.before.before.before.before in

@@ -15,7 +15,6 @@ use Rattle.wash.specs.Wash.{washed, in_row, in_rows}
 use Rattle.wash.proofs.Pieces.{row_more}
 use Rattle.wash.proofs.Sums.{row-sum, rows_few}
 use Rattle.wash.proofs.wash_lines.Goals as goal
-use Rattle.wash.proofs.wash_lines.Lts as lts
 
 pub loop-j-init : goal.loop-j-init
 unfolding summed rect
@@ -37,8 +36,8 @@ wash_line-r-requires c =
     (p.1 l.j taken, (record { wide = p.0.wide; on = λ i low high. p.0.on i (a.y + l.j) low high (omega arith) (omega (arith, taken)) }, (omega (arith, l.invariant.3), omega (arith, l.invariant.4))))
 
 -- one row more
-module _ (c : lts.After-wash_line-r) where
-  abbrev start : lts.Start
+module _ (c : goal.After-wash_line-r) where
+  abbrev start : goal.Start
   start = c.before.before.before.before.before.before.before.before
 
   row : Put start.args.s (washed start.args.s start.args.keep.now start.args.flip.now (in_row (c.loop-j.j % 8 * 160) (8 * start.args.s.bytes) (start.args.x * start.args.s.bytes)) c.loop-j.mem)

@@ -5,10 +5,9 @@ use native.Mathlib.Omega.{arith}
 use Rattle.surface.proofs.Bytes.{product_lt}
 use Rattle.wash.proofs.Tables.{rows-can, as-tables}
 use Rattle.wash.proofs.wash_masks.Goals as goal
-use Rattle.wash.proofs.wash_masks.Lts as lts
 
 -- the bytes of a row
-few : (c : lts.Start) → c.args.w * c.args.s.bytes < 2 ^ 17
+few : (c : goal.Start) → c.args.w * c.args.s.bytes < 2 ^ 17
 few c = product_lt 14 3 {a = c.args.w} {b = c.args.s.bytes} (omega (arith, c.requires.0.wide)) (omega (arith, c.requires.0.colour.small.bytes))
 
 pub overflow_mul-w : goal.overflow_mul-w

@@ -11,10 +11,9 @@ use Rattle.runs.specs.Asked.{RowHeld}
 use Rattle.runs.proofs.Alike.{row-unlike}
 use Rattle.runs.proofs.Keeping.{pixels-held, pixels-kept, buffer-on}
 use Rattle.wash.proofs.wash_part.Goals as goal
-use Rattle.wash.proofs.wash_part.Lts as lts
 
 -- the row's bytes
-module _ (c : lts.Start) where
+module _ (c : goal.Start) where
   abbrev b : ℕ
   b = c.args.s.bytes
 

@@ -13,7 +13,6 @@ use Rattle.tint.specs.Asked.{RowsSound}
 use Rattle.tint.proofs.FillLaws.{rows_fit, row-sound, rect-fills}
 use Rattle.wash.proofs.Settling.{washed-whole}
 use Rattle.wash.proofs.wash_rows.Goals as goal
-use Rattle.wash.proofs.wash_rows.Lts as lts
 
 pub masks_at-requires : goal.masks_at-requires
 masks_at-requires c =
@@ -22,8 +21,8 @@ masks_at-requires c =
     (p.colour, omega (arith, p.wide), omega (arith, p.high), rw c.mask_rows-rows.ensures (rows_fit b.args.h).0, record { keeps = refl; flips = refl; counts = refl })
 
 -- ---- the masks are bytes, and sound
-module _ (c : lts.After-masks_at) where
-  abbrev start : lts.Start
+module _ (c : goal.After-masks_at) where
+  abbrev start : goal.Start
   start = c.before.before.before.before.before.before
 
   -- how many rows of them

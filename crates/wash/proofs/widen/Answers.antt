@@ -7,13 +7,12 @@ use Prim.Native.Nat.{ℕ, ◌+◌, ◌-◌, ◌*◌, ◌≤◌}
 use Rattle.wash.specs.Wash.{Widened}
 use Rattle.wash.proofs.Spreading.{widened_none, widened_more}
 use Rattle.wash.proofs.widen.Goals as goal
-use Rattle.wash.proofs.widen.Lts as lts
 
 pub loop-r-init : goal.loop-r-init
 loop-r-init c = (widened_none c.args.table.now c.args.period c.args.n _, omega arith, refl)
 
 -- a row of masks is in its table
-room : (c : lts.In-loop-r) → c.loop-r.r * c.args.period + c.args.period ≤ 256
+room : (c : goal.In-loop-r) → c.loop-r.r * c.args.period + c.args.period ≤ 256
 room c =
     let p = c.requires in
     let r = c.loop-r.r in

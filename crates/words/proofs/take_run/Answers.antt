@@ -2,26 +2,18 @@
 -- Assumes nothing.
 use Rattle.std.proofs.Common.{ℕ, ◌-◌, ◌<◌, List, length, get_or, refl, ap, ◌∙◌, arith}
 use mathlib.Core.Path.{subst⁻¹}
-use Rattle.bank.specs.declared.Bank.{Bank}
-use Rattle.rooms.specs.declared.Rooms.{Rooms}
-use Rattle.acts.specs.declared.Blit.{Blit}
 use Rattle.acts.specs.Fed.{fed, feeding_run}
-use Rattle.words.specs.declared.Sums.{Sums}
 use Rattle.words.specs.Words.{Ran}
 use Rattle.words.proofs.Laws.{Fits, part-rest, long-stops, other-stops, start-stops, start-goes, went-word, ran_ends}
 use Rattle.words.proofs.Feeds.{Turned, turned}
+use Rattle.words.proofs.take_run.Invariants.{sofar}
 use Rattle.words.proofs.take_run.Goals as goal
-use Rattle.words.proofs.take_run.Lts as lts
-
--- the run between two turns
-abbrev sofar : ℕ → Rooms → List ℕ → Bank → Blit → Sums → Ran
-sofar opened rooms m b k t = record { engine = record { bank = b; blit = k; opened = opened; rooms = rooms }; memory = m; number = 0; taken = t.taken; count = t.count; changed = t.changed }
 
 -- the words of the run, and what was done of it when a turn begins
-abbrev W : lts.At-loop-sums → List ℕ
+abbrev W : goal.At-loop-sums → List ℕ
 W c = c.args.words.now
 
-abbrev S : lts.At-loop-sums → Ran
+abbrev S : goal.At-loop-sums → Ran
 S c = sofar c.args.e.opened c.args.e.rooms c.loop-sums.mem c.loop-sums.bank c.loop-sums.blit c.loop-sums.sums
 
 pub loop-sums-init : goal.loop-sums-init
@@ -45,11 +37,11 @@ returns-then-mem-opened c =
     ((went-word (W l) (S l) c.loop-sums-test.true (other-stops (S l) (get_or (W l) l.loop-sums.sums.taken 0) c.if-mem-gt16777216.false c.if-mem-opened.true)).stops (λ z. omega arith) ∙ l.loop-sums.invariant.0)
 
 -- past the first tests row 1 refuses no word
-fits : (c : lts.Else-mem-opened) → Fits (S c.before.before.before.before)
+fits : (c : goal.Else-mem-opened) → Fits (S c.before.before.before.before)
 fits c = record { limit = c.if-mem-gt16777216.false; opened = c.if-mem-opened.false }
 
 -- what was fed of the words that are left
-was-fed : (c : lts.After-feed_run-fed) → let l = c.before.before.before.before.before.before.before.before in Turned (W l) (S l) (fed c.feed_run-fed.result c.feed_run-fed.new.mem)
+was-fed : (c : goal.After-feed_run-fed) → let l = c.before.before.before.before.before.before.before.before in Turned (W l) (S l) (fed c.feed_run-fed.result c.feed_run-fed.new.mem)
 was-fed c =
     let l = c.before.before.before.before.before.before.before.before in
     subst⁻¹ (Turned (W l) (S l)) (c.feed_run-fed.ensures ∙ ap (feeding_run l.loop-sums.bank l.loop-sums.blit l.loop-sums.mem) (part-rest (W l) l.loop-sums.sums.taken))
@@ -73,7 +65,7 @@ loop-sums-preserved-then-bank-eq3 c =
     rw (c.add-sums.ensures, c.end_feed-bank.ensures) (((was-fed c.before.before.before.before.before.before.before).goes c.if-fed-ne0.false).goes refl ∙ l.loop-sums.invariant.0, c.feed_run-fed.auto.mem ∙ l.loop-sums.invariant.1)
 
 -- the word that was started
-some : (c : lts.After-start-act) → let l = c.before.before.before.before.before.before.before.before.before.before.before in l.loop-sums.sums.taken < length (W l)
+some : (c : goal.After-start-act) → let l = c.before.before.before.before.before.before.before.before.before.before.before in l.loop-sums.sums.taken < length (W l)
 some c = c.loop-sums-test.true
 
 pub shape_of-mem-then-act-ne0 : goal.shape_of-mem-then-act-ne0
