@@ -9,10 +9,9 @@ use Rattle.acts.proofs.paint_word.Goals as goal
 
 pub plain_word-requires : goal.plain_word-requires
 plain_word-requires c =
-    let b = c.before.before.before.before.before.before.before in
-    let o = plain-opened b.args.regs (length b.args.mem.now) c.decode_clip-clip.ensures c.decode_feed-feed.ensures b.requires.fine (omega (arith, b.requires.more))
+    let o = plain-opened c.args.regs (length c.args.mem.now) c.decode_clip-clip.ensures c.decode_feed-feed.ensures c.requires.fine (omega (arith, c.requires.more))
     c.is_plain.ensures c.if-is_plain.true c.decode_plain-plain.ensures in
-    (record { opened = o; few = omega (arith, words-few b.args.regs, b.requires.more) }, omega arith)
+    (record { opened = o; few = omega (arith, words-few c.args.regs, c.requires.more) }, omega arith)
 
 pub returns-then-is_plain : goal.returns-then-is_plain
 returns-then-is_plain c =
@@ -22,10 +21,9 @@ returns-then-is_plain c =
 
 pub host_word-requires : goal.host_word-requires
 host_word-requires c =
-    let b = c.before.before.before.before.before.before.before in
-    let o = ink-opened b.args.regs (length b.args.mem.now) c.decode_clip-clip.ensures c.decode_feed-feed.ensures b.requires.fine (omega (arith, b.requires.more))
+    let o = ink-opened c.args.regs (length c.args.mem.now) c.decode_clip-clip.ensures c.decode_feed-feed.ensures c.requires.fine (omega (arith, c.requires.more))
     c.decode_ink-ink.ensures in
-    (record { opened = o; few = omega (arith, words-few b.args.regs, b.requires.more) }, omega arith)
+    (record { opened = o; few = omega (arith, words-few c.args.regs, c.requires.more) }, omega arith)
 
 pub returns : goal.returns
 returns c =

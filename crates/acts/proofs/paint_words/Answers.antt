@@ -9,10 +9,9 @@ use Rattle.acts.proofs.paint_words.Goals as goal
 
 pub plain_words-requires : goal.plain_words-requires
 plain_words-requires c =
-    let b = c.before.before.before.before.before.before.before.before in
-    let o = plain-opened b.args.regs (length b.args.mem.now) c.decode_clip-clip.ensures c.decode_feed-feed.ensures b.requires.fine (omega (arith, b.requires.more))
+    let o = plain-opened c.args.regs (length c.args.mem.now) c.decode_clip-clip.ensures c.decode_feed-feed.ensures c.requires.fine (omega (arith, c.requires.more))
     c.is_plain.ensures c.if-is_plain.true c.decode_plain-plain.ensures in
-    record { opened = o; few = omega (arith, words-few b.args.regs, b.requires.all); short = b.requires.short }
+    record { opened = o; few = omega (arith, words-few c.args.regs, c.requires.all); short = c.requires.short }
 
 pub returns-then-is_plain : goal.returns-then-is_plain
 returns-then-is_plain c =
@@ -22,10 +21,9 @@ returns-then-is_plain c =
 
 pub host_words-requires : goal.host_words-requires
 host_words-requires c =
-    let b = c.before.before.before.before.before.before.before.before.before in
-    let o = ink-opened b.args.regs (length b.args.mem.now) c.decode_clip-clip.ensures c.decode_feed-feed.ensures b.requires.fine (omega (arith, b.requires.more))
+    let o = ink-opened c.args.regs (length c.args.mem.now) c.decode_clip-clip.ensures c.decode_feed-feed.ensures c.requires.fine (omega (arith, c.requires.more))
     c.decode_ink-ink.ensures in
-    record { opened = o; few = omega (arith, words-few b.args.regs, b.requires.all); short = b.requires.short }
+    record { opened = o; few = omega (arith, words-few c.args.regs, c.requires.all); short = c.requires.short }
 
 pub returns : goal.returns
 returns c =

@@ -33,9 +33,8 @@ overflow_mul-i c =
 held : (c : goal.After-wide) → let a = c.args in
     Held (c.place_in_rows-at.result + c.loop-i.i * a.n) a.n (length a.mem.now)
 held c =
-    let b = c.before.before.before.before.before.before in
-    run-held b.args.p.target b.requires.0.0.1 b.args.x b.args.y c.loop-i.i b.args.n _ b.requires.1.1
-    c.place_in_rows-at.ensures b.requires.0.1.0 c.loop-i-test.true
+    run-held c.args.p.target c.requires.0.0.1 c.args.x c.args.y c.loop-i.i c.args.n _ c.requires.1.1
+    c.place_in_rows-at.ensures c.requires.0.1.0 c.loop-i-test.true
 
 pub overflow_add-at : goal.overflow_add-at
 overflow_add-at c = omega (arith, c.wide.ensures, (held c).inside)
@@ -53,13 +52,12 @@ loop-i-smaller c = omega arith
 
 pub loop-i-preserved : goal.loop-i-preserved
 loop-i-preserved c =
-    let b = c.before.before.before.before.before.before.before.before.before in
-    let a = b.args in
+    let a = c.args in
     let k = c.loop-i in
     let z : k.i ≡ a.x + k.i - a.x = omega arith in
     row-goes-on k.invariant (a.x + k.i) c.loop-i-test.true refl
     (rw c.wide.ensures at c.put_bit-r.ensures
-    ∙ run-dab a.p.target b.requires.0.0.1 a.x a.y k.i a.n _ b.requires.1.1 c.place_in_rows-at.ensures _ (tallied k.mem k.r))
+    ∙ run-dab a.p.target c.requires.0.0.1 a.x a.y k.i a.n _ c.requires.1.1 c.place_in_rows-at.ensures _ (tallied k.mem k.r))
     (ap (λ (d : ℕ). coloured a.p (bit_of a.byte (a.k + d))) z)
 
 pub shape_of-mem : goal.shape_of-mem

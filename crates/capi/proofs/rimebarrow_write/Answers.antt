@@ -55,10 +55,9 @@ run-requires-in-Nowhere c = (whole c.before.before.before.before.before.before, 
 
 pub returns-else-offset-eq112 : goal.returns-else-offset-eq112
 returns-else-offset-eq112 c =
-    let f = c.before.before in
     let e = f.before.before.before.before.before.before in
     let a = e.args in
-    register-written (S e) (M e) a.offset a.word (whole e) (each-byte e) (omega arith) (sym f.find_place-place.ensures ∙ f.in-Register.is) f.if-offset-eq112.false f.put_register.ensures
+    register-written (S e) (M e) a.offset a.word (whole e) (each-byte e) (omega arith) (sym c.find_place-place.ensures ∙ c.in-Register.is) c.if-offset-eq112.false c.put_register.ensures
 
 pub returns-in-Pattern : goal.returns-in-Pattern
 returns-in-Pattern c =

@@ -29,12 +29,11 @@ overflow_sub-p-then-not-source c = omega (arith, in-clip _ _ _ (inside c.before.
 
 pub mark_pixel-requires : goal.mark_pixel-requires
 mark_pixel-requires c =
-    let start = c.before.before.before.before.before.before.before.before.before.before in
-    let p = start.requires in
+    let p = c.requires in
     record {
       len = p.len;
       limit = p.limit;
-      on = record { colour = p.surface; on = point-on start.args.ink.target p.len start.args.c start.args.p p.on (inside c.before.before.before.before.before.before.before) };
+      on = record { colour = p.surface; on = point-on c.args.ink.target p.len c.args.c c.args.p p.on (inside c.before.before.before.before.before.before.before) };
     }
 
 pub returns-then-not-source : goal.returns-then-not-source

@@ -7,26 +7,22 @@ use Rattle.drips.proofs.data_box.Goals as goal
 
 pub overflow_add-feed : goal.overflow_add-feed
 overflow_add-feed c =
-    let b = c.before.before.before in omega (arith, c.first_row.ensures, first_small b.args.feed b.args.taken, b.requires.few, b.requires.y)
+    omega (arith, c.first_row.ensures, first_small c.args.feed c.args.taken, c.requires.few, c.requires.y)
 
 pub overflow_add-feed-2 : goal.overflow_add-feed-2
 overflow_add-feed-2 c =
-    let b = c.before.before.before.before.before.before.before.before in
-    omega (arith, c.past_row.ensures, past-small b.args.feed b.args.taken b.args.n, b.requires.few, b.requires.y, b.requires.step)
+    omega (arith, c.past_row.ensures, past-small c.args.feed c.args.taken c.args.n, c.requires.few, c.requires.y, c.requires.step)
 
 pub returns : goal.returns
 unfolding data_box
 returns c =
-    let past = c.before.before.before.before in
-    let low = past.before in
-    let first = low.before.before.before.before in
     rw (
       c.less-2.ensures,
       c.least-past.ensures,
       c.less.ensures,
-      past.past_row.ensures,
-      low.least-low.ensures,
-      low.most.ensures,
-      low.less-first.ensures,
-      first.first_row.ensures,
+      c.past_row.ensures,
+      past.least-low.ensures,
+      past.most.ensures,
+      past.less-first.ensures,
+      low.first_row.ensures,
     )

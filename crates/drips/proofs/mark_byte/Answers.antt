@@ -23,14 +23,14 @@ nonzero_rem-column c = step-some c.args.feed c.requires.opened.rows
 
 pub whole_pixels-start-requires : goal.whole_pixels-start-requires
 whole_pixels-start-requires c =
-    let b = c.before.before in (b.requires.opened.rows.sizes.bytes, omega (arith, column-small b.args.feed b.requires.opened.rows b.args.o))
+    (c.requires.opened.rows.sizes.bytes, omega (arith, column-small c.args.feed c.requires.opened.rows c.args.o))
 
 pub overflow_add-column : goal.overflow_add-column
-overflow_add-column c = let b = c.before.before.before in omega (arith, column-small b.args.feed b.requires.opened.rows b.args.o)
+overflow_add-column c = omega (arith, column-small c.args.feed c.requires.opened.rows c.args.o)
 
 pub whole_pixels-end-requires : goal.whole_pixels-end-requires
 whole_pixels-end-requires c =
-    let b = c.before.before.before in (b.requires.opened.rows.sizes.bytes, omega (arith, column-small b.args.feed b.requires.opened.rows b.args.o))
+    (c.requires.opened.rows.sizes.bytes, omega (arith, column-small c.args.feed c.requires.opened.rows c.args.o))
 
 pub loop-i-init : goal.loop-i-init
 loop-i-init c =
@@ -43,12 +43,10 @@ value_of-v-requires c = (c.requires.opened.rows.sizes.bytes, omega arith)
 
 pub mark_one-requires : goal.mark_one-requires
 mark_one-requires c =
-    let l = c.before.before.before in
-    let b = l.before.before.before.before.before in
-    let w = whole-width b.args.feed (b.args.o % b.args.feed.step + 1) in
-    let f = l.whole_pixels-end.ensures in
+    let w = whole-width l.args.feed (l.args.o % l.args.feed.step + 1) in
+    let f = c.whole_pixels-end.ensures in
     let u = c.loop-i-test.true in
-    (b.requires, (omega arith, l.if-feed-j.false))
+    (l.requires, (omega arith, c.if-feed-j.false))
 
 pub overflow_add-i : goal.overflow_add-i
 overflow_add-i c = omega arith
@@ -58,12 +56,11 @@ loop-i-smaller c = omega arith
 
 pub loop-i-preserved : goal.loop-i-preserved
 loop-i-preserved c =
-    let l = c.before.before.before.before in
-    let a = l.args in
+    let a = c.args in
     let v = c.value_of-v in
-    drip-takes a.ink a.c a.feed (run a.feed a.last a.word a.o l.loop-i.i _) (pixel l.loop-i.i _ v.result ∷ []) _ _
-    (run-turn a.feed a.last a.word a.o l.loop-i.i _ v.result c.loop-i-test.true v.ensures) c.mark_one.ensures
-    ∙ l.loop-i.invariant
+    drip-takes a.ink a.c a.feed (run a.feed a.last a.word a.o c.loop-i.i _) (pixel c.loop-i.i _ v.result ∷ []) _ _
+    (run-turn a.feed a.last a.word a.o c.loop-i.i _ v.result c.loop-i-test.true v.ensures) c.mark_one.ensures
+    ∙ c.loop-i.invariant
 
 pub returns : goal.returns
 returns c =

@@ -44,13 +44,12 @@ loop-i-smaller c = omega arith
 
 pub loop-i-preserved : goal.loop-i-preserved
 loop-i-preserved c =
-    let l = c.before.before.before.before in
-    let a = l.args in
-    let i = l.loop-i.i in
-    let last = l.loop-i.before in
+    let a = c.args in
+    let i = c.loop-i.i in
+    let last = c.loop-i.before in
     drip-takes a.ink a.c a.feed (by_run a.feed last (drop i a.words.now) (a.taken + i)) (by_word a.feed last (get_or a.words.now i 0) (a.taken + i))
     _ _ (run-turn a.feed a.words.now last a.taken i c.loop-i-test.true) c.mark_word.ensures
-    ∙ l.loop-i.invariant
+    ∙ c.loop-i.invariant
 
 pub returns : goal.returns
 returns c =

@@ -23,20 +23,17 @@ overflow_sub-y c = omega (arith, position c.before.before.before)
 
 pub mark_pixel-requires : goal.mark_pixel-requires
 mark_pixel-requires c =
-    let t = c.before.before.before in
-    let b = t.before.before.before.before in
     record {
-      len = b.requires.0.len;
-      limit = b.requires.0.limit;
-      on = b.requires.0.opened.covered.on b.args.i b.args.j b.requires.1.0 b.requires.1.1 (sym t.covers.ensures ∙ t.if-covers.true);
+      len = t.requires.0.len;
+      limit = t.requires.0.limit;
+      on = t.requires.0.opened.covered.on t.args.i t.args.j t.requires.1.0 t.requires.1.1 (sym c.covers.ensures ∙ c.if-covers.true);
     }
 
 pub returns-else-is_left : goal.returns-else-is_left
 returns-else-is_left c =
-    let t = c.before.before.before.before in
-    let a = t.args in
+    let a = c.args in
     c.mark_pixel.ensures
-    ∙ one-falls a.ink a.c a.feed a.i a.j a.v a.marks.now (sym t.covers.ensures ∙ t.if-covers.true)
+    ∙ one-falls a.ink a.c a.feed a.i a.j a.v a.marks.now (sym c.covers.ensures ∙ c.if-covers.true)
     (sym c.is_left.ensures ∙ c.if-is_left.false)
 
 pub returns-else-covers : goal.returns-else-covers

@@ -6,38 +6,30 @@ use Rattle.drips.proofs.mark_row.Goals as goal
 
 pub returns-then-y-c : goal.returns-then-y-c
 returns-then-y-c c =
-    let b = c.before.before.before in
-    let a = b.args in
-    row-outside a.ink a.c a.feed a.from a.past a.j b.requires.0.opened.rows a.marks.now (λ top bottom. omega (arith, c.if-y-c.true))
+    let a = c.args in
+    row-outside a.ink a.c a.feed a.from a.past a.j c.requires.0.opened.rows a.marks.now (λ top bottom. omega (arith, c.if-y-c.true))
 
 pub returns-then-c-y : goal.returns-then-c-y
 returns-then-c-y c =
-    let b = c.before.before.before.before.before in
-    let a = b.args in
-    row-outside a.ink a.c a.feed a.from a.past a.j b.requires.0.opened.rows a.marks.now (λ top bottom. omega (arith, c.if-c-y.true))
+    let a = c.args in
+    row-outside a.ink a.c a.feed a.from a.past a.j c.requires.0.opened.rows a.marks.now (λ top bottom. omega (arith, c.if-c-y.true))
 
 pub mark_rect-requires : goal.mark_rect-requires
 mark_rect-requires c =
-    let r = c.before.before in
-    let t = r.before.before in
-    let b = t.before.before.before.before.before in
-    let a = b.args in
-    let e = r.left_of-left.ensures in
-    let f = r.right_of-right.ensures in
+    let a = t.args in
+    let e = c.left_of-left.ensures in
+    let f = c.right_of-right.ensures in
     rw (e, f)
-    (row-markable a.ink a.c a.feed a.from a.past a.j b.requires.0 b.requires.1 (omega (arith, t.if-y-c.false)) (omega (arith, t.if-c-y.false))
+    (row-markable a.ink a.c a.feed a.from a.past a.j t.requires.0 t.requires.1 (omega (arith, r.if-y-c.false)) (omega (arith, r.if-c-y.false))
     (omega (arith, c.if-left-right.true)))
 
 pub returns-then-left-right : goal.returns-then-left-right
 returns-then-left-right c =
-    let r = c.before.before.before in
-    let t = r.before.before in
-    let a = t.args in
-    row-marked a.ink a.c a.feed a.from a.past a.j a.marks.now (omega (arith, t.if-y-c.false)) (omega (arith, t.if-c-y.false))
-    (rw (← r.left_of-left.ensures, ← r.right_of-right.ensures) c.mark_rect.ensures)
+    let a = r.args in
+    row-marked a.ink a.c a.feed a.from a.past a.j a.marks.now (omega (arith, r.if-y-c.false)) (omega (arith, r.if-c-y.false))
+    (rw (← c.left_of-left.ensures, ← c.right_of-right.ensures) c.mark_rect.ensures)
 
 pub returns-else-left-right : goal.returns-else-left-right
 returns-else-left-right c =
-    let r = c.before in
-    let a = r.args in
-    row-none a.ink a.c a.feed a.from a.past a.j a.marks.now (omega (arith, r.left_of-left.ensures, r.right_of-right.ensures, c.if-left-right.false))
+    let a = c.args in
+    row-none a.ink a.c a.feed a.from a.past a.j a.marks.now (omega (arith, c.left_of-left.ensures, c.right_of-right.ensures, c.if-left-right.false))

@@ -22,7 +22,7 @@ past_row-requires c =
 
 pub first_row-j-requires : goal.first_row-j-requires
 first_row-j-requires c =
-    let b = c.before.before in (step-some b.args.feed b.requires.waits.opened.rows, omega (arith, b.requires.waits.few))
+    (step-some c.args.feed c.requires.waits.opened.rows, omega (arith, c.requires.waits.few))
 
 pub loop-j-init : goal.loop-j-init
 loop-j-init c =
@@ -30,9 +30,8 @@ loop-j-init c =
 
 pub mark_row-requires : goal.mark_row-requires
 mark_row-requires c =
-    let l = c.before.before in
-    let p = l.requires in
-    let e = l.least-end.ensures in
+    let p = c.requires in
+    let e = c.least-end.ensures in
     (record { len = p.len; limit = p.limit; opened = p.waits.opened }, omega (arith, c.loop-j-test.true))
 
 pub overflow_add-j : goal.overflow_add-j
@@ -43,13 +42,11 @@ loop-j-smaller c = omega arith
 
 pub loop-j-preserved : goal.loop-j-preserved
 loop-j-preserved c =
-    let l = c.before.before.before in
-    let a = l.args in
-    rows_take a.ink.target a.c a.feed (4 * a.taken) (4 * (a.taken + a.n)) l.loop-j.j _ _ c.loop-j-test.true c.mark_row.ensures
-    l.loop-j.invariant
+    let a = c.args in
+    rows_take a.ink.target a.c a.feed (4 * a.taken) (4 * (a.taken + a.n)) c.loop-j.j _ _ c.loop-j-test.true c.mark_row.ensures
+    c.loop-j.invariant
 
 pub returns : goal.returns
 returns c =
-    let l = c.before in
-    let a = l.args in
-    rows-done a.ink.target a.c a.feed (4 * a.taken) (4 * (a.taken + a.n)) l.loop-j.j _ _ c.loop-j-test.false l.loop-j.invariant
+    let a = c.args in
+    rows-done a.ink.target a.c a.feed (4 * a.taken) (4 * (a.taken + a.n)) c.loop-j.j _ _ c.loop-j-test.false c.loop-j.invariant

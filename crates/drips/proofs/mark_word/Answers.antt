@@ -30,12 +30,11 @@ loop-t-smaller c = omega arith
 
 pub loop-t-preserved : goal.loop-t-preserved
 loop-t-preserved c =
-    let l = c.before.before.before in
-    let a = l.args in
-    let t = l.loop-t.t in
+    let a = c.args in
+    let t = c.loop-t.t in
     drip-takes a.ink a.c a.feed (by_bytes a.feed a.last a.word (4 * a.taken + t) (4 - t)) (by_byte a.feed a.last a.word (4 * a.taken + t))
     _ _ (bytes-turn a.feed a.last a.word a.taken t c.loop-t-test.true) c.mark_byte.ensures
-    ∙ l.loop-t.invariant
+    ∙ c.loop-t.invariant
 
 pub returns : goal.returns
 returns c =

@@ -26,14 +26,14 @@ nonzero_rem-column c = step-some c.args.feed c.requires.0.rows
 
 pub whole_pixels-start-requires : goal.whole_pixels-start-requires
 whole_pixels-start-requires c =
-    let b = c.before.before.before in (b.requires.0.rows.sizes.bytes, omega (arith, column-small b.args.feed b.requires.0.rows b.args.o))
+    (c.requires.0.rows.sizes.bytes, omega (arith, column-small c.args.feed c.requires.0.rows c.args.o))
 
 pub overflow_add-column : goal.overflow_add-column
-overflow_add-column c = let b = c.before.before.before.before in omega (arith, column-small b.args.feed b.requires.0.rows b.args.o)
+overflow_add-column c = omega (arith, column-small c.args.feed c.requires.0.rows c.args.o)
 
 pub whole_pixels-end-requires : goal.whole_pixels-end-requires
 whole_pixels-end-requires c =
-    let b = c.before.before.before.before in (b.requires.0.rows.sizes.bytes, omega (arith, column-small b.args.feed b.requires.0.rows b.args.o))
+    (c.requires.0.rows.sizes.bytes, omega (arith, column-small c.args.feed c.requires.0.rows c.args.o))
 
 pub loop-i-init : goal.loop-i-init
 loop-i-init c =
@@ -48,13 +48,11 @@ value_of-v-requires c = (c.requires.0.rows.sizes.bytes, omega arith)
 
 pub host_pixel-r-requires : goal.host_pixel-r-requires
 host_pixel-r-requires c =
-    let l = c.before.before.before in
-    let b = l.before.before.before.before.before.before in
-    let left = l.loop-i.invariant.0 in
-    let w = whole-width b.args.feed (b.args.o % b.args.feed.step + 1) in
-    let f = l.whole_pixels-end.ensures in
+    let left = c.loop-i.invariant.0 in
+    let w = whole-width l.args.feed (l.args.o % l.args.feed.step + 1) in
+    let f = c.whole_pixels-end.ensures in
     let u = c.loop-i-test.true in
-    rw left.long (b.requires.0, (omega arith, (l.if-feed-j.false, room-left b.requires.1 left.upto (omega arith))))
+    rw left.long (l.requires.0, (omega arith, (c.if-feed-j.false, room-left l.requires.1 left.upto (omega arith))))
 
 pub overflow_add-i : goal.overflow_add-i
 overflow_add-i c = omega arith
@@ -64,12 +62,11 @@ loop-i-smaller c = omega arith
 
 pub loop-i-preserved : goal.loop-i-preserved
 loop-i-preserved c =
-    let l = c.before.before.before.before.before.before in
-    let a = l.args in
+    let a = c.args in
     let v = c.value_of-v in
-    let low = l.loop-i.invariant.1 in (
-      draw-takes a.ink a.pattern a.c a.feed (run a.feed a.last a.word a.o l.loop-i.i _) (pixel l.loop-i.i _ v.result ∷ []) _ l.loop-i.invariant.0
-          (run-turn a.feed a.last a.word a.o l.loop-i.i _ v.result c.loop-i-test.true v.ensures) (omega arith)
+    let low = c.loop-i.invariant.1 in (
+      draw-takes a.ink a.pattern a.c a.feed (run a.feed a.last a.word a.o c.loop-i.i _) (pixel c.loop-i.i _ v.result ∷ []) _ c.loop-i.invariant.0
+          (run-turn a.feed a.last a.word a.o c.loop-i.i _ v.result c.loop-i-test.true v.ensures) (omega arith)
           c.host_pixel-r.ensures,
       omega arith,
     )

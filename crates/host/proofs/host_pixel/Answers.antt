@@ -19,18 +19,15 @@ overflow_sub-row c = omega (arith, position c)
 
 pub put_source-requires : goal.put_source-requires
 put_source-requires c =
-    let t = c.before.before.before in
-    let b = t.before.before.before.before.before in
     record {
-      on = b.requires.0.covered.on b.args.i b.args.j b.requires.1.0 b.requires.1.1.0 (sym t.covers.ensures ∙ t.if-covers.true);
-      room = b.requires.1.1.1;
+      on = t.requires.0.covered.on t.args.i t.args.j t.requires.1.0 t.requires.1.1.0 (sym c.covers.ensures ∙ c.if-covers.true);
+      room = t.requires.1.1.1;
     }
 
 pub returns-then-covers : goal.returns-then-covers
 returns-then-covers c =
-    let t = c.before.before.before.before.before.before in
-    let a = t.args in
-    pixel-put a.ink a.pattern a.c a.feed a.i a.j a.v _ _ a.mem.now a.n _ (sym t.covers.ensures ∙ t.if-covers.true)
+    let a = c.args in
+    pixel-put a.ink a.pattern a.c a.feed a.i a.j a.v _ _ a.mem.now a.n _ (sym c.covers.ensures ∙ c.if-covers.true)
     c.pattern_at-p.ensures c.source_of-s.ensures c.put_source.ensures
 
 pub returns : goal.returns

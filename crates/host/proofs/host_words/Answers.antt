@@ -35,8 +35,7 @@ loop-i-smaller c = omega arith
 
 pub loop-i-preserved : goal.loop-i-preserved
 loop-i-preserved c =
-    let l = c.before.before.before.before.before.before in
-    run-takes-one l.loop-i.invariant l.requires.opened.rows.sizes c.loop-i-test.true c.host_word-n.ensures
+    run-takes-one c.loop-i.invariant c.requires.opened.rows.sizes c.loop-i-test.true c.host_word-n.ensures
 
 pub shape_of-mem : goal.shape_of-mem
 shape_of-mem c = c.loop-i.invariant.left.long

@@ -13,7 +13,7 @@ pub returns-then-feed-eq0-2 : goal.returns-then-feed-eq0-2
 returns-then-feed-eq0-2 c = let a = c.args.feed in flat a.bytes a.step a.width a.height c.if-feed-eq0.false c.if-feed-eq0-2.true
 
 small : (c : goal.After-struct_known-4-1) → let f = c.args.feed in (f.height - 1) * f.step + c.row_length-row.result ≤ 2 ^ 30 + 2 ^ 16
-small c = let b = c.before.before.before.before.before.before.before in rw c.row_length-row.ensures (data-small b.args.feed b.requires)
+small c = rw c.row_length-row.ensures (data-small c.args.feed c.requires)
 
 pub overflow_mul-result : goal.overflow_mul-result
 overflow_mul-result c = omega (arith, small c)

@@ -42,6 +42,5 @@ small c i = search rules
 
 pub returns : goal.returns
 returns c =
-    let b = c.before.before.before.before in
     c.value_of.ensures
-    ∙ value_there b.args.ink b.args.pattern b.args.column b.args.row b.requires (λ i. omega (arith, small c i)) c.wide-byte.ensures.0 c.word_of-word.ensures
+    ∙ value_there c.args.ink c.args.pattern c.args.column c.args.row c.requires (λ i. omega (arith, small c i)) c.wide-byte.ensures.0 c.word_of-word.ensures

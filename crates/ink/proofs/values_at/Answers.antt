@@ -65,15 +65,14 @@ pub loop-i-preserved : goal.loop-i-preserved
 loop-i-preserved c =
     let d = c.before.before in
     let l = d.loop-i in
-    let r = d.before.before.before.before in
-    let o = r.loop-j in
-    let a = r.args in
+    let o = d.loop-j in
+    let a = d.args in
     let k = o.j * 8 + l.i in
     let column = d.pattern_column-column.ensures.0 in
-    let row = r.pattern_row-row.ensures.0 in
+    let row = d.pattern_row-row.ensures.0 in
     let value : c.value_of.result ≡ pattern_value a.ink a.pattern (a.x + l.i) (a.y + o.j) =
     c.value_of.ensures
-    ∙ value_there a.ink a.pattern d.pattern_column-column.result r.pattern_row-row.result (cell d) (λ i. omega (arith, small c i)) d.wide-byte.ensures.0 c.word_of-word.ensures
+    ∙ value_there a.ink a.pattern d.pattern_column-column.result d.pattern_row-row.result (cell d) (λ i. omega (arith, small c i)) d.wide-byte.ensures.0 c.word_of-word.ensures
     ∙ ap₂ (pattern_in a.ink a.pattern) column row in
     let across : l.i ≡ k % 8 = omega (arith, d.loop-i-test.true) in
     let down : o.j ≡ k / 8 = omega (arith, d.loop-i-test.true) in

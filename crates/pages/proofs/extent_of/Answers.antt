@@ -17,8 +17,7 @@ last_page-last-requires c =
 
 pub overflow_mul-result : goal.overflow_mul-result
 overflow_mul-result c =
-    let start = c.before.before.before.before.before in
-    record { fits = omega (arith, product_lt 14 14 {a = start.args.w} {b = start.args.h} (omega (arith, start.requires.wide)) (omega (arith, start.requires.high))) }
+    record { fits = omega (arith, product_lt 14 14 {a = c.args.w} {b = c.args.h} (omega (arith, c.requires.wide)) (omega (arith, c.requires.high))) }
 
 pub returns-then-last-lt4096 : goal.returns-then-last-lt4096
 returns-then-last-lt4096 c =

@@ -12,8 +12,7 @@ overflow_mul-x c = record { fits = omega (arith, column-small c.args.x c.require
 
 pub byte_at-requires : goal.byte_at-requires
 byte_at-requires c =
-    let start = c.before.before.before in
-    record { small = start.requires.0; across = omega (arith, column-small start.args.x start.requires.0 start.requires.1); down = omega arith }
+    record { small = c.requires.0; across = omega (arith, column-small c.args.x c.requires.0 c.requires.1); down = omega arith }
 
 pub returns : goal.returns
 returns c =

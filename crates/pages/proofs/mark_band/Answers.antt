@@ -17,7 +17,6 @@ mark_pages-requires c = omega (arith, last-page-fits c.requires)
 
 pub returns : goal.returns
 returns c =
-    let start = c.before.before.before.before in
     c.mark_pages.ensures
-    ∙ ap₂ (λ (first last : ℕ). marked_at (starts first (last + 1 - first)) start.args.marks.now) c.first_page-first.ensures c.last_page.ensures
-    ∙ sym (band-marks (band-filled start.requires) start.args.marks.now)
+    ∙ ap₂ (λ (first last : ℕ). marked_at (starts first (last + 1 - first)) c.args.marks.now) c.first_page-first.ensures c.last_page.ensures
+    ∙ sym (band-marks (band-filled c.requires) c.args.marks.now)

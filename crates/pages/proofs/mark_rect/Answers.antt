@@ -18,15 +18,14 @@ loop-j-init c = let a = c.args in rows_start a.s a.x a.y a.w a.h a.marks.now
 
 pub mark_band-requires : goal.mark_band-requires
 mark_band-requires c =
-    let start = c.before.before.before.before.before in
     let j = c.loop-j.j in
     let b = c.band-n in
-    let rows = start.args.h - j in
+    let rows = c.args.h - j in
     record {
-      markable = rows-markable j b.result start.requires c.loop-j-test.true b.ensures.1;
+      markable = rows-markable j b.result c.requires c.loop-j-test.true b.ensures.1;
       some = omega (arith, c.if-w-eq0.false);
       high = b.ensures.2 (omega (arith, c.loop-j-test.true));
-      band = rw b.ensures.0 (band-again start.args.s (start.args.y + j) rows);
+      band = rw b.ensures.0 (band-again c.args.s (c.args.y + j) rows);
     }
 
 pub loop-j-smaller : goal.loop-j-smaller

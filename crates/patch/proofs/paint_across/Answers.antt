@@ -14,24 +14,21 @@ place-x-requires c = (c.loop-i-test.true, c.requires.wide)
 
 pub source_at-s-requires : goal.source_at-s-requires
 source_at-s-requires c =
-    let b = c.before.before.before in
-    (row-pixel b.requires b.loop-i.invariant b.loop-i-test.true b.place-x.ensures).1
+    (row-pixel c.requires c.loop-i.invariant c.loop-i-test.true c.place-x.ensures).1
 
 pub put_source-r-requires : goal.put_source-r-requires
 put_source-r-requires c =
-    let b = c.before.before.before.before.before in
-    let p = b.requires in
-    let left = b.loop-i.invariant in
-    let more = b.loop-i-test.true in
-    record { on = (row-pixel p left more b.place-x.ensures).0; room = row_room left p.room more }
+    let p = c.requires in
+    let left = c.loop-i.invariant in
+    let more = c.loop-i-test.true in
+    record { on = (row-pixel p left more c.place-x.ensures).0; room = row_room left p.room more }
 
 pub loop-i-preserved : goal.loop-i-preserved
 loop-i-preserved c =
-    let b = c.before.before.before.before.before.before.before.before in
-    let k = b.loop-i in
-    let a = b.args in
-    let x = b.place-x.result in
-    row-goes-on k.invariant x b.loop-i-test.true b.place-x.ensures c.put_source-r.ensures
+    let k = c.loop-i in
+    let a = c.args in
+    let x = c.place-x.result in
+    row-goes-on k.invariant x c.loop-i-test.true c.place-x.ensures c.put_source-r.ensures
     (pixel-given a.t a.values k.mem a.bits x a.y c.pattern_column-column.ensures.0 c.bit_of.ensures c.source_at-s.ensures)
 
 pub returns : goal.returns

@@ -19,17 +19,15 @@ row_values-values-requires c = (c.requires.colour, c.pattern_row-row.ensures.1)
 
 pub paint_across-n-requires : goal.paint_across-n-requires
 paint_across-n-requires c =
-    let b = c.before.before.before.before in
-    can-row b.requires b.loop-j.invariant b.loop-j-test.true b.place-y.ensures
+    can-row c.requires c.loop-j.invariant c.loop-j-test.true c.place-y.ensures
 
 pub loop-j-preserved : goal.loop-j-preserved
 loop-j-preserved c =
     let values = c.row_values-values in
-    let b = c.before.before.before.before.before.before.before in
-    let k = b.loop-j in
-    let a = b.args in
-    let y = b.place-y.result in
-    rows-go-on k.invariant y b.loop-j-test.true b.place-y.ensures
+    let k = c.loop-j in
+    let a = c.args in
+    let y = c.place-y.result in
+    rows-go-on k.invariant y c.loop-j-test.true c.place-y.ensures
     (c.paint_across-n.ensures
     ∙ row_same a.t a.pattern values.result c.pattern_byte-bits.ensures.0 values.ensures a.to_left a.t.x a.w y c.pattern_row-row.ensures.0 (tallied k.mem k.n))
 

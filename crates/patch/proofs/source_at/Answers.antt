@@ -15,26 +15,18 @@ overflow_add-sy c = omega (arith, c.requires)
 
 pub get_bit-requires : goal.get_bit-requires
 get_bit-requires c =
-    let copies = c.before.before.before.before.before.before in
-    let b = copies.before.before.before.before in
-    record { small = b.requires.small; mono = c.if-bytes-eq0.true; on = b.requires.on (not-false b.args.t.copies copies.if-not-t.false) }
+    record { small = copies.requires.small; mono = c.if-bytes-eq0.true; on = copies.requires.on (not-false copies.args.t.copies c.if-not-t.false) }
 
 pub returns-then-bytes-eq0 : goal.returns-then-bytes-eq0
 unfolding source_by source_place
 returns-then-bytes-eq0 c =
-    let copies = c.before.before.before.before.before.before.before.before in
-    let b = copies.before.before.before.before in
-    rw (not-false b.args.t.copies copies.if-not-t.false, eq-eqb _ _ c.if-bytes-eq0.true, ← c.get_bit.ensures) c.bit_source.ensures
+    rw (not-false copies.args.t.copies c.if-not-t.false, eq-eqb _ _ c.if-bytes-eq0.true, ← c.get_bit.ensures) c.bit_source.ensures
 
 pub get_pixel-requires : goal.get_pixel-requires
 get_pixel-requires c =
-    let copies = c.before.before.before.before.before.before in
-    let b = copies.before.before.before.before in
-    record { colour = record { small = b.requires.small; some = pos-of-ne c.if-bytes-eq0.false }; on = b.requires.on (not-false b.args.t.copies copies.if-not-t.false) }
+    record { colour = record { small = copies.requires.small; some = pos-of-ne c.if-bytes-eq0.false }; on = copies.requires.on (not-false copies.args.t.copies c.if-not-t.false) }
 
 pub returns : goal.returns
 unfolding source_by source_place
 returns c =
-    let copies = c.before.before.before.before.before.before.before.before in
-    let b = copies.before.before.before.before in
-    rw (not-false b.args.t.copies copies.if-not-t.false, ne_eqb _ _ c.if-bytes-eq0.false, ← c.get_pixel.ensures) c.colour_source.ensures
+    rw (not-false copies.args.t.copies c.if-not-t.false, ne_eqb _ _ c.if-bytes-eq0.false, ← c.get_pixel.ensures) c.colour_source.ensures

@@ -37,12 +37,11 @@ offset_bounds-words-i c = omega (arith, c.requires.short)
 pub take_some-t-requires : goal.take_some-t-requires
 take_some-t-requires c =
     let now = c.loop-i.invariant in
-    let s = c.before.before.before.before.before.before in
-    let ws = s.args.words.now in
+    let ws = c.args.words.now in
     let i = c.loop-i.i in
     let more : i < length ws = c.loop-i-test.true in
     rw (rest ws i, length-drop i ws, now.left.long)
-    (record { opened = s.requires.opened; few = omega (arith, s.requires.few); short = omega (arith, s.requires.short) }, (omega arith, run_room now (length ws - i) s.requires.short (omega arith)))
+    (record { opened = c.requires.opened; few = omega (arith, c.requires.few); short = omega (arith, c.requires.short) }, (omega arith, run_room now (length ws - i) c.requires.short (omega arith)))
 
 took : (c : goal.After-take_some-t) → (0 < c.take_some-t.result.taken) × (c.loop-i.i + c.take_some-t.result.taken ≤ length c.args.words.now)
 took c =
@@ -69,13 +68,12 @@ loop-i-smaller c = omega (arith, took c.before.before.before.before.before, c.lo
 pub loop-i-preserved : goal.loop-i-preserved
 loop-i-preserved c =
     let l = c.loop-i in
-    let s = c.before.before.before.before.before.before.before.before.before.before.before.before in
-    let a = s.args in
+    let a = c.args in
     let t = c.take_some-t in
     let k = took c.before.before.before.before.before in
     subst (λ (b : ℕ). RunLeft (plain_ink a.p) [] a.c a.feed a.last a.words.now a.taken a.mem.now (l.i + t.result.taken) b t.new.0 t.result.n)
     (last-of a.words.now l.i t.result.taken l.before k.0 k.1)
-    (run-takes l.invariant s.requires.opened.rows.sizes t.result.taken k.1 (rw (rest a.words.now l.i) at t.ensures.1.1))
+    (run-takes l.invariant c.requires.opened.rows.sizes t.result.taken k.1 (rw (rest a.words.now l.i) at t.ensures.1.1))
 
 pub shape_of-mem : goal.shape_of-mem
 shape_of-mem c = c.loop-i.invariant.left.long

@@ -11,15 +11,14 @@ pub loop-i-init : goal.loop-i-init
 loop-i-init c = stretch-begins
 
 pub last_column-requires : goal.last_column-requires
-last_column-requires c = let b = c.before.before.before in (b.requires.0.rows.sizes.bytes, omega (arith, b.requires.0.rows.sizes.width, b.requires.1.0.past))
+last_column-requires c = (c.requires.0.rows.sizes.bytes, omega (arith, c.requires.0.rows.sizes.width, c.requires.1.0.past))
 
 here : (c : goal.In-loop-i) → let a = c.args in Here a.feed a.t a.j a.column c.loop-i.i
 here c = c.requires.1.0.here c.loop-i.i c.loop-i.invariant.low c.loop-i-test.true
 
 pub overflow_add-t : goal.overflow_add-t
 overflow_add-t c =
-    let b = c.before.before.before.before in
-    omega (arith, c.last_column.ensures, here-small b.requires.0.rows (omega (arith, c.loop-i-test.true, b.requires.1.0.past)) (here c.before))
+    omega (arith, c.last_column.ensures, here-small c.requires.0.rows (omega (arith, c.loop-i-test.true, c.requires.1.0.past)) (here c.before))
 
 pub overflow_sub-t : goal.overflow_sub-t
 overflow_sub-t c = omega (arith, c.last_column.ensures, (here c.before).low)
@@ -32,12 +31,10 @@ plain_colour-s-requires c = c.requires.1.1
 
 pub plain_pixel-r-requires : goal.plain_pixel-r-requires
 plain_pixel-r-requires c =
-    let l = c.before.before.before.before in
-    let now = l.loop-i.invariant in
-    let b = l.before.before.before in
-    let w = b.requires.1.0 in
+    let now = c.loop-i.invariant in
+    let w = l.requires.1.0 in
     rw now.left.long
-    (b.requires.0, (omega (arith, l.loop-i-test.true, w.past), (w.row, (stretch-room now 1 w.room (omega (arith, l.loop-i-test.true)), c.plain_colour-s.ensures))))
+    (l.requires.0, (omega (arith, c.loop-i-test.true, w.past), (w.row, (stretch-room now 1 w.room (omega (arith, c.loop-i-test.true)), c.plain_colour-s.ensures))))
 
 pub overflow_add-i : goal.overflow_add-i
 overflow_add-i c = omega (arith, c.loop-i-test.true)

@@ -57,10 +57,9 @@ loop-i-smaller c = omega (arith, c.least-m.ensures, c.loop-i-test.true)
 
 pub loop-i-preserved : goal.loop-i-preserved
 loop-i-preserved c =
-    let s = c.before.before.before.before.before.before.before.before.before.before.before.before.before.before.before in
     let m = c.least-m in
     let u = c.loop-i-test.true in
-    line-takes c.loop-i.invariant s.requires.0 (λ a. omega (arith, c.shared_slice_known-1.given a)) m.result u (omega (arith, m.ensures, u)) (omega (arith, m.ensures)) (λ l. omega (arith, m.ensures, l))
+    line-takes c.loop-i.invariant c.requires.0 (λ a. omega (arith, c.shared_slice_known-1.given a)) m.result u (omega (arith, m.ensures, u)) (omega (arith, m.ensures)) (λ l. omega (arith, m.ensures, l))
     (rw c.data_byte-byte.ensures at c.put_run-r.ensures)
 
 pub shape_of-mem : goal.shape_of-mem

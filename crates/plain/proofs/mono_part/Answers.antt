@@ -75,15 +75,14 @@ put_bits-requires c =
 pub returns-then-covers-p : goal.returns-then-covers-p
 returns-then-covers-p c =
     let t = c.before.before.before.before in
-    let b = c.before.before.before.before.before.before.before.before.before.before.before.before in
-    let a = b.args in
-    let mono = b.requires.1.1.0 in
-    let fits = b.requires.1.1.1.1 in
+    let a = c.args in
+    let mono = c.requires.1.1.0 in
+    let fits = c.requires.1.1.1.1 in
     c.put_bits.ensures
-    ∙ byte-drawn a.p a.c a.feed a.last a.word (a.t + a.i / 8 - a.column) a.j a.i mono (omega (arith, b.well_formed)) (omega (arith, b.well_formed)) (omega (arith, b.well_formed))
+    ∙ byte-drawn a.p a.c a.feed a.last a.word (a.t + a.i / 8 - a.column) a.j a.i mono (omega (arith, c.well_formed)) (omega (arith, c.well_formed)) (omega (arith, c.well_formed))
     (held t).1 (omega (arith, in-clip _ _ _ (first-in t))) a.m (tallied a.mem.now a.n)
     (λ q h. between a.c (a.feed.x + a.i) (a.feed.y + a.j) a.m q (first-in t) (last-in t) h)
-    (λ q h. omega (arith, mono-column a.feed (a.i + q) mono, (b.requires.1.0.here (a.i + q) (omega arith) (omega arith)).byte, fits)) fits
+    (λ q h. omega (arith, mono-column a.feed (a.i + q) mono, (c.requires.1.0.here (a.i + q) (omega arith) (omega arith)).byte, fits)) fits
 
 pub mono_each-requires : goal.mono_each-requires
 mono_each-requires c = let p = c.requires in (p.0, (p.1.0, p.1.1.0))

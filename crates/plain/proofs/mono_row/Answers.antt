@@ -18,15 +18,14 @@ overflow_sub-end c = omega (arith, c.loop-i-test.true)
 pub mono_part-r-requires : goal.mono_part-r-requires
 mono_part-r-requires c =
     let k = c.loop-i in
-    let b = c.before.before.before.before.before in
-    let w = b.requires.1.0 in
+    let w = c.requires.1.0 in
     let m = c.least-m.ensures in
     let u = c.loop-i-test.true in
     rw k.invariant.left.long (
-      b.requires.0,
+      c.requires.0,
       (
         within-part w k.i _ k.invariant.low (omega (arith, m, u)) (stretch-room k.invariant _ w.room (omega (arith, m, u))),
-        (b.requires.1.1, (omega (arith, m, u), omega (arith, m))),
+        (c.requires.1.1, (omega (arith, m, u), omega (arith, m))),
       ),
     )
 

@@ -25,15 +25,13 @@ overflow_sub-y c = omega (arith, in-clip _ _ _ (inside c.before))
 pub put_value-requires : goal.put_value-requires
 unfolding plain_ink
 put_value-requires c =
-    let b = c.before.before.before.before.before.before in
-    (b.requires.0.covered.on b.args.i b.args.j b.requires.1.0 b.requires.1.1.0 (inside c.before), b.requires.1.1.1.0)
+    (c.requires.0.covered.on c.args.i c.args.j c.requires.1.0 c.requires.1.1.0 (inside c.before), c.requires.1.1.1.0)
 
 pub returns-then-covers : goal.returns-then-covers
 returns-then-covers c =
     let t = c.before.before.before.before in
-    let b = t.before.before.before.before.before in
-    let a = b.args in
-    plain-put a.p a.c a.feed a.i a.j a.v (tallied a.mem.now a.n) (inside t) (omega arith) b.requires.1.1.1.1 c.put_value.ensures
+    let a = t.args in
+    plain-put a.p a.c a.feed a.i a.j a.v (tallied a.mem.now a.n) (inside t) (omega arith) t.requires.1.1.1.1 c.put_value.ensures
 
 pub returns : goal.returns
 returns c =

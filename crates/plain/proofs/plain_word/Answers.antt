@@ -33,11 +33,10 @@ shape_of-mem-then-feed-j c = c.loop-t.invariant.0.left.long
 pub returns-then-feed-j : goal.returns-then-feed-j
 returns-then-feed-j c =
     let k = c.loop-t in
-    let b = c.before.before.before.before.before in
-    let a = b.args in
+    let a = c.args in
     let at = k.invariant.1 c.loop-t-test.true in
     draw-ended (plain_ink a.p) [] a.c a.feed
-    (past-none a.feed a.last a.word (step-some a.feed b.requires.0.opened.rows) _ _ (omega (arith, at.0, mul-le-mul_right a.feed.step c.if-feed-j.true))) k.invariant.0.left
+    (past-none a.feed a.last a.word (step-some a.feed c.requires.0.opened.rows) _ _ (omega (arith, at.0, mul-le-mul_right a.feed.step c.if-feed-j.true))) k.invariant.0.left
 
 pub overflow_sub-step : goal.overflow_sub-step
 overflow_sub-step c = omega (arith, (c.loop-t.invariant.1 c.loop-t-test.true).1)
@@ -48,12 +47,11 @@ overflow_sub-t c = omega arith
 pub plain_row-r-requires : goal.plain_row-r-requires
 plain_row-r-requires c =
     let k = c.loop-t in
-    let b = c.before.before.before.before.before.before.before in
     let taken = c.loop-t-test.true in
     let at = k.invariant.1 taken in
     let m = c.least-m.ensures in
     rw k.invariant.0.left.long (
-      b.requires.0.opened,
+      c.requires.0.opened,
       (
         record {
           place = omega (arith, at.0, taken);
@@ -61,7 +59,7 @@ plain_row-r-requires c =
           held = omega (arith, m, at.1);
           row = c.if-feed-j.false;
         },
-        word_room k.invariant.0 b.requires.0.opened.rows.sizes b.requires.1 taken,
+        word_room k.invariant.0 c.requires.0.opened.rows.sizes c.requires.1 taken,
       ),
     )
 
@@ -79,15 +77,13 @@ loop-t-smaller c =
 
 pub loop-t-preserved : goal.loop-t-preserved
 loop-t-preserved c =
-    let l = c.before.before.before.before.before.before.before in
-    let k = l.loop-t in
-    let b = l.before.before.before in
-    let a = b.args in
-    let taken = l.loop-t-test.true in
+    let k = c.loop-t in
+    let a = l.args in
+    let taken = c.loop-t-test.true in
     let at = k.invariant.1 taken in
     let m = c.least-m in (
-      word-takes k.invariant.0 b.requires.0.opened.rows.sizes m.result (omega (arith, m.ensures, taken)) (rw at.0 c.plain_row-r.ensures),
-      λ more. (omega (arith, m.ensures, taken, at.0, at.1, add-mul k.j 1 a.feed.step), step-some a.feed b.requires.0.opened.rows),
+      word-takes k.invariant.0 l.requires.0.opened.rows.sizes m.result (omega (arith, m.ensures, taken)) (rw at.0 c.plain_row-r.ensures),
+      λ more. (omega (arith, m.ensures, taken, at.0, at.1, add-mul k.j 1 a.feed.step), step-some a.feed l.requires.0.opened.rows),
     )
 
 pub shape_of-mem : goal.shape_of-mem

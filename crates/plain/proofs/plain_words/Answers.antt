@@ -11,8 +11,7 @@ mono_blits-requires c = whole-glyph c.requires.opened (c.is_whole.ensures c.if-i
 
 pub returns-then-is_whole : goal.returns-then-is_whole
 returns-then-is_whole c =
-    let s = c.before.before.before.before.before.before.before.before in
-    let a = s.args in
+    let a = c.args in
     c.mono_blits.ensures
-    ∙ whole-drawn s.requires.opened (c.is_whole.ensures c.if-is_whole.true) (omega (arith, s.well_formed)) (omega (arith, s.well_formed)) a.last a.words.now (state a.mem.now 0 0) refl
-    (omega (arith, s.ranges.last)) (λ i. omega (arith, c.shared_slice_known-1.given i))
+    ∙ whole-drawn c.requires.opened (c.is_whole.ensures c.if-is_whole.true) (omega (arith, c.well_formed)) (omega (arith, c.well_formed)) a.last a.words.now (state a.mem.now 0 0) refl
+    (omega (arith, c.ranges.last)) (λ i. omega (arith, c.shared_slice_known-1.given i))

@@ -27,8 +27,7 @@ begun c = let o = neither _ _ c.if-column-bytes.false in (eqb-true _ _ (not-fals
 -- how many bytes are left in the row
 most : (c : goal.After-struct_known-5-1) → let a = c.args in (a.feed.width - 4 * a.k % a.feed.step / a.feed.bytes) * a.feed.bytes < 2 ^ 16
 most c =
-    let s = c.before.before.before.before.before.before.before.before in
-    product_lt 13 3 (omega (arith, s.requires.0.sizes.width)) (omega (arith, s.requires.0.sizes.bytes))
+    product_lt 13 3 (omega (arith, c.requires.0.sizes.width)) (omega (arith, c.requires.0.sizes.bytes))
 
 -- what the fourth test leaves
 counted : (c : goal.Else-w-eq0) → let a = c.args in let w = c.whole_words-w.result in

@@ -32,10 +32,9 @@ plain_word-r-requires c =
 
 pub returns-then-w-eq0 : goal.returns-then-w-eq0
 returns-then-w-eq0 c =
-    let s = c.before.before.before.before.before.before.before.before.before in
-    let ws = s.args.words.now in
-    let one : take 1 ws ≡ get_or ws 0 0 ∷ [] = take-suc ws 0 0 s.requires.1.0 in
-    (omega arith, (s.requires.1.0, rw (one, run-one s.args.feed (get_or ws 0 0) s.args.last s.args.k) c.plain_word-r.ensures))
+    let ws = c.args.words.now in
+    let one : take 1 ws ≡ get_or ws 0 0 ∷ [] = take-suc ws 0 0 c.requires.1.0 in
+    (omega arith, (c.requires.1.0, rw (one, run-one c.args.feed (get_or ws 0 0) c.args.last c.args.k) c.plain_word-r.ensures))
 
 -- ---- words that go into memory as they are
 straight : (c : goal.Else-w-eq0) → let a = c.args in Straight a.p a.c a.feed a.k (length a.words.now) c.straight_words-w.result
@@ -82,10 +81,9 @@ put_words-changed-requires c =
 put : (c : goal.After-put_words-changed) → let a = c.args in let w = c.straight_words-w.result in
     PutAfter a.p a.c a.feed (by_run a.feed a.last (take w a.words.now) a.k) (4 * w / a.feed.bytes) a.mem.now c.put_words-changed.new.mem c.put_words-changed.result
 put c =
-    let s = c.before.before.before.before.before.before.before.before.before.before.before.before in
-    let a = s.args in
+    let a = c.args in
     let e = c.before.before.before.before.before.before.before.before in
-    straight-put s.requires.0.opened (straight e) a.last _ (long e) (omega (arith, s.ranges.last)) (part_small e.straight_words-w.result a.words.now (λ i. omega (arith, c.shared_slice_known-1.given i))) a.mem.now
+    straight-put c.requires.0.opened (straight e) a.last _ (long e) (omega (arith, c.ranges.last)) (part_small e.straight_words-w.result a.words.now (λ i. omega (arith, c.shared_slice_known-1.given i))) a.mem.now
     c.place_in_rows-at.ensures c.put_words-changed.ensures
 
 pub overflow_mul-w : goal.overflow_mul-w
@@ -96,9 +94,8 @@ nonzero_div-w c = (straight c.before.before.before.before.before.before.before.b
 
 pub note-r-requires : goal.note-r-requires
 note-r-requires c =
-    let s = c.before.before.before.before.before.before.before.before.before.before.before.before.before.before in
     let w = c.straight_words-w.result in
-    (room-less s.requires.1.1 (omega (arith, (straight c.before.before.before.before.before.before.before.before.before.before).fits, div-le_self (4 * w) s.args.feed.bytes)), (put c.before.before).few)
+    (room-less c.requires.1.1 (omega (arith, (straight c.before.before.before.before.before.before.before.before.before.before).fits, div-le_self (4 * w) c.args.feed.bytes)), (put c.before.before).few)
 
 pub returns : goal.returns
 returns c =

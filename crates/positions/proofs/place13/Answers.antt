@@ -14,7 +14,7 @@ use Rattle.positions.proofs.PositionLaws.{origin-signed}
 use Rattle.positions.proofs.place13.Goals as goal
 
 sum : (c : goal.After-signed13) → to_z w32 origin +ℤ to_z w32 (of_z w32 c.signed13.result) ≡ pos (placed c.args.raw)
-sum c = ap (λ z. pos origin +ℤ z) (to_z-of_z (record { sfits = c.signed13.type_inv }) ∙ c.signed13.ensures) ∙ origin-signed c.args.raw
+sum c = ap (λ z. pos origin +ℤ z) (to_z-of_z {w = w32} (record { sfits = c.signed13.type_inv }) ∙ c.signed13.ensures) ∙ origin-signed c.args.raw
 
 fits : (c : goal.After-signed13) → SFits w32 (to_z w32 origin +ℤ to_z w32 (of_z w32 c.signed13.result))
 fits c = subst⁻¹ (λ (z : ℤ). SFits w32 z) (sum c) (record { sfits = lt_trans {m = 20480} (omega arith) (lit< tt) })

@@ -39,7 +39,6 @@ shape_of-mem c = c.loop-i.invariant.0.long
 
 pub returns : goal.returns
 returns c =
-    let s = c.before.before.before.before in
     let k = c.loop-i in
-    let end : k.i ≡ length s.args.words.now = omega (arith, c.loop-i-test.false, k.invariant.1, k.invariant.2, s.requires.whole refl) in
+    let end : k.i ≡ length c.args.words.now = omega (arith, c.loop-i-test.false, k.invariant.1, k.invariant.2, c.requires.whole refl) in
     rw (← end) k.invariant.0.done

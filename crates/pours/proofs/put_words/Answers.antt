@@ -13,30 +13,26 @@ put_threes-requires c =
 
 pub returns-in-1 : goal.returns-in-1
 returns-in-1 c =
-    let s = c.before.before.before.before.before.before.before in
-    let n = length s.args.words.now in
+    let n = length c.args.words.now in
     let all : 4 * n / 1 ≡ 4 * n = omega arith in
     rw (c.in-1.is, all) c.put_ones.ensures
 
 pub returns-in-2 : goal.returns-in-2
 returns-in-2 c =
-    let s = c.before.before.before.before.before.before.before in
-    let n = length s.args.words.now in
+    let n = length c.args.words.now in
     let all : 4 * n / 2 ≡ 2 * n = omega arith in
     rw (c.in-2.is, all) c.put_twos.ensures
 
 pub returns-in-3 : goal.returns-in-3
 returns-in-3 c =
-    let s = c.before.before.before.before.before.before.before in
-    let n = length s.args.words.now in
-    let all : 4 * n / 3 ≡ n / 3 * 4 = omega (arith, s.requires.whole c.in-3.is) in
+    let n = length c.args.words.now in
+    let all : 4 * n / 3 ≡ n / 3 * 4 = omega (arith, c.requires.whole c.in-3.is) in
     rw (c.in-3.is, all) c.put_threes.ensures
 
 pub returns-in_default : goal.returns-in_default
 returns-in_default c =
-    let s = c.before.before.before.before.before.before.before in
     let none = c.in_default.in_default-own.rest in
-    let four : s.args.bytes ≡ 4 = omega (arith, s.requires.some, s.requires.few, none.1, none.0.1, none.0.0.1) in
-    let n = length s.args.words.now in
+    let four : c.args.bytes ≡ 4 = omega (arith, c.requires.some, c.requires.few, none.1, none.0.1, none.0.0.1) in
+    let n = length c.args.words.now in
     let all : 4 * n / 4 ≡ n = omega arith in
     rw (four, all) c.put_fours.ensures

@@ -25,13 +25,12 @@ byte_at-requires c =
 
 pub keep_run-requires : goal.keep_run-requires
 keep_run-requires c =
-    let b = c.before.before.before.before.before.before.before in
-    let a = b.args in
+    let a = c.args in
     let k = c.loop-i in
     let e = c.to_edge-k.ensures in (
-      omega (arith, e.0, b.requires.0, k.invariant.0.long, c.loop-i-test.true),
+      omega (arith, e.0, c.requires.0, k.invariant.0.long, c.loop-i-test.true),
       λ j l. rw c.byte_at.ensures
-          (subst (λ (at : ℕ). at < length a.mem.now) (ap (λ (n : ℕ). byte_at a.s n a.y) (omega arith) ∙ sym (piece-follows a.s (a.x + k.i) a.y _ j e.2 l)) (b.requires.1.held (k.i + j) (omega (arith, e.0, c.loop-i-test.true)))),
+          (subst (λ (at : ℕ). at < length a.mem.now) (ap (λ (n : ℕ). byte_at a.s n a.y) (omega arith) ∙ sym (piece-follows a.s (a.x + k.i) a.y _ j e.2 l)) (c.requires.1.held (k.i + j) (omega (arith, e.0, c.loop-i-test.true)))),
     )
 
 pub overflow_add-i : goal.overflow_add-i

@@ -24,6 +24,5 @@ solid_run-requires c =
 
 pub returns : goal.returns
 returns c =
-    let b = c.before.before.before.before.before.before in
-    let a = b.args in
-    c.solid_run.ensures ∙ row_at a.s b.requires.0 a.v a.y a.x0 _ a.w (state a.mem.now 0 0) c.place_in_rows-at.ensures
+    let a = c.args in
+    c.solid_run.ensures ∙ row_at a.s c.requires.0 a.v a.y a.x0 _ a.w (state a.mem.now 0 0) c.place_in_rows-at.ensures

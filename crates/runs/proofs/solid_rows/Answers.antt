@@ -16,23 +16,20 @@ overflow_add-y0 c = omega (arith, c.requires.1.high, c.loop-j-test.true)
 
 pub solid_row-changed-requires : goal.solid_row-changed-requires
 solid_row-changed-requires c =
-    let b = c.before.before.before.before in
-    let p = b.requires.1 in
+    let p = c.requires.1 in
     let k = c.loop-j in
-    rw k.invariant.left.long (b.requires.0, (p.colour, record { wide = p.wide; on = λ i l r. p.on i (b.args.y0 + k.j) l r (omega arith) (omega (arith, c.loop-j-test.true)) }))
+    rw k.invariant.left.long (c.requires.0, (p.colour, record { wide = p.wide; on = λ i l r. p.on i (c.args.y0 + k.j) l r (omega arith) (omega (arith, c.loop-j-test.true)) }))
 
 pub overflow_add-changed : goal.overflow_add-changed
 overflow_add-changed c =
-    let b = c.before.before.before.before.before.before.before in
-    omega (arith, rows-sum c.loop-j.invariant (omega (arith, b.requires.1.wide)) (omega (arith, b.requires.1.high)) c.loop-j-test.true _ c.solid_row-changed.ensures)
+    omega (arith, rows-sum c.loop-j.invariant (omega (arith, c.requires.1.wide)) (omega (arith, c.requires.1.high)) c.loop-j-test.true _ c.solid_row-changed.ensures)
 
 pub loop-j-preserved : goal.loop-j-preserved
 loop-j-preserved c = rows_fill c.loop-j.invariant _ c.loop-j-test.true refl c.solid_row-changed.ensures
 
 pub overflow_mul-count : goal.overflow_mul-count
 overflow_mul-count c =
-    let s = c.before.before.before in
-    omega (arith, mul-le-mul {n₁ = s.args.w} {m₁ = s.args.h} {n₂ = 2 ^ 13} {m₂ = 2 ^ 13} (omega (arith, s.requires.1.wide)) (omega (arith, s.requires.1.high)))
+    omega (arith, mul-le-mul {n₁ = c.args.w} {m₁ = c.args.h} {n₂ = 2 ^ 13} {m₂ = 2 ^ 13} (omega (arith, c.requires.1.wide)) (omega (arith, c.requires.1.high)))
 
 pub shape_of-mem : goal.shape_of-mem
 shape_of-mem c = c.loop-j.invariant.left.long

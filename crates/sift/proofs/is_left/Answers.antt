@@ -16,8 +16,7 @@ overflow_add-t-then-from-eq0 c = omega (arith, c.requires)
 
 pub get_bit-bit-requires : goal.get_bit-bit-requires
 get_bit-bit-requires c =
-    let start = c.before.before.before.before.before.before.before.before.before.before in
-    record { small = start.requires.small; mono = c.if-from-eq0.true; on = start.requires.on c.if-t.true }
+    record { small = c.requires.small; mono = c.if-from-eq0.true; on = c.requires.on c.if-t.true }
 
 pub returns-then-from-eq0 : goal.returns-then-from-eq0
 unfolding left_at source_by bit_source source_place

@@ -12,18 +12,15 @@ overflow_mul-column c = omega (arith, product_lt 13 3 {a = c.args.x} {b = c.args
 
 pub byte_at-at-requires : goal.byte_at-at-requires
 byte_at-at-requires c =
-    let start = c.before.before.before in
-    let small = product_lt 13 3 {a = start.args.x} {b = start.args.s.bytes} start.requires.1 (omega (arith, start.requires.0.small.bytes)) in
-    record { small = start.requires.0.small; across = omega (arith, c.wide.ensures); down = omega (arith, c.wide-2.ensures) }
+    let small = product_lt 13 3 {a = c.args.x} {b = c.args.s.bytes} c.requires.1 (omega (arith, c.requires.0.small.bytes)) in
+    record { small = c.requires.0.small; across = omega (arith, c.wide.ensures); down = omega (arith, c.wide-2.ensures) }
 
 pub returns-then-s : goal.returns-then-s
 returns-then-s c =
-    let start = c.before.before.before.before.before.before.before in
-    let place = c.byte_at-at.ensures ∙ ap₂ (byte_at start.args.s) c.wide.ensures c.wide-2.ensures in
-    run-tiled start.args.s start.requires.0 start.args.x start.args.y c.if-s.true place c.least.ensures
+    let place = c.byte_at-at.ensures ∙ ap₂ (byte_at c.args.s) c.wide.ensures c.wide-2.ensures in
+    run-tiled c.args.s c.requires.0 c.args.x c.args.y c.if-s.true place c.least.ensures
 
 pub returns : goal.returns
 returns c =
-    let start = c.before.before.before.before.before.before in
-    let place = c.byte_at-at.ensures ∙ ap₂ (byte_at start.args.s) c.wide.ensures c.wide-2.ensures in
-    run-flat start.args.s start.requires.0 start.args.x start.args.y c.if-s.false place
+    let place = c.byte_at-at.ensures ∙ ap₂ (byte_at c.args.s) c.wide.ensures c.wide-2.ensures in
+    run-flat c.args.s c.requires.0 c.args.x c.args.y c.if-s.false place

@@ -22,10 +22,9 @@ overflow_add-x c = omega (arith, c.requires.wide)
 
 pub sift_some-i-requires : goal.sift_some-i-requires
 sift_some-i-requires c =
-    let start = c.before.before.before.before in
     let i = c.loop-i.i in (
-      subst (λ n. Siftable start.args.v (start.args.x + i) n (start.args.w - i) 1 (length start.args.mem.now)) (add-zero start.args.y)
-          (part-can start.requires i 0 (start.args.w - i) 1 (omega arith) (omega arith)),
+      subst (λ n. Siftable c.args.v (c.args.x + i) n (c.args.w - i) 1 (length c.args.mem.now)) (add-zero c.args.y)
+          (part-can c.requires i 0 (c.args.w - i) 1 (omega arith) (omega arith)),
       omega (arith, c.loop-i-test.true),
     )
 

@@ -22,10 +22,9 @@ overflow_add-y c = omega (arith, c.requires.high)
 
 pub sift_row-requires : goal.sift_row-requires
 sift_row-requires c =
-    let start = c.before.before.before.before in
     let j = c.loop-j.j in
-    subst (λ n. Siftable start.args.v n (start.args.y + j) start.args.w 1 (length start.args.mem.now)) (add-zero start.args.x)
-    (part-can start.requires 0 j start.args.w 1 (omega arith) (omega (arith, c.loop-j-test.true)))
+    subst (λ n. Siftable c.args.v n (c.args.y + j) c.args.w 1 (length c.args.mem.now)) (add-zero c.args.x)
+    (part-can c.requires 0 j c.args.w 1 (omega arith) (omega (arith, c.loop-j-test.true)))
 
 pub loop-j-preserved : goal.loop-j-preserved
 loop-j-preserved c =

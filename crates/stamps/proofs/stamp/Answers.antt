@@ -12,20 +12,18 @@ pub overflow_cast-words : goal.overflow_cast-words
 overflow_cast-words c = omega (arith, c.requires.0.goes.short)
 
 pub extent_of-e-requires : goal.extent_of-e-requires
-extent_of-e-requires c = let start = c.before.before.before in record { len = length start.args.mem.now; goes = start.requires.0.goes }
+extent_of-e-requires c = record { len = length c.args.mem.now; goes = c.requires.0.goes }
 
 pub set_bits-requires : goal.set_bits-requires
 set_bits-requires c =
-    let start = c.before.before.before.before.before.before in
-    let a = start.args in
-    (start.requires.1, rw c.extent_of-e.ensures (past-most (bank_of a.r a.pattern.now) a.blit a.words.now a.mem.now a.count start.requires.0))
+    let a = c.args in
+    (c.requires.1, rw c.extent_of-e.ensures (past-most (bank_of a.r a.pattern.now) a.blit a.words.now a.mem.now a.count c.requires.0))
 
 pub returns-then-e : goal.returns-then-e
 returns-then-e c =
-    let start = c.before.before.before.before.before.before.before.before.before in
-    let a = start.args in
+    let a = c.args in
     let e = c.extent_of-e.ensures in
-    stamped-run (bank_of a.r a.pattern.now) a.blit a.words.now a.mem.now a.count start.requires.0 a.s.now a.at start.requires.1
+    stamped-run (bank_of a.r a.pattern.now) a.blit a.words.now a.mem.now a.count c.requires.0 a.s.now a.at c.requires.1
     (sym (ap (λ (x : Extent). x.whole) e) ∙ c.if-e.true) e c.set_bits.ensures
 
 pub walk-requires : goal.walk-requires
@@ -33,16 +31,14 @@ walk-requires c = c.requires.0
 
 pub add_marks-requires : goal.add_marks-requires
 add_marks-requires c =
-    let start = c.before.before.before.before.before.before.before.before.before.before in
-    let a = start.args in (
-      start.requires.1,
-      rw c.extent_of-e.ensures (past-most (bank_of a.r a.pattern.now) a.blit a.words.now a.mem.now a.count start.requires.0),
+    let a = c.args in (
+      c.requires.1,
+      rw c.extent_of-e.ensures (past-most (bank_of a.r a.pattern.now) a.blit a.words.now a.mem.now a.count c.requires.0),
     )
 
 pub returns : goal.returns
 returns c =
-    let start = c.before.before.before.before.before.before.before.before.before.before.before.before.before in
-    let a = start.args in
-    stamped-found (bank_of a.r a.pattern.now) a.blit a.words.now a.mem.now a.count start.requires.0 a.s.now a.at start.requires.1
+    let a = c.args in
+    stamped-found (bank_of a.r a.pattern.now) a.blit a.words.now a.mem.now a.count c.requires.0 a.s.now a.at c.requires.1
     c.extent_of-e.ensures c.no_marks-found.ensures
     c.walk.ensures c.add_marks.ensures

@@ -31,9 +31,8 @@ overflow_add-r c = let k = c.loop-i in omega (arith, k.invariant.0.left.upto.cha
 
 pub loop-i-preserved : goal.loop-i-preserved
 loop-i-preserved c =
-    let first = c.before.before.before.before.before.before.before.before.before.before in
-    let p = first.requires in
-    let w = first.args.w in
+    let p = c.requires in
+    let w = c.args.w in
     let k = c.loop-i in
     let some = c.loop-i-test.true in
     let next : w - (k.i - 1) ≡ w - k.i + 1 = omega arith in (

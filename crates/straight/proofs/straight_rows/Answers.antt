@@ -25,12 +25,11 @@ straight_row-changed-requires c =
 
 pub overflow_add-changed : goal.overflow_add-changed
 overflow_add-changed c =
-    let s = c.before.before.before.before.before.before.before.before in
     let j = c.place-j in
     omega (
       arith,
-      rows-sum c.loop-i.invariant (omega (arith, s.requires.wide)) (omega (arith, s.requires.high))
-          c.loop-i-test.true (s.args.t.y + j.result) c.straight_row-changed.ensures,
+      rows-sum c.loop-i.invariant (omega (arith, c.requires.wide)) (omega (arith, c.requires.high))
+          c.loop-i-test.true (c.args.t.y + j.result) c.straight_row-changed.ensures,
     )
 
 pub loop-i-preserved : goal.loop-i-preserved
@@ -43,8 +42,7 @@ loop-i-preserved c =
 
 pub overflow_mul-count : goal.overflow_mul-count
 overflow_mul-count c =
-    let s = c.before.before.before in
-    omega (arith, mul-le-mul {n₁ = s.args.w} {m₁ = s.args.h} {n₂ = 2 ^ 13} {m₂ = 2 ^ 13} (omega (arith, s.requires.wide)) (omega (arith, s.requires.high)))
+    omega (arith, mul-le-mul {n₁ = c.args.w} {m₁ = c.args.h} {n₂ = 2 ^ 13} {m₂ = 2 ^ 13} (omega (arith, c.requires.wide)) (omega (arith, c.requires.high)))
 
 pub returns : goal.returns
 returns c = rows-full c.loop-i.invariant c.loop-i-test.false

@@ -18,37 +18,32 @@ overflow_add-at c = omega (arith, c.requires.0.0.wide, c.loop-i-test.true)
 
 pub overflow_sub-walk : goal.overflow_sub-walk
 overflow_sub-walk c =
-    let begin = c.before.before.before.before.before.before.before in
     let k = c.loop-i in
-    omega (arith, walk-place begin.args.t.columns _ k.invariant.1, (begin.requires.0.0.each k.i c.loop-i-test.true).left)
+    omega (arith, walk-place c.args.t.columns _ k.invariant.1, (c.requires.0.0.each k.i c.loop-i-test.true).left)
 
 pub source_at-s-requires : goal.source_at-s-requires
 source_at-s-requires c =
-    let begin = c.before.before.before.before.before.before.before in
     let k = c.loop-i in
-    rw (walk-place begin.args.t.columns _ k.invariant.1, k.invariant.0.left.long, begin.requires.1.1.0)
-    (record { small = begin.requires.0.0.small; on = (begin.requires.0.0.each k.i c.loop-i-test.true).from }, begin.requires.1.1.1.0)
+    rw (walk-place c.args.t.columns _ k.invariant.1, k.invariant.0.left.long, c.requires.1.1.0)
+    (record { small = c.requires.0.0.small; on = (c.requires.0.0.each k.i c.loop-i-test.true).from }, c.requires.1.1.1.0)
 
 pub get_pixel-old-requires : goal.get_pixel-old-requires
 get_pixel-old-requires c =
-    let begin = c.before.before.before.before.before.before.before.before.before in
     let k = c.loop-i in
-    rw k.invariant.0.left.long (begin.requires.0.0.each k.i c.loop-i-test.true).on
+    rw k.invariant.0.left.long (c.requires.0.0.each k.i c.loop-i-test.true).on
 
 pub quad_at-k-requires : goal.quad_at-k-requires
 quad_at-k-requires c = (c.requires.1.1.1.1, c.pattern_column-column.ensures.1)
 
 pub put_value-r-requires : goal.put_value-r-requires
 put_value-r-requires c =
-    let begin = c.before.before.before.before.before.before.before.before.before.before.before.before.before.before in
     let k = c.loop-i in
-    rw k.invariant.0.left.long ((begin.requires.0.0.each k.i c.loop-i-test.true).on, row_room k.invariant.0 begin.requires.0.1 c.loop-i-test.true)
+    rw k.invariant.0.left.long ((c.requires.0.0.each k.i c.loop-i-test.true).on, row_room k.invariant.0 c.requires.0.1 c.loop-i-test.true)
 
 pub next-walk-requires : goal.next-walk-requires
 next-walk-requires c =
-    let begin = c.before.before.before.before.before.before.before.before.before.before.before.before.before.before.before.before.before in
     let k = c.loop-i in
-    can-step begin.args.x begin.args.w k.i begin.requires.0.0.first begin.requires.0.0.last k.invariant.1 c.loop-i-test.true
+    can-step c.args.x c.args.w k.i c.requires.0.0.first c.requires.0.0.last k.invariant.1 c.loop-i-test.true
 
 pub overflow_add-i : goal.overflow_add-i
 overflow_add-i c = omega (arith, c.requires.0.0.wide, c.loop-i-test.true)
@@ -56,15 +51,14 @@ overflow_add-i c = omega (arith, c.requires.0.0.wide, c.loop-i-test.true)
 pub loop-i-preserved : goal.loop-i-preserved
 unfolding taken_at
 loop-i-preserved c =
-    let begin = c.before.before.before.before.before.before.before.before.before.before.before.before.before.before.before.before.before.before in
-    let a = begin.args in
+    let a = c.args in
     let k = c.loop-i in
     let more = c.loop-i-test.true in
     let given =
-    taken-given a.t a.quads k.mem (a.x + k.i) a.y (ap (λ (z : ℕ). z - 16384) (walk-place a.t.columns _ k.invariant.1)) begin.requires.1.1.0 c.source_at-s.ensures c.get_pixel-old.ensures c.pattern_column-column.ensures.0 c.quad_at-k.ensures.0
+    taken-given a.t a.quads k.mem (a.x + k.i) a.y (ap (λ (z : ℕ). z - 16384) (walk-place a.t.columns _ k.invariant.1)) c.requires.1.1.0 c.source_at-s.ensures c.get_pixel-old.ensures c.pattern_column-column.ensures.0 c.quad_at-k.ensures.0
     c.merge-v.ensures in (
       row-goes-on k.invariant.0 (a.x + k.i) more refl c.put_value-r.ensures given,
-      steps_on a.x a.w k.i begin.requires.0.0.first begin.requires.0.0.last k.invariant.1 more c.next-walk.ensures,
+      steps_on a.x a.w k.i c.requires.0.0.first c.requires.0.0.last k.invariant.1 more c.next-walk.ensures,
     )
 
 pub shape_of-mem : goal.shape_of-mem

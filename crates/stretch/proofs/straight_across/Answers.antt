@@ -18,9 +18,8 @@ pixel_at-at-requires c =
 
 pub overflow_sub-walk : goal.overflow_sub-walk
 overflow_sub-walk c =
-    let begin = c.before.before.before.before.before in
     let k = c.loop-i in
-    omega (arith, walk-place begin.args.t.columns _ k.invariant.1, (begin.requires.0.each k.i c.loop-i-test.true).left)
+    omega (arith, walk-place c.args.t.columns _ k.invariant.1, (c.requires.0.each k.i c.loop-i-test.true).left)
 
 pub pixel_at-source-requires : goal.pixel_at-source-requires
 pixel_at-source-requires c =
@@ -30,27 +29,24 @@ pixel_at-source-requires c =
 
 pub straight_pixel-requires : goal.straight_pixel-requires
 straight_pixel-requires c =
-    let begin = c.before.before.before.before.before.before.before in
     let k = c.loop-i in
-    rw (c.pixel_at-at.ensures, c.pixel_at-source.ensures, k.invariant.0.left.long, walk-place begin.args.t.columns _ k.invariant.1) ((pixel-copies begin.requires.0 begin.requires.1.1.0 k.i c.loop-i-test.true), begin.requires.1.1.1)
+    rw (c.pixel_at-at.ensures, c.pixel_at-source.ensures, k.invariant.0.left.long, walk-place c.args.t.columns _ k.invariant.1) ((pixel-copies c.requires.0 c.requires.1.1.0 k.i c.loop-i-test.true), c.requires.1.1.1)
 
 pub overflow_add-r : goal.overflow_add-r
 overflow_add-r c = let k = c.loop-i in omega (arith, k.invariant.0.left.upto.changed, c.one-r.ensures.1)
 
 pub next-walk-requires : goal.next-walk-requires
 next-walk-requires c =
-    let begin = c.before.before.before.before.before.before.before.before.before.before.before in
     let k = c.loop-i in
-    can-step begin.args.x begin.args.w k.i begin.requires.0.first begin.requires.0.last k.invariant.1 c.loop-i-test.true
+    can-step c.args.x c.args.w k.i c.requires.0.first c.requires.0.last k.invariant.1 c.loop-i-test.true
 
 pub loop-i-preserved : goal.loop-i-preserved
 loop-i-preserved c =
-    let begin = c.before.before.before.before.before.before.before.before.before.before.before.before in
     let k = c.loop-i in
     let more = c.loop-i-test.true in (
-      row-copies begin.requires.0 begin.requires.1.1.0 k.i k.invariant.0 k.invariant.1 more
+      row-copies c.requires.0 c.requires.1.1.0 k.i k.invariant.0 k.invariant.1 more
           (rw (c.pixel_at-at.ensures, c.pixel_at-source.ensures) at c.straight_pixel.ensures) c.one-r.ensures.0,
-      steps_on begin.args.x begin.args.w k.i begin.requires.0.first begin.requires.0.last k.invariant.1 more c.next-walk.ensures,
+      steps_on c.args.x c.args.w k.i c.requires.0.first c.requires.0.last k.invariant.1 more c.next-walk.ensures,
     )
 
 pub shape_of-mem : goal.shape_of-mem

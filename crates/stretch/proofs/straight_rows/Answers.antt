@@ -30,11 +30,10 @@ straight_row-changed-requires c =
 
 pub overflow_add-changed : goal.overflow_add-changed
 overflow_add-changed c =
-    let begin = c.before.before.before.before.before.before.before.before in
     let k = c.loop-j in
     omega (
       arith,
-      rows-sum k.invariant.0 (omega (arith, begin.requires.0.can.wide)) (omega (arith, begin.requires.0.can.high)) c.loop-j-test.true (begin.args.y + k.j)
+      rows-sum k.invariant.0 (omega (arith, c.requires.0.can.wide)) (omega (arith, c.requires.0.can.high)) c.loop-j-test.true (c.args.y + k.j)
           c.straight_row-changed.ensures,
     )
 
@@ -58,8 +57,7 @@ loop-j-preserved c =
 
 pub overflow_mul-count : goal.overflow_mul-count
 overflow_mul-count c =
-    let s = c.before.before.before in
-    omega (arith, mul-le-mul {n₁ = s.args.w} {m₁ = s.args.h} {n₂ = 2 ^ 13} {m₂ = 2 ^ 13} (omega (arith, s.requires.0.can.wide)) (omega (arith, s.requires.0.can.high)))
+    omega (arith, mul-le-mul {n₁ = c.args.w} {m₁ = c.args.h} {n₂ = 2 ^ 13} {m₂ = 2 ^ 13} (omega (arith, c.requires.0.can.wide)) (omega (arith, c.requires.0.can.high)))
 
 pub returns : goal.returns
 returns c = rows-full c.loop-j.invariant.0 c.loop-j-test.false

@@ -44,18 +44,16 @@ point_count-requires c = c.requires.ahead.line
 
 pub put_value_at-tally-requires : goal.put_value_at-tally-requires
 put_value_at-tally-requires c =
-    let b = c.before.before.before.before.before.before.before.before.before.before.before.before in
-    let p = b.requires in
+    let p = c.requires in
     let k = c.loop-i in
-    let h : k.i < point_count b.args.l = omega (arith, c.wide.ensures, c.point_count.ensures) in (
+    let h : k.i < point_count c.args.l = omega (arith, c.wide.ensures, c.point_count.ensures) in (
       rw k.invariant.0.long (pixel-held (in-rows p.flat) (record { colour = p.surface; on = p.on k.i h }) _ (k.invariant.1 h).at),
-      room-first k.invariant.0.upto (omega (arith, longer-lt p.ahead.line, count-le b.args.l)),
+      room-first k.invariant.0.upto (omega (arith, longer-lt p.ahead.line, count-le c.args.l)),
     )
 
 pub walk_on-w-requires : goal.walk_on-w-requires
 walk_on-w-requires c =
-    let b = c.before.before.before.before.before.before.before.before.before.before.before.before.before.before.before in
-    rw c.steps_of-t.ensures (steps-small _ _ b.args.l b.requires.ahead.line)
+    rw c.steps_of-t.ensures (steps-small _ _ c.args.l c.requires.ahead.line)
 
 pub overflow_add-i : goal.overflow_add-i
 overflow_add-i c = omega (arith, c.wide.ensures, c.point_count.ensures)
@@ -66,9 +64,8 @@ loop-i-smaller c = omega (arith, c.wide.ensures, c.point_count.ensures)
 pub loop-i-preserved : goal.loop-i-preserved
 unfolding paint
 loop-i-preserved c =
-    let b = c.before.before.before.before.before.before.before.before.before.before.before.before.before.before.before.before in
-    let a = b.args in
-    let p = b.requires in
+    let a = c.args in
+    let p = c.requires in
     let k = c.loop-i in
     let s = a.ink.target in
     let h : k.i < point_count a.l = omega (arith, c.wide.ensures, c.point_count.ensures) in

@@ -18,17 +18,15 @@ overflow_add-at-2 c = omega (arith, c.requires.0.small, product_lt 32 17 {a = c.
 
 pub bounds-mem-at : goal.bounds-mem-at
 bounds-mem-at c =
-    let b = c.before.before.before.before.before.before in
-    let a = b.args in
-    rw (c.wide.ensures, c.wide-2.ensures, c.wide-3.ensures, c.wide-4.ensures, ← byte_at-flat a.s (a.x / 8) a.y b.requires.1) (mono-byte b.requires.0)
+    let a = c.args in
+    rw (c.wide.ensures, c.wide-2.ensures, c.wide-3.ensures, c.wide-4.ensures, ← byte_at-flat a.s (a.x / 8) a.y c.requires.1) (mono-byte c.requires.0)
 
 pub overflow_cast-result : goal.overflow_cast-result
 overflow_cast-result c = omega (arith, c.shared_slice_known-2-1.given (c.wide.result + c.wide-2.result * c.wide-3.result + c.wide-4.result))
 
 pub returns : goal.returns
 returns c =
-    let b = c.before.before.before.before.before.before in
-    let a = b.args in (
-      rw (c.wide.ensures, c.wide-2.ensures, c.wide-3.ensures, c.wide-4.ensures, byte_at-flat a.s (a.x / 8) a.y b.requires.1),
+    let a = c.args in (
+      rw (c.wide.ensures, c.wide-2.ensures, c.wide-3.ensures, c.wide-4.ensures, byte_at-flat a.s (a.x / 8) a.y c.requires.1),
       omega (arith, c.shared_slice_known-2-1.given (c.wide.result + c.wide-2.result * c.wide-3.result + c.wide-4.result)),
     )

@@ -33,6 +33,5 @@ overflow_add-result-2 c =
 pub returns : goal.returns
 unfolding byte_of
 returns c =
-    let b = c.before.before.before.before.before in
-    let a = b.args in
-    rw (byte_at-flat a.s (a.x * a.s.bytes + 0) a.y b.requires.1, c.wide.ensures, c.wide-2.ensures, c.wide-3.ensures, c.wide-4.ensures, c.wide-5.ensures) (omega arith)
+    let a = c.args in
+    rw (byte_at-flat a.s (a.x * a.s.bytes + 0) a.y c.requires.1, c.wide.ensures, c.wide-2.ensures, c.wide-3.ensures, c.wide-4.ensures, c.wide-5.ensures) (omega arith)

@@ -10,6 +10,5 @@ store_bytes-requires c =
 
 pub returns : goal.returns
 returns c =
-    let b = c.before.before.before.before.before.before in
-    let a = b.args in
-    pixel-stored a.s (in-rows b.requires.1) a.x a.y _ c.place_in_rows-at.ensures a.v a.mem.now c.store_bytes.ensures
+    let a = c.args in
+    pixel-stored a.s (in-rows c.requires.1) a.x a.y _ c.place_in_rows-at.ensures a.v a.mem.now c.store_bytes.ensures

@@ -20,8 +20,7 @@ paint_row-n-requires c =
 
 pub loop-j-preserved : goal.loop-j-preserved
 loop-j-preserved c =
-    let b = c.before.before.before.before in
-    rows-go-on b.loop-j.invariant b.place-y.result b.loop-j-test.true b.place-y.ensures c.paint_row-n.ensures
+    rows-go-on c.loop-j.invariant c.place-y.result c.loop-j-test.true c.place-y.ensures c.paint_row-n.ensures
 
 pub returns : goal.returns
 returns c = rows-ended c.loop-j.invariant c.loop-j-test.false

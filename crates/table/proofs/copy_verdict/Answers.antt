@@ -19,7 +19,6 @@ source_rows-requires c =
 
 pub returns : goal.returns
 returns c =
-    let k = c.before.before.before.before in
-    let f = k.both_fine in
-    rw (k.target_surface-t.ensures, c.source_surface-s.ensures, c.copy_cut-c.ensures) at c.source_rows.ensures
-    ∙ copy-rows k.args.r k.args.len (sym f.ensures ∙ not-false f.result k.if-not-both_fine.false)
+    let f = c.both_fine in
+    rw (c.target_surface-t.ensures, c.source_surface-s.ensures, c.copy_cut-c.ensures) at c.source_rows.ensures
+    ∙ copy-rows c.args.r c.args.len (sym f.ensures ∙ not-false f.result c.if-not-both_fine.false)

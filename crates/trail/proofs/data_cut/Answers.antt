@@ -9,9 +9,8 @@ use Rattle.trail.proofs.data_cut.Goals as goal
 
 pub data_box-requires : goal.data_box-requires
 data_box-requires c =
-    let start = c.before.before in rw (c.decode_feed.ensures, c.fill_cut.ensures) (fill-boxable start.args.r start.args.taken start.args.n start.requires.1 start.requires.0)
+    rw (c.decode_feed.ensures, c.fill_cut.ensures) (fill-boxable c.args.r c.args.taken c.args.n c.requires.1 c.requires.0)
 
 pub returns : goal.returns
 returns c =
-    let start = c.before.before.before in
-    c.data_box.ensures ∙ ap₂ (λ (f : Feed) (k : Cut). data_box f k start.args.taken start.args.n) c.decode_feed.ensures c.fill_cut.ensures
+    c.data_box.ensures ∙ ap₂ (λ (f : Feed) (k : Cut). data_box f k c.args.taken c.args.n) c.decode_feed.ensures c.fill_cut.ensures

@@ -9,10 +9,9 @@ use Rattle.trail.proofs.extent_of.Goals as goal
 
 pub extent_of-requires : goal.extent_of-requires
 extent_of-requires c =
-    let start = c.before.before in rw (c.target_surface.ensures, c.box_of-c.ensures) (sized start.args.r start.args.taken start.args.n start.requires)
+    rw (c.target_surface.ensures, c.box_of-c.ensures) (sized c.args.r c.args.taken c.args.n c.requires)
 
 pub returns : goal.returns
 returns c =
-    let start = c.before.before.before in
     c.extent_of.ensures
-    ∙ ap₂ (λ (s : Surface) (b : Cut). extent_of s b.x b.y b.w b.h start.args.count) c.target_surface.ensures c.box_of-c.ensures
+    ∙ ap₂ (λ (s : Surface) (b : Cut). extent_of s b.x b.y b.w b.h c.args.count) c.target_surface.ensures c.box_of-c.ensures

@@ -8,7 +8,7 @@ use Rattle.trail.proofs.line_cut.Goals as goal
 
 pub line_box-requires : goal.line_box-requires
 line_box-requires c =
-    let start = c.before.before in rw (c.decode_line.ensures, c.decode_clip.ensures) (line-placed start.args.r, clip-bits start.args.r)
+    rw (c.decode_line.ensures, c.decode_clip.ensures) (line-placed c.args.r, clip-bits c.args.r)
 
 pub returns : goal.returns
 returns c = c.line_box.ensures ∙ ap₂ line_box c.decode_line.ensures c.decode_clip.ensures

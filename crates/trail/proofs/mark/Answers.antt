@@ -22,17 +22,15 @@ extent_of-e-requires c = record { len = length c.args.mem.now; goes = c.requires
 
 pub mark_pages-requires : goal.mark_pages-requires
 mark_pages-requires c =
-    let start = c.before.before.before.before.before in
-    let a = start.args in
+    let a = c.args in
     let b = box_by a.r a.blit.taken (length a.words.now) in
     rw c.extent_of-e.ensures (extent-past (target a.r) b.x b.y b.w b.h a.count)
 
 pub returns-then-e : goal.returns-then-e
 returns-then-e c =
-    let start = c.before.before.before.before.before.before in
-    let a = start.args in
+    let a = c.args in
     let b = bank_of a.r a.pattern.now in
     let whole = sym (ap (λ (e : Extent). e.whole) c.extent_of-e.ensures) ∙ c.if-e.true in
     c.mark_pages.ensures
     ∙ ap (λ (e : Extent). marked_at (starts e.first (e.past - e.first)) a.marks.now) c.extent_of-e.ensures
-    ∙ sym (extent-whole (lies b a.blit a.words.now a.mem.now a.count start.requires) whole a.marks.now)
+    ∙ sym (extent-whole (lies b a.blit a.words.now a.mem.now a.count c.requires) whole a.marks.now)

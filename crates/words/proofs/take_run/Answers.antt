@@ -61,8 +61,7 @@ loop-sums-smaller-then-bank-eq3 c = rw c.add-sums.ensures (omega (arith, ((was-f
 
 pub loop-sums-preserved-then-bank-eq3 : goal.loop-sums-preserved-then-bank-eq3
 loop-sums-preserved-then-bank-eq3 c =
-    let l = c.before.before.before.before.before.before.before.before.before.before.before.before.before.before.before in
-    rw (c.add-sums.ensures, c.end_feed-bank.ensures) (((was-fed c.before.before.before.before.before.before.before).goes c.if-fed-ne0.false).goes refl ∙ l.loop-sums.invariant.0, c.feed_run-fed.auto.mem ∙ l.loop-sums.invariant.1)
+    rw (c.add-sums.ensures, c.end_feed-bank.ensures) (((was-fed c.before.before.before.before.before.before.before).goes c.if-fed-ne0.false).goes refl ∙ c.loop-sums.invariant.0, c.feed_run-fed.auto.mem ∙ c.loop-sums.invariant.1)
 
 -- the word that was started
 some : (c : goal.After-start-act) → let l = c.before.before.before.before.before.before.before.before.before.before.before in l.loop-sums.sums.taken < length (W l)

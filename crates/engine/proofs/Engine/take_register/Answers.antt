@@ -16,7 +16,6 @@ returns-then-self c = rw (ne_eqb _ _ c.if-offset-eq112.false) (waits c.args.self
 pub returns : goal.returns
 unfolding to_register stored_in
 returns c =
-    let k = c.before.before.before.before in
-    let a = k.args in
-    rw (ne_eqb _ _ k.if-offset-eq112.false)
-    (rw (c.follow-rooms.ensures, k.store-bank.ensures) (rests a.self.blit.waiting _ _ k.if-self.false))
+    let a = c.args in
+    rw (ne_eqb _ _ c.if-offset-eq112.false)
+    (rw (c.follow-rooms.ensures, c.store-bank.ensures) (rests a.self.blit.waiting _ _ c.if-self.false))
