@@ -32,6 +32,6 @@ follow-requires c = (c.put_plain-answer.auto.s ∙ c.requires.0, omega (arith, (
 
 pub returns : goal.returns
 returns c =
-    let t = through f.before.before in
+    let t = through c.before in
     let a = c.args in
     rw (c.follow.ensures, t.0) (t.2 (followed (with_word a.s.now a.offset (kept a.offset a.word)) a.len a.offset))

@@ -55,7 +55,7 @@ run-requires-in-Nowhere c = (whole c.before.before.before.before.before.before, 
 
 pub returns-else-offset-eq112 : goal.returns-else-offset-eq112
 returns-else-offset-eq112 c =
-    let e = f.before.before.before.before.before.before in
+    let e = c.before in
     let a = e.args in
     register-written (S e) (M e) a.offset a.word (whole e) (each-byte e) (omega arith) (sym c.find_place-place.ensures ∙ c.in-Register.is) c.if-offset-eq112.false c.put_register.ensures
 

@@ -43,10 +43,10 @@ value_of-v-requires c = (c.requires.opened.rows.sizes.bytes, omega arith)
 
 pub mark_one-requires : goal.mark_one-requires
 mark_one-requires c =
-    let w = whole-width l.args.feed (l.args.o % l.args.feed.step + 1) in
+    let w = whole-width c.args.feed (c.args.o % c.args.feed.step + 1) in
     let f = c.whole_pixels-end.ensures in
     let u = c.loop-i-test.true in
-    (l.requires, (omega arith, c.if-feed-j.false))
+    (c.requires, (omega arith, c.if-feed-j.false))
 
 pub overflow_add-i : goal.overflow_add-i
 overflow_add-i c = omega arith

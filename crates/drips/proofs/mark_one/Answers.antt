@@ -24,9 +24,9 @@ overflow_sub-y c = omega (arith, position c.before.before.before)
 pub mark_pixel-requires : goal.mark_pixel-requires
 mark_pixel-requires c =
     record {
-      len = t.requires.0.len;
-      limit = t.requires.0.limit;
-      on = t.requires.0.opened.covered.on t.args.i t.args.j t.requires.1.0 t.requires.1.1 (sym c.covers.ensures ∙ c.if-covers.true);
+      len = c.requires.0.len;
+      limit = c.requires.0.limit;
+      on = c.requires.0.opened.covered.on c.args.i c.args.j c.requires.1.0 c.requires.1.1 (sym c.covers.ensures ∙ c.if-covers.true);
     }
 
 pub returns-else-is_left : goal.returns-else-is_left

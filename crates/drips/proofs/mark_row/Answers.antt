@@ -16,17 +16,17 @@ returns-then-c-y c =
 
 pub mark_rect-requires : goal.mark_rect-requires
 mark_rect-requires c =
-    let a = t.args in
+    let a = c.args in
     let e = c.left_of-left.ensures in
     let f = c.right_of-right.ensures in
     rw (e, f)
-    (row-markable a.ink a.c a.feed a.from a.past a.j t.requires.0 t.requires.1 (omega (arith, r.if-y-c.false)) (omega (arith, r.if-c-y.false))
+    (row-markable a.ink a.c a.feed a.from a.past a.j c.requires.0 c.requires.1 (omega (arith, c.if-y-c.false)) (omega (arith, c.if-c-y.false))
     (omega (arith, c.if-left-right.true)))
 
 pub returns-then-left-right : goal.returns-then-left-right
 returns-then-left-right c =
-    let a = r.args in
-    row-marked a.ink a.c a.feed a.from a.past a.j a.marks.now (omega (arith, r.if-y-c.false)) (omega (arith, r.if-c-y.false))
+    let a = c.args in
+    row-marked a.ink a.c a.feed a.from a.past a.j a.marks.now (omega (arith, c.if-y-c.false)) (omega (arith, c.if-c-y.false))
     (rw (← c.left_of-left.ensures, ← c.right_of-right.ensures) c.mark_rect.ensures)
 
 pub returns-else-left-right : goal.returns-else-left-right

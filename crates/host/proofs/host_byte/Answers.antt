@@ -49,10 +49,10 @@ value_of-v-requires c = (c.requires.0.rows.sizes.bytes, omega arith)
 pub host_pixel-r-requires : goal.host_pixel-r-requires
 host_pixel-r-requires c =
     let left = c.loop-i.invariant.0 in
-    let w = whole-width l.args.feed (l.args.o % l.args.feed.step + 1) in
+    let w = whole-width c.args.feed (c.args.o % c.args.feed.step + 1) in
     let f = c.whole_pixels-end.ensures in
     let u = c.loop-i-test.true in
-    rw left.long (l.requires.0, (omega arith, (c.if-feed-j.false, room-left l.requires.1 left.upto (omega arith))))
+    rw left.long (c.requires.0, (omega arith, (c.if-feed-j.false, room-left c.requires.1 left.upto (omega arith))))
 
 pub overflow_add-i : goal.overflow_add-i
 overflow_add-i c = omega arith

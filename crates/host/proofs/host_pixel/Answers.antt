@@ -20,8 +20,8 @@ overflow_sub-row c = omega (arith, position c)
 pub put_source-requires : goal.put_source-requires
 put_source-requires c =
     record {
-      on = t.requires.0.covered.on t.args.i t.args.j t.requires.1.0 t.requires.1.1.0 (sym c.covers.ensures ∙ c.if-covers.true);
-      room = t.requires.1.1.1;
+      on = c.requires.0.covered.on c.args.i c.args.j c.requires.1.0 c.requires.1.1.0 (sym c.covers.ensures ∙ c.if-covers.true);
+      room = c.requires.1.1.1;
     }
 
 pub returns-then-covers : goal.returns-then-covers

@@ -32,9 +32,9 @@ plain_colour-s-requires c = c.requires.1.1
 pub plain_pixel-r-requires : goal.plain_pixel-r-requires
 plain_pixel-r-requires c =
     let now = c.loop-i.invariant in
-    let w = l.requires.1.0 in
+    let w = c.requires.1.0 in
     rw now.left.long
-    (l.requires.0, (omega (arith, c.loop-i-test.true, w.past), (w.row, (stretch-room now 1 w.room (omega (arith, c.loop-i-test.true)), c.plain_colour-s.ensures))))
+    (c.requires.0, (omega (arith, c.loop-i-test.true, w.past), (w.row, (stretch-room now 1 w.room (omega (arith, c.loop-i-test.true)), c.plain_colour-s.ensures))))
 
 pub overflow_add-i : goal.overflow_add-i
 overflow_add-i c = omega (arith, c.loop-i-test.true)

@@ -78,12 +78,12 @@ loop-t-smaller c =
 pub loop-t-preserved : goal.loop-t-preserved
 loop-t-preserved c =
     let k = c.loop-t in
-    let a = l.args in
+    let a = c.args in
     let taken = c.loop-t-test.true in
     let at = k.invariant.1 taken in
     let m = c.least-m in (
-      word-takes k.invariant.0 l.requires.0.opened.rows.sizes m.result (omega (arith, m.ensures, taken)) (rw at.0 c.plain_row-r.ensures),
-      λ more. (omega (arith, m.ensures, taken, at.0, at.1, add-mul k.j 1 a.feed.step), step-some a.feed l.requires.0.opened.rows),
+      word-takes k.invariant.0 c.requires.0.opened.rows.sizes m.result (omega (arith, m.ensures, taken)) (rw at.0 c.plain_row-r.ensures),
+      λ more. (omega (arith, m.ensures, taken, at.0, at.1, add-mul k.j 1 a.feed.step), step-some a.feed c.requires.0.opened.rows),
     )
 
 pub shape_of-mem : goal.shape_of-mem

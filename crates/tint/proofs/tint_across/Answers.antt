@@ -89,5 +89,4 @@ returns c =
     let count = l.invariant.0 ∙ ap (total a.adds.now a.first) end in
     rw (made, count)
     (row-blended a.s a.keep.now a.flip.now a.adds.now a.first a.x a.y p.0.flat p.0.colour.some p.0.colour.small.bytes
-    (λ i. omega (arith, c.shared_slice_known-1.given i)) (λ i. omega (arith, c.shared_slice_known-2-1.given i))
-    p.0.sound a.w a.mem.now p.2 (λ i. omega (arith, c.slice_known-1.given i)))
+    (λ i. omega (arith, c.type_inv.keep i)) (λ i. omega (arith, c.type_inv.flip i)) p.0.sound a.w a.mem.now p.2 (λ i. omega (arith, c.slice_known-1.given i)))
