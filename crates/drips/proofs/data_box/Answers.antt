@@ -21,8 +21,8 @@ returns c =
       c.least-past.ensures,
       c.less.ensures,
       c.past_row.ensures,
-      past.least-low.ensures,
-      past.most.ensures,
-      past.less-first.ensures,
-      low.first_row.ensures,
+      c.least-low.ensures,
+      c.most.ensures,
+      c.less-first.ensures,
+      c.first_row.ensures,
     )

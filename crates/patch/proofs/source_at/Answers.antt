@@ -15,18 +15,18 @@ overflow_add-sy c = omega (arith, c.requires)
 
 pub get_bit-requires : goal.get_bit-requires
 get_bit-requires c =
-    record { small = copies.requires.small; mono = c.if-bytes-eq0.true; on = copies.requires.on (not-false copies.args.t.copies c.if-not-t.false) }
+    record { small = c.requires.small; mono = c.if-bytes-eq0.true; on = c.requires.on (not-false c.args.t.copies c.if-not-t.false) }
 
 pub returns-then-bytes-eq0 : goal.returns-then-bytes-eq0
 unfolding source_by source_place
 returns-then-bytes-eq0 c =
-    rw (not-false copies.args.t.copies c.if-not-t.false, eq-eqb _ _ c.if-bytes-eq0.true, ← c.get_bit.ensures) c.bit_source.ensures
+    rw (not-false c.args.t.copies c.if-not-t.false, eq-eqb _ _ c.if-bytes-eq0.true, ← c.get_bit.ensures) c.bit_source.ensures
 
 pub get_pixel-requires : goal.get_pixel-requires
 get_pixel-requires c =
-    record { colour = record { small = copies.requires.small; some = pos-of-ne c.if-bytes-eq0.false }; on = copies.requires.on (not-false copies.args.t.copies c.if-not-t.false) }
+    record { colour = record { small = c.requires.small; some = pos-of-ne c.if-bytes-eq0.false }; on = c.requires.on (not-false c.args.t.copies c.if-not-t.false) }
 
 pub returns : goal.returns
 unfolding source_by source_place
 returns c =
-    rw (not-false copies.args.t.copies c.if-not-t.false, ne_eqb _ _ c.if-bytes-eq0.false, ← c.get_pixel.ensures) c.colour_source.ensures
+    rw (not-false c.args.t.copies c.if-not-t.false, ne_eqb _ _ c.if-bytes-eq0.false, ← c.get_pixel.ensures) c.colour_source.ensures

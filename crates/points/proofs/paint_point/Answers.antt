@@ -1,17 +1,11 @@
 -- `points::paint_point` meets its contract: a point outside the clip is passed, one inside it is put there.
 -- Assumes nothing.
 use native.Mathlib.Omega.{arith}
-use borrow.Author.Tests.{not-true, not-false}
-use mathlib.Core.Bool.{true}
-use mathlib.Core.Path.{◌≡◌, sym, ◌∙◌}
+use mathlib.Core.Path.{sym, ◌∙◌}
 use Rattle.paint.specs.Paint.{tallied}
-use Rattle.paint.specs.Clip.{in_clip}
 use Rattle.paint.proofs.ClipLaws.{in-clip}
 use Rattle.line.proofs.DrawLaws.{point-on, paint-covered, paint-clipped}
 use Rattle.points.proofs.paint_point.Goals as goal
-
-inside : (c : goal.Else-not-covers) → in_clip c.args.c c.args.p.x c.args.p.y ≡ true
-inside c = sym c.covers.ensures ∙ c.if-not-covers.false
 
 pub returns-then-not-covers : goal.returns-then-not-covers
 returns-then-not-covers c =
@@ -20,23 +14,23 @@ returns-then-not-covers c =
     (paint-clipped a.ink a.pattern.now a.c a.pen a.p a.done.style (tallied a.mem.now a.done.tally) out, c.style_after-next.ensures)
 
 pub overflow_sub-x : goal.overflow_sub-x
-overflow_sub-x c = omega (arith, in-clip _ _ _ (inside c.before))
+overflow_sub-x c = omega (arith, in-clip _ _ _ (sym c.covers.ensures ∙ c.if-not-covers.false))
 
 pub overflow_sub-y : goal.overflow_sub-y
-overflow_sub-y c = omega (arith, in-clip _ _ _ (inside c.before.before))
+overflow_sub-y c = omega (arith, in-clip _ _ _ (sym c.covers.ensures ∙ c.if-not-covers.false))
 
 pub put_point-requires : goal.put_point-requires
 put_point-requires c =
     let a = c.args in
     let p = c.requires in
-    let k = in-clip _ _ _ (inside c.before.before.before.before) in (
-      record { on = record { colour = p.surface; on = point-on a.ink.target _ a.c a.p p.on (inside c.before.before.before.before) }; across = omega (arith, p.clip); down = omega (arith, p.clip) },
+    let k = in-clip _ _ _ (sym c.covers.ensures ∙ c.if-not-covers.false) in (
+      record { on = record { colour = p.surface; on = point-on a.ink.target _ a.c a.p p.on (sym c.covers.ensures ∙ c.if-not-covers.false) }; across = omega (arith, p.clip); down = omega (arith, p.clip) },
       p.room,
     )
 
 pub returns : goal.returns
 returns c =
     let a = c.args in (
-      paint-covered a.ink a.pattern.now a.c a.pen a.p a.done.style (tallied a.mem.now a.done.tally) (inside c.before.before.before.before.before.before.before) c.stipple_bit-bit.ensures c.put_point.ensures,
+      paint-covered a.ink a.pattern.now a.c a.pen a.p a.done.style (tallied a.mem.now a.done.tally) (sym c.covers.ensures ∙ c.if-not-covers.false) c.stipple_bit-bit.ensures c.put_point.ensures,
       c.style_after-next.ensures,
     )
