@@ -18,7 +18,7 @@ returns c =
     let v = c.if-set in
     let o : cond (a.p.clear && not (eqb a.bit 1)) none (some v.v) ≡ coloured a.p a.bit =
     elim v.branch [
-      then-set w ↦ let e : eqb a.bit 1 ≡ true = eq-eqb _ _ w.if-set.true in rw (w.v-is, e, and-false a.p.clear)
+      | then-set w ↦ let e : eqb a.bit 1 ≡ true = eq-eqb _ _ w.if-set.true in rw (w.v-is, e, and-false a.p.clear)
       | else-set w ↦ let e : eqb a.bit 1 ≡ false = ne_eqb _ _ w.if-set.false in rw (w.v-is, e, and-true a.p.clear)
     ] in
     c.put_value_at.ensures ∙ ap (λ (u : Option ℕ). dab_at a.at a.n u (tallied a.mem.now a.tally)) o
