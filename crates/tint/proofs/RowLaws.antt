@@ -128,7 +128,7 @@ row-held {s} {len = len} {x = x} {w = w} {y = y} can i h =
 
 -- and so can parts of one
 module _ {s : Surface} {keep flip adds : List ℕ} {first len x w y : ℕ} (can : CanTint s keep flip adds first len x w y) where
-  can-from : (i k : ℕ) → i + k ≤ w → CanTint s keep flip adds first len (x + i) k y
+  pub can-from : (i k : ℕ) → i + k ≤ w → CanTint s keep flip adds first len (x + i) k y
   can-from i k fits = record {
     flat = can.flat;
     colour = can.colour;

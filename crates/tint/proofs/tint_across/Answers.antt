@@ -4,6 +4,7 @@ use native.Mathlib.Omega.{arith}
 use mathlib.Core.Path.{◌≡◌, refl, ap, ap₂, ◌∙◌}
 use mathlib.Core.List.{List}
 use Prim.Native.Nat.{ℕ, ◌+◌, ◌*◌, ◌<◌, ◌≤◌}
+use borrow.Author.Rules.{rules}
 use lib.ListN.{get_or}
 use Rattle.surface.specs.declared.Surface.{Surface}
 use Rattle.tint.specs.Asked.{CanTint}
@@ -89,4 +90,4 @@ returns c =
     let count = l.invariant.0 ∙ ap (total a.adds.now a.first) end in
     rw (made, count)
     (row-blended a.s a.keep.now a.flip.now a.adds.now a.first a.x a.y p.0.flat p.0.colour.some p.0.colour.small.bytes
-    (λ i. omega (arith, c.type_inv.keep i)) (λ i. omega (arith, c.type_inv.flip i)) p.0.sound a.w a.mem.now p.2 (λ i. omega (arith, c.slice_known-1.given i)))
+    (λ i. omega (arith, c.type_inv.keep i)) (λ i. omega (arith, c.type_inv.flip i)) p.0.sound a.w a.mem.now p.2 (λ i. search rules))

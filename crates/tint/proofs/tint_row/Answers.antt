@@ -2,7 +2,7 @@
 -- Assumes nothing.
 use native.Mathlib.Omega.{arith}
 use mathlib.Core.Path.{refl, ◌∙◌}
-use Prim.Native.Nat.{◌+◌, ◌-◌, ◌≤◌}
+use Prim.Native.Nat.{◌+◌, ◌≤◌}
 use Rattle.paint.proofs.Tallies.{room-left}
 use Rattle.paint.proofs.Loops.{row-begins, row-ended}
 use Rattle.tint.proofs.RowLaws.{can-part, tint-takes}
@@ -12,35 +12,29 @@ pub loop-i-init : goal.loop-i-init
 loop-i-init c = (row-begins, λ l. refl, refl)
 
 -- so many more are there
-module _ (c : goal.After-least-k) where
-  abbrev start : goal.Start
-  start = c.before.before.before.before.before.before.before
-
-  part : (c.loop-i.i + c.least-k.result ≤ start.args.w) × (c.least-k.result ≤ 256)
-  part = omega (arith, c.least-k.ensures, c.loop-i-test.true)
-
 pub overflow_add-x : goal.overflow_add-x
-overflow_add-x c = omega (arith, c.loop-i-test.true, (start c.before.before).pre.0.on.wide)
+overflow_add-x c = omega (arith, c.loop-i-test.true, c.requires.0.on.wide)
 
 pub tint_part-r-requires : goal.tint_part-r-requires
 tint_part-r-requires c =
-    let b = c.before.before in
-    let p = (start b).requires in
-    let l = b.loop-i in
-    ((can-part p.0 l.invariant.0 b.least-k.result (part b).0, ((part b).1, omega (arith, p.1.0, l.invariant.2))), room-left p.1.1 l.invariant.0.left.upto (part b).0)
+    let p = c.requires in
+    let l = c.loop-i in
+    let fits : l.i + c.least-k.result ≤ c.args.w = omega (arith, c.least-k.ensures, c.loop-i-test.true) in
+    ((can-part p.0 l.invariant.0 c.least-k.result fits, (omega (arith, c.least-k.ensures), omega (arith, p.1.0, l.invariant.2))), room-left p.1.1 l.invariant.0.left.upto fits)
 
 pub overflow_add-i : goal.overflow_add-i
-overflow_add-i c = omega (arith, (part c.before.before.before.before.before.before.before).0)
+overflow_add-i c = omega (arith, c.least-k.ensures, c.loop-i-test.true)
 
 pub loop-i-smaller : goal.loop-i-smaller
 loop-i-smaller c = omega (arith, c.least-k.ensures, c.loop-i-test.true)
 
 pub loop-i-preserved : goal.loop-i-preserved
 loop-i-preserved c =
-    let b = c.before.before.before.before.before.before.before in
-    let l = b.loop-i in (
-      tint-takes (start b).requires.0 l.invariant.0 b.least-k.result (part b).0 (l.invariant.1 b.loop-i-test.true) c.tint_part-r.ensures,
-      λ more. omega (arith, b.least-k.ensures, l.invariant.1 b.loop-i-test.true),
+    let l = c.loop-i in
+    let taken = c.loop-i-test.true in
+    let whole = l.invariant.1 taken in (
+      tint-takes c.requires.0 l.invariant.0 c.least-k.result (omega (arith, c.least-k.ensures, taken)) whole c.tint_part-r.ensures,
+      λ more. omega (arith, c.least-k.ensures, whole),
       c.tint_part-r.auto.old ∙ l.invariant.2,
     )
 

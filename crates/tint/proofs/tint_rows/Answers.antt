@@ -2,8 +2,7 @@
 -- Assumes nothing.
 use native.Mathlib.Omega.{arith}
 use mathlib.Core.Path.{refl, ◌∙◌}
-use mathlib.Core.Bool.{false}
-use Prim.Native.Nat.{◌+◌, ◌-◌}
+use Prim.Native.Nat.{◌+◌}
 use borrow.Author.Rules.{rules}
 use Rattle.paint.specs.Paint.{tallied}
 use Rattle.paint.proofs.Loops.{rows-begin, rows-room, rows-go-on, rows-ended}
@@ -43,10 +42,9 @@ loop-j-smaller c = omega (arith, c.loop-j-test.true)
 
 pub loop-j-preserved : goal.loop-j-preserved
 loop-j-preserved c =
-    let b = c.before.before.before.before.before.before.before.before in
-    let l = b.loop-j in
-    let a = b.args in (
-      rows-go-on l.invariant.0 (a.y + l.j) b.loop-j-test.true refl
+    let l = c.loop-j in
+    let a = c.args in (
+      rows-go-on l.invariant.0 (a.y + l.j) c.loop-j-test.true refl
           (c.tint_row-n.ensures ∙ down-row a.s a.keep.now a.flip.now a.adds.now a.x a.y a.w l.j (tallied l.mem l.n)),
       c.tint_row-n.auto.old ∙ l.invariant.1,
     )
