@@ -1,6 +1,6 @@
 -- `strokes::enter` meets its contract: a point is what is sought, or it is passed.
 -- Assumes nothing.
-use Rattle.std.proofs.Common.{◌-◌, true, arith}
+use Rattle.std.proofs.Common.{arith}
 use Rattle.line.proofs.TreadLaws.{way-starts, way-placed, way-small}
 use Rattle.strokes.proofs.PartLaws.{search-finds, search-goes, search-ends}
 use Rattle.strokes.proofs.enter.Goals as goal

@@ -1,6 +1,6 @@
 -- `strokes::paint_line` meets its contract: walking, with a stipple or without, with the pattern or in part, and going point by point come to the same.
 -- Assumes nothing.
-use Rattle.std.proofs.Common.{not, ◌&&◌, List, sym, ap, ◌∙◌, arith}
+use Rattle.std.proofs.Common.{◌≡◌, false, not, ◌&&◌, List, sym, ap, ◌∙◌, arith}
 use borrow.Author.Tests.{not-true}
 use Rattle.surface.proofs.OnLaws.{and_left, and_right}
 use Rattle.paint.specs.Paint.{state, Touch, paint}
@@ -18,7 +18,7 @@ walk_plain-tally-requires c =
 pub returns-then-not-pen : goal.returns-then-not-pen
 returns-then-not-pen c =
     let a = c.args in
-    let no = not-true _ c.if-not-pen.true in
+    let no : a.pen.stippled ≡ false = not-true _ c.if-not-pen.true in
     let drawn = walk-drawn a.c a.l (from-inside a.ink a.c a.l a.style (sym c.can_walk.ensures ∙ c.if-can_walk.true)) (to_inside a.ink a.c a.l a.style (sym c.can_walk.ensures ∙ c.if-can_walk.true)) a.ink a.pattern.now a.pen
     (is-direct a.ink a.c a.l a.style (sym c.can_walk.ensures ∙ c.if-can_walk.true)) (omega arith) (omega arith) a.style in (
       c.walk_plain-tally.ensures ∙ ap (λ (ts : List Touch). paint a.ink.target ts (state a.mem.now 0 0)) (plain_walk a.ink a.pen no a.style (points a.l) ∙ drawn),

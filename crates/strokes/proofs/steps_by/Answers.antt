@@ -16,8 +16,8 @@ overflow_sub-limit c = omega (arith, shorter-le c.args.l, c.short_side-more.ensu
 
 pub returns-then-x_major : goal.returns-then-x_major
 unfolding steps_of
-returns-then-x_major c = rw (sym c.x_major.ensures ∙ c.if-x_major.true, c.wrapping_add_usize-both.ensures, c.shifted-across.ensures, c.shifted-down.ensures, c.long_side.ensures, c.short_side-more.ensures)
+returns-then-x_major c = rw (sym c.x_major.ensures ∙ c.if-x_major.true, c.wrapping_add_usize-both.ensures.value, c.shifted-across.ensures, c.shifted-down.ensures, c.long_side.ensures, c.short_side-more.ensures)
 
 pub returns : goal.returns
 unfolding steps_of
-returns c = rw (sym c.x_major.ensures ∙ c.if-x_major.false, c.wrapping_add_usize-both.ensures, c.shifted-across.ensures, c.shifted-down.ensures, c.long_side.ensures, c.short_side-more.ensures)
+returns c = rw (sym c.x_major.ensures ∙ c.if-x_major.false, c.wrapping_add_usize-both.ensures.value, c.shifted-across.ensures, c.shifted-down.ensures, c.long_side.ensures, c.short_side-more.ensures)

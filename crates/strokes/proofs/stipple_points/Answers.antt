@@ -2,7 +2,6 @@
 -- Assumes nothing.
 use Rattle.std.proofs.Common.{ℕ, ◌-◌, ◌<◌, ◌≤◌, List, [], ◌∷◌, sym, refl, ap, ◌∙◌, ap₂, arith}
 use mathlib.Core.Option.{Option}
-use Rattle.paint.specs.Tally.{tally}
 use Rattle.paint.specs.Paint.{tallied, dab_at, paint}
 use Rattle.paint.specs.Mix.{bit_source, sourced}
 use Rattle.paint.specs.Clip.{pixel_at}

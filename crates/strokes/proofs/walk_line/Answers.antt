@@ -13,7 +13,7 @@ pub stipple_points-requires-in-3 : goal.stipple_points-requires-in-3
 stipple_points-requires-in-3 c = (c.requires, sym c.in-3.is)
 
 pub stipple_points-requires-in_default : goal.stipple_points-requires-in_default
-stipple_points-requires-in_default c = (c.requires, omega (arith, c.in_default.in_default-own.rest, c.requires.surface.some, c.requires.surface.small.bytes))
+stipple_points-requires-in_default c = (c.requires, omega (arith, c.requires.surface.some, c.requires.surface.small.bytes))
 
 pub returns-in-1 : goal.returns-in-1
 returns-in-1 c = c.stipple_points.ensures

@@ -17,7 +17,7 @@ pub mix_points-requires-in-3 : goal.mix_points-requires-in-3
 mix_points-requires-in-3 c = track-mixing c.args.ink c.args.l c.track_of-track.result c.track_of-track.ensures c.requires (sym c.in-3.is) (λ e. sym c.is_flip.ensures ∙ c.if-is_flip.true)
 
 pub mix_points-requires-in_default : goal.mix_points-requires-in_default
-mix_points-requires-in_default c = track-mixing c.args.ink c.args.l c.track_of-track.result c.track_of-track.ensures c.requires (omega (arith, c.in_default.in_default-own.rest, c.requires.walkable.surface.some, c.requires.walkable.surface.small.bytes)) (λ e. sym c.is_flip.ensures ∙ c.if-is_flip.true)
+mix_points-requires-in_default c = track-mixing c.args.ink c.args.l c.track_of-track.result c.track_of-track.ensures c.requires (omega (arith, c.requires.walkable.surface.some, c.requires.walkable.surface.small.bytes)) (λ e. sym c.is_flip.ensures ∙ c.if-is_flip.true)
 
 pub returns-in-1 : goal.returns-in-1
 returns-in-1 c = c.mix_points.ensures ∙ track-drawn c.args.ink c.args.l c.track_of-track.result c.track_of-track.ensures c.args.pattern.now c.args.mem.now
@@ -41,7 +41,7 @@ pub mix_points-requires-in-3-n : goal.mix_points-requires-in-3-n
 mix_points-requires-in-3-n c = track-mixing c.args.ink c.args.l c.track_of-track.result c.track_of-track.ensures c.requires (sym c.in-3-n.is) (no-flip _)
 
 pub mix_points-requires-in_default-n : goal.mix_points-requires-in_default-n
-mix_points-requires-in_default-n c = track-mixing c.args.ink c.args.l c.track_of-track.result c.track_of-track.ensures c.requires (omega (arith, c.in_default-n.in_default-n-own.rest, c.requires.walkable.surface.some, c.requires.walkable.surface.small.bytes)) (no-flip _)
+mix_points-requires-in_default-n c = track-mixing c.args.ink c.args.l c.track_of-track.result c.track_of-track.ensures c.requires (omega (arith, c.requires.walkable.surface.some, c.requires.walkable.surface.small.bytes)) (no-flip _)
 
 pub returns-in-1-n : goal.returns-in-1-n
 returns-in-1-n c = c.mix_points-in-1-n.ensures ∙ track-drawn c.args.ink c.args.l c.track_of-track.result c.track_of-track.ensures c.args.pattern.now c.args.mem.now

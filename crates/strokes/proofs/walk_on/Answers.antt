@@ -6,8 +6,8 @@ use Rattle.strokes.proofs.walk_on.Goals as goal
 
 pub returns-then-w-t : goal.returns-then-w-t
 unfolding walked_on
-returns-then-w-t c = rw (lt-ltb _ _ c.if-w-t.true, c.wrapping_add_usize.ensures)
+returns-then-w-t c = rw (lt-ltb _ _ c.if-w-t.true, c.wrapping_add_usize.ensures.value)
 
 pub returns : goal.returns
 unfolding walked_on
-returns c = rw (le-ltb _ _ c.if-w-t.false, c.wrapping_add_usize-2.ensures)
+returns c = rw (le-ltb _ _ c.if-w-t.false, c.wrapping_add_usize-2.ensures.value)

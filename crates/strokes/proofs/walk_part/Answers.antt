@@ -6,7 +6,6 @@ use mathlib.Core.Option.{some}
 use Rattle.surface.specs.Place.{byte_of}
 use Rattle.surface.specs.Pixels.{origin}
 use Rattle.surface.proofs.Run.{in-rows, pixel-held}
-use Rattle.paint.specs.Tally.{tally}
 use Rattle.paint.specs.Paint.{tallied, paint}
 use Rattle.paint.specs.Clip.{pixel_at}
 use Rattle.paint.proofs.Tallies.{room-first}

@@ -1,8 +1,7 @@
 -- `strokes::walk_plain` meets its contract: what the points that are left do from now on is what all of them do from the start, and the walk is at the next of them.
 -- Assumes nothing.
-use Rattle.std.proofs.Common.{◌-◌, ◌<◌, [], ◌∷◌, refl, ap, ◌∙◌, arith}
+use Rattle.std.proofs.Common.{◌<◌, [], ◌∷◌, refl, ap, ◌∙◌, arith}
 use mathlib.Core.Option.{some}
-use Rattle.paint.specs.Tally.{tally}
 use Rattle.paint.specs.Paint.{tallied, paint}
 use Rattle.paint.specs.Clip.{pixel_at}
 use Rattle.surface.proofs.Run.{in-rows, pixel-held}
