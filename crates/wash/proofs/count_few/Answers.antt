@@ -2,8 +2,10 @@
 -- Assumes nothing.
 use native.Mathlib.Omega.{arith}
 use mathlib.Core.Path.{◌≡◌, sym, ◌∙◌}
-use Prim.Native.Nat.{◌+◌, ◌-◌, ◌%◌, ◌≤◌}
+use mathlib.Core.List.{List}
+use Prim.Native.Nat.{ℕ, ◌+◌, ◌-◌, ◌%◌, ◌≤◌}
 use lib.ListN.{get_or}
+use Rattle.wash.specs.Asked.{Ones}
 use Rattle.wash.proofs.Counting.{count_turn, count-done}
 use Rattle.wash.proofs.count_few.Goals as goal
 
@@ -11,8 +13,8 @@ pub loop-i-init : goal.loop-i-init
 loop-i-init c = let e : c.args.n - 0 ≡ c.args.n = omega arith in (rw e (omega arith), omega arith, omega arith)
 
 -- a mask that counts one pixel at most
-one : (c : goal.After-wide) → get_or c.args.adds.now (c.args.first + c.wide.result) 0 ≤ 1
-one c = rw c.wide.ensures (c.requires.0.one (c.loop-i.i % 8) (omega arith))
+one : {adds : List ℕ} {first : ℕ} → Ones adds first → (i : ℕ) {k : ℕ} → k ≡ i % 8 → get_or adds (first + k) 0 ≤ 1
+one ones i e = rw e (ones.one (i % 8) (omega arith))
 
 pub overflow_add-r : goal.overflow_add-r
 overflow_add-r c = omega (arith, c.wide.ensures, c.requires.0.eight)
@@ -24,14 +26,14 @@ pub bounds-adds-first : goal.bounds-adds-first
 bounds-adds-first c = omega (arith, c.wide.ensures, c.requires.0.eight)
 
 pub overflow_add-r-in-loop-i : goal.overflow_add-r-in-loop-i
-overflow_add-r-in-loop-i c = omega (arith, one c.before, c.loop-i.invariant.2)
+overflow_add-r-in-loop-i c = omega (arith, one c.requires.0 c.loop-i.i c.wide.ensures, c.loop-i.invariant.2)
 
 pub loop-i-preserved : goal.loop-i-preserved
 loop-i-preserved c =
     let a = c.args in
     let l = c.loop-i in
     let taken = c.loop-i-test.true in
-    let few = one c.before in (
+    let few = one c.requires.0 l.i c.wide.ensures in (
       rw c.wide.ensures (count_turn a.adds.now a.first a.n l.i l.r taken ∙ l.invariant.0),
       omega (arith, taken),
       omega (arith, few, l.invariant.2),

@@ -3,22 +3,19 @@
 use native.Mathlib.Omega.{arith}
 use native.Mathlib.Nat.{mul-le-mul_left}
 use mathlib.Core.Path.{ap₂, ◌∙◌}
-use Prim.Native.Nat.{ℕ, ◌+◌, ◌*◌, ◌/◌, ◌≤◌}
+use Prim.Native.Nat.{ℕ, ◌+◌, ◌*◌, ◌/◌}
 use Rattle.wash.proofs.Counting.{by-eights}
 use Rattle.wash.proofs.count_row.Goals as goal
 
-eights : (c : goal.After-count_few) → c.args.w / 8 * c.count_few.result ≤ c.args.w / 8 * 8
-eights c = mul-le-mul_left (c.args.w / 8) c.count_few.ensures.1
-
 pub overflow_mul-result : goal.overflow_mul-result
-overflow_mul-result c = omega (arith, eights c, c.requires.1)
+overflow_mul-result c = omega (arith, mul-le-mul_left (c.args.w / 8) c.count_few.ensures.1, c.requires.1)
 
 pub overflow_add-result : goal.overflow_add-result
-overflow_add-result c = omega (arith, eights c.before, c.requires.1, c.count_few-2.ensures.1)
+overflow_add-result c = omega (arith, mul-le-mul_left (c.args.w / 8) c.count_few.ensures.1, c.requires.1, c.count_few-2.ensures.1)
 
 pub returns : goal.returns
 returns c =
     let a = c.args in (
       ap₂ (λ (m n : ℕ). a.w / 8 * m + n) c.count_few.ensures.0 c.count_few-2.ensures.0 ∙ by-eights a.adds.now a.first a.w,
-      omega (arith, eights c.before, c.count_few-2.ensures.1),
+      omega (arith, mul-le-mul_left (a.w / 8) c.count_few.ensures.1, c.count_few-2.ensures.1),
     )

@@ -4,14 +4,17 @@ use native.Mathlib.Nat.{mul-le-mul}
 use native.Mathlib.Omega.{arith}
 use mathlib.Core.Path.{◌≡◌, refl, subst, ◌∙◌}
 use mathlib.Core.Bool.{false}
-use Prim.Native.Nat.{ℕ, ◌+◌, ◌-◌, ◌*◌, ◌%◌, ◌^◌}
+use mathlib.Core.List.{List}
+use Prim.Native.Nat.{ℕ, ◌+◌, ◌*◌, ◌^◌, ◌<◌}
 use lib.ListN.{length}
-use Rattle.surface.specs.Pixels.{rect}
+use Rattle.surface.specs.declared.Surface.{Surface}
+use Rattle.surface.specs.Pixels.{Px, across, rect}
 use Rattle.surface.proofs.OnLaws.{on-column}
 use Rattle.paint.specs.Paint.{changing, summed}
+use Rattle.runs.specs.Asked.{RectOn}
 use Rattle.blocks.specs.Blocks.{Put}
 use Rattle.blocks.proofs.Blocks.{put-none}
-use Rattle.wash.specs.Wash.{washed, in_row, in_rows}
+use Rattle.wash.specs.Wash.{washed, in_rows}
 use Rattle.wash.proofs.Pieces.{row_more}
 use Rattle.wash.proofs.Sums.{row-sum, rows_few}
 use Rattle.wash.proofs.wash_lines.Goals as goal
@@ -36,35 +39,27 @@ wash_line-r-requires c =
     (p.1 l.j taken, (record { wide = p.0.wide; on = λ i low high. p.0.on i (a.y + l.j) low high (omega arith) (omega (arith, taken)) }, (omega (arith, l.invariant.3), omega (arith, l.invariant.4))))
 
 -- one row more
-module _ (c : goal.After-wash_line-r) where
-  abbrev start : goal.Start
-  start = c.before.before.before.before.before.before.before.before
-
-  row : Put start.args.s (washed start.args.s start.args.keep.now start.args.flip.now (in_row (c.loop-j.j % 8 * 160) (8 * start.args.s.bytes) (start.args.x * start.args.s.bytes)) c.loop-j.mem)
-      (start.args.x * start.args.s.bytes) (start.args.y + c.loop-j.j) (start.args.w * start.args.s.bytes) 1 c.loop-j.mem c.wash_line-r.new.mem
-  row = rw c.wide-first.ensures at c.wash_line-r.ensures.0
-
-  more : c.loop-j.r + c.wash_line-r.result
-      ≡ summed (changing start.args.s start.args.mem.now c.wash_line-r.new.mem) (rect false false start.args.x start.args.y start.args.w (c.loop-j.j + 1))
-  more =
-      let a = start.args in
-      let p = start.pre in
-      let l = c.loop-j in
-      let sum = row-sum a.s p.0.colour.some a.x a.y a.w l.j
-      (λ i low high. on-column a.s (length a.mem.now) i (a.y + l.j) (p.0.on i (a.y + l.j) low high (omega arith) (omega (arith, c.loop-j-test.true))).on) l.invariant.0 row in
-      omega (arith, sum, l.invariant.1, c.wash_line-r.ensures.1)
+module _ {s : Surface} {x y w h : ℕ} {m₀ m m' : List ℕ} (on : RectOn s (length m₀) x y w h) {j : ℕ} (taken : j < h) where
+  more : {value value' : Px → ℕ} {r count : ℕ} → Put s value (x * s.bytes) y (w * s.bytes) j m₀ m → Put s value' (x * s.bytes) (y + j) (w * s.bytes) 1 m m'
+      → r ≡ summed (changing s m₀ m) (rect false false x y w j) → count ≡ summed (changing s m m') (across false x w (y + j))
+      → r + count ≡ summed (changing s m₀ m') (rect false false x y w (j + 1))
+  more done put e f =
+      let sum = row-sum s on.colour.some x y w j
+      (λ c low high. on-column s (length m₀) c (y + j) (on.on c (y + j) low high (omega arith) (omega (arith, taken))).on) done put in
+      omega (arith, sum, e, f)
 
 pub overflow_add-r : goal.overflow_add-r
 overflow_add-r c =
-    let b = c.before.before.before.before in
-    let a = (start b).args in
-    let p = (start b).requires in
-    let j = b.loop-j.j in
+    let a = c.args in
+    let p = c.requires.0 in
+    let l = c.loop-j in
+    let taken = c.loop-j-test.true in
+    let done = c.wash_line-r in
     omega (
       arith,
-      more b,
-      rows_few a.s a.mem.now b.wash_line-r.new.mem a.x a.y a.w (j + 1),
-      mul-le-mul {n₁ = j + 1} {m₁ = a.w} {n₂ = 2 ^ 13} {m₂ = 2 ^ 13} (omega (arith, p.0.high, b.loop-j-test.true)) (omega (arith, p.0.wide)),
+      more p taken l.invariant.0 done.ensures.0 l.invariant.1 done.ensures.1,
+      rows_few a.s a.mem.now done.new.mem a.x a.y a.w (l.j + 1),
+      mul-le-mul {n₁ = l.j + 1} {m₁ = a.w} {n₂ = 2 ^ 13} {m₂ = 2 ^ 13} (omega (arith, p.high, taken)) (omega (arith, p.wide)),
     )
 
 pub overflow_add-j : goal.overflow_add-j
@@ -75,15 +70,17 @@ loop-j-smaller c = omega (arith, c.loop-j-test.true)
 
 pub loop-j-preserved : goal.loop-j-preserved
 loop-j-preserved c =
-    let b = c.before.before.before.before in
-    let a = (start b).args in
-    let l = b.loop-j in
-    let taken = b.loop-j-test.true in (
-      row_more a.s a.keep.now a.flip.now (8 * a.s.bytes) (a.x * a.s.bytes) a.y (a.w * a.s.bytes) l.j ((start b).requires.1 l.j taken).wide l.invariant.0 (row b),
-      more b,
+    let a = c.args in
+    let p = c.requires in
+    let l = c.loop-j in
+    let taken = c.loop-j-test.true in
+    let done = c.wash_line-r in
+    let row = rw c.wide-first.ensures at done.ensures.0 in (
+      row_more a.s a.keep.now a.flip.now (8 * a.s.bytes) (a.x * a.s.bytes) a.y (a.w * a.s.bytes) l.j (p.1 l.j taken).wide l.invariant.0 row,
+      more p.0 taken l.invariant.0 done.ensures.0 l.invariant.1 done.ensures.1,
       omega (arith, taken),
-      b.wash_line-r.auto.old ∙ l.invariant.3,
-      b.wash_line-r.auto.new ∙ l.invariant.4,
+      done.auto.old ∙ l.invariant.3,
+      done.auto.new ∙ l.invariant.4,
     )
 
 pub shape_of-mem : goal.shape_of-mem

@@ -3,67 +3,70 @@
 use native.Mathlib.Nat.{mul-le-mul}
 use native.Mathlib.Omega.{arith}
 use mathlib.Core.Path.{◌∙◌}
+use mathlib.Core.List.{List}
 use Prim.Native.Nat.{ℕ, ◌*◌, ◌^◌, ◌<◌, ◌≤◌}
-use lib.ListN.{length}
+use Rattle.surface.specs.declared.Surface.{Surface}
 use Rattle.surface.proofs.Bytes.{product_lt}
 use Rattle.runs.specs.Runs.{RowKept}
-use Rattle.runs.specs.Asked.{RowHeld}
+use Rattle.runs.specs.Asked.{RowHeld, RowOn}
 use Rattle.runs.proofs.Alike.{row-unlike}
 use Rattle.runs.proofs.Keeping.{pixels-held, pixels-kept, buffer-on}
+use Rattle.wash.specs.Asked.{CanWash}
 use Rattle.wash.proofs.wash_part.Goals as goal
 
 -- the row's bytes
-module _ (c : goal.Start) where
-  abbrev b : ℕ
-  b = c.args.s.bytes
+module _ {s : Surface} {keep flip : List ℕ} {first x y w len : ℕ} (can : CanWash s keep flip first (8 * s.bytes) (x * s.bytes) y (w * s.bytes) len)
+    (on : RowOn s len x w y) where
+  some : 0 < s.bytes
+  some = omega (arith, can.steps.some)
 
-  some : 0 < b
-  some = omega (arith, c.requires.0.steps.some)
+  few : w ≤ 256 → w * s.bytes ≤ 1024
+  few h = mul-le-mul {n₁ = w} {m₁ = s.bytes} {n₂ = 256} {m₂ = 4} h (omega (arith, can.small.bytes))
 
-  few : c.args.w * b ≤ 1024
-  few = mul-le-mul {n₁ = c.args.w} {m₁ = b} {n₂ = 256} {m₂ = 4} c.requires.1.0 (omega (arith, c.requires.0.small.bytes))
+  left : x * s.bytes < 2 ^ 17
+  left = product_lt 14 3 {a = x} {b = s.bytes} (omega (arith, on.wide)) (omega (arith, can.small.bytes))
 
-  left : c.args.x * b < 2 ^ 17
-  left = product_lt 14 3 {a = c.args.x} {b = b} (omega (arith, c.requires.1.1.0.wide)) (omega (arith, c.requires.0.small.bytes))
-
-  held : RowHeld c.args.s (c.args.x * b) c.args.y (c.args.w * b) (length c.args.mem.now)
-  held = pixels-held some c.args.x c.args.y c.args.w c.requires.0.small c.requires.1.1.0 c.requires.0.high
+  held : RowHeld s (x * s.bytes) y (w * s.bytes) len
+  held = pixels-held some x y w can.small on can.high
 
 pub overflow_mul-left : goal.overflow_mul-left
-overflow_mul-left c = rw (c.wide.ensures, c.wide-bytes.ensures) (omega (arith, left c.before.before.before.before.before))
+overflow_mul-left c = let p = c.requires in rw (c.wide.ensures, c.wide-bytes.ensures) (omega (arith, left p.0 p.1.1.0))
 
 pub overflow_mul-n : goal.overflow_mul-n
-overflow_mul-n c = rw (c.wide-2.ensures, c.wide-bytes.ensures) (omega (arith, few c.before.before.before.before.before.before.before))
+overflow_mul-n c = let p = c.requires in rw (c.wide-2.ensures, c.wide-bytes.ensures) (omega (arith, few p.0 p.1.1.0 p.1.0))
 
 pub keep_row-requires : goal.keep_row-requires
 keep_row-requires c =
-    let b = c.before.before.before.before.before.before.before.before.before in
-    rw (c.wide-2.ensures, c.wide-down.ensures, c.wide.ensures, c.wide-bytes.ensures) (omega (arith, few b, b.requires.1.1.1.0), held b)
+    let p = c.requires in
+    rw (c.wide-2.ensures, c.wide-down.ensures, c.wide.ensures, c.wide-bytes.ensures) (omega (arith, few p.0 p.1.1.0 p.1.0, p.1.1.1.0), held p.0 p.1.1.0)
 
 pub wash_row-requires : goal.wash_row-requires
 wash_row-requires c = rw (c.wide-2.ensures, c.wide-down.ensures, c.wide.ensures, c.wide-bytes.ensures) c.requires.0
 
 pub keep_row-requires-2 : goal.keep_row-requires-2
 keep_row-requires-2 c =
-    let b = c.before.before.before.before.before.before.before.before.before.before.before.before.before.before.before.before.before.before in
-    rw (c.wide-2.ensures, c.wide-down.ensures, c.wide.ensures, c.wide-bytes.ensures, c.wash_row.auto.mem) (omega (arith, few b, b.requires.1.1.1.1), held b)
+    let p = c.requires in
+    rw (c.wide-2.ensures, c.wide-down.ensures, c.wide.ensures, c.wide-bytes.ensures, c.wash_row.auto.mem)
+    (omega (arith, few p.0 p.1.1.0 p.1.0, p.1.1.1.1), held p.0 p.1.1.0)
 
 pub unlike-requires : goal.unlike-requires
 unlike-requires c =
-    let b = c.before.before.before.before.before.before.before.before.before.before.before.before.before.before.before.before.before.before.before.before.before.before.before in
-    let p = b.requires in (
-      buffer-on (some b) p.0.small.bytes p.1.0 (omega (arith, p.1.1.1.0, c.keep_row.auto.out)),
-      buffer-on (some b) p.0.small.bytes p.1.0 (omega (arith, p.1.1.1.1, c.keep_row-2.auto.out)),
+    let p = c.requires in
+    let some = some p.0 p.1.1.0 in (
+      buffer-on some p.0.small.bytes p.1.0 (omega (arith, p.1.1.1.0, c.keep_row.auto.out)),
+      buffer-on some p.0.small.bytes p.1.0 (omega (arith, p.1.1.1.1, c.keep_row-2.auto.out)),
     )
 
 pub returns : goal.returns
 returns c =
     let a = c.args in
+    let p = c.requires in
+    let some = some p.0 p.1.1.0 in
     let old : RowKept a.s a.mem.now (a.x * a.s.bytes) a.y (a.w * a.s.bytes) a.old.now c.keep_row.new.out =
     rw (c.wide-2.ensures, c.wide-down.ensures, c.wide.ensures, c.wide-bytes.ensures) at c.keep_row.ensures in
     let new : RowKept a.s c.wash_row.new.mem (a.x * a.s.bytes) a.y (a.w * a.s.bytes) a.new.now c.keep_row-2.new.out =
     rw (c.wide-2.ensures, c.wide-down.ensures, c.wide.ensures, c.wide-bytes.ensures) at c.keep_row-2.ensures in (
       rw (c.wide-2.ensures, c.wide-down.ensures, c.wide.ensures, c.wide-bytes.ensures) at c.wash_row.ensures,
       c.unlike.ensures ∙ row-unlike a.s a.y a.mem.now c.wash_row.new.mem c.keep_row.new.out c.keep_row-2.new.out a.x 0 0 a.w
-          (pixels-kept (some c.before.before.before.before.before.before.before.before.before.before.before.before.before.before.before.before.before.before.before.before.before.before.before.before) a.x a.y a.w old) (pixels-kept (some c.before.before.before.before.before.before.before.before.before.before.before.before.before.before.before.before.before.before.before.before.before.before.before.before) a.x a.y a.w new),
+          (pixels-kept some a.x a.y a.w old) (pixels-kept some a.x a.y a.w new),
     )

@@ -60,16 +60,15 @@ loop-i-smaller c =
 
 pub loop-i-preserved : goal.loop-i-preserved
 loop-i-preserved c =
-    let b = c.before.before.before.before.before.before in
-    let e = b.to_edge-k.ensures in
-    let k = b.to_edge-k.result in
-    let l = b.loop-i in
-    let a = b.args in
-    let p = b.requires in
+    let e = c.to_edge-k.ensures in
+    let k = c.to_edge-k.result in
+    let l = c.loop-i in
+    let a = c.args in
+    let p = c.requires in
     let from = a.first + l.i % a.period in
     let piece = piece-put a.s a.keep.now a.flip.now (a.x + l.i) a.y k (e.2 p.tiled) from l.mem
     (λ i h u. subst (λ (n : ℕ). byte_at a.s i a.y < n) (sym l.invariant.0.long) (p.held i (omega arith) (omega (arith, e.0)))) in
-    let made = c.tint_bytes.ensures ∙ ap (λ (at : ℕ). blended a.keep.now a.flip.now from at k l.mem) b.byte_at-at.ensures in (
+    let made = c.tint_bytes.ensures ∙ ap (λ (at : ℕ). blended a.keep.now a.flip.now from at k l.mem) c.byte_at-at.ensures in (
       piece-more a.s a.keep.now a.flip.now a.first a.period a.x a.y a.n l.i k p.steps p.wide (omega (arith, e.0)) (omega (arith, e.2 p.tiled))
           p.keeps p.flips l.invariant.0
           (subst (Put a.s (washed a.s a.keep.now a.flip.now (λ q. from + (q.x - (a.x + l.i))) l.mem) (a.x + l.i) a.y k 1 l.mem) (sym made) piece),

@@ -3,8 +3,9 @@
 use native.Mathlib.Omega.{arith}
 use native.Mathlib.Nat.{mul-le-mul_right, add-mul}
 use mathlib.Core.Path.{◌≡◌, refl, subst, ◌∙◌}
-use Prim.Native.Nat.{ℕ, ◌+◌, ◌-◌, ◌*◌, ◌≤◌}
+use Prim.Native.Nat.{ℕ, ◌+◌, ◌*◌, ◌<◌, ◌≤◌}
 use Rattle.wash.specs.Wash.{Widened}
+use Rattle.wash.specs.Asked.{Period}
 use Rattle.wash.proofs.Spreading.{widened_none, widened_more}
 use Rattle.wash.proofs.widen.Goals as goal
 
@@ -12,23 +13,22 @@ pub loop-r-init : goal.loop-r-init
 loop-r-init c = (widened_none c.args.table.now c.args.period c.args.n _, omega arith, refl)
 
 -- a row of masks is in its table
-room : (c : goal.In-loop-r) → c.loop-r.r * c.args.period + c.args.period ≤ 256
-room c =
-    let p = c.requires in
-    let r = c.loop-r.r in
-    let k = c.args.period in
-    omega (arith, p.0.few, add-mul r 1 k, mul-le-mul_right {m = r + 1} {n = 8} k (omega (arith, p.1, c.loop-r-test.true)))
+room : {period r : ℕ} → Period period → r < 8 → r * period + period ≤ 256
+room {period} {r} steps h = omega (arith, steps.few, add-mul r 1 period, mul-le-mul_right {m = r + 1} {n = 8} period (omega (arith, h)))
 
 pub overflow_mul-r : goal.overflow_mul-r
 overflow_mul-r c = omega (arith, c.requires.1, c.loop-r-test.true)
 
 pub overflow_mul-r-in-loop-r : goal.overflow_mul-r-in-loop-r
-overflow_mul-r-in-loop-r c = omega (arith, room c.before)
+overflow_mul-r-in-loop-r c =
+    let p = c.requires in
+    let h : c.loop-r.r < 8 = omega (arith, p.1, c.loop-r-test.true) in
+    omega (arith, room p.0 h)
 
 pub spread_row-requires : goal.spread_row-requires
 spread_row-requires c =
     let p = c.requires in
-    (p.0, omega (arith, p.1, p.2, c.loop-r.invariant.2, c.loop-r-test.true), room c.before)
+    (p.0, omega (arith, p.1, p.2, c.loop-r.invariant.2, c.loop-r-test.true), room p.0 (omega (arith, p.1, c.loop-r-test.true)))
 
 pub loop-r-preserved : goal.loop-r-preserved
 loop-r-preserved c =
