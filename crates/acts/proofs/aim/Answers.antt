@@ -6,18 +6,23 @@ use Rattle.acts.proofs.Numbers.{to_source, sourced, aimed-target, aimed-source}
 use Rattle.acts.proofs.aim.Goals.{then-number, else-number}
 use Rattle.acts.proofs.aim.Goals as goal
 
--- the registers after the first test
-first : (c : goal.Joined-number) → let a = c.args in c.if-number.next ≡ sourced a.regs a.word (to_source a.regs)
-unfolding put_reg
-first c = elim c.if-number.branch [ then-number w ↦ w.next-is ∙ rw (w.if-number.true, w.kept_bits.ensures) | else-number w ↦ w.next-is ∙ rw w.if-number.false ]
-
 pub returns-then-number-2 : goal.returns-then-number-2
 unfolding put_reg
 returns-then-number-2 c p =
     let a = c.args in
-    aimed-target a.regs p a.word (first c.before.before) c.if-number-2.true c.kept_bits-then-number-2.ensures
+    let first : c.if-number.next ≡ sourced a.regs a.word (to_source a.regs) =
+    elim c.if-number.branch [
+      then-number w ↦ w.next-is ∙ rw (w.if-number.true, w.kept_bits.ensures)
+      | else-number w ↦ w.next-is ∙ rw w.if-number.false
+    ] in
+    aimed-target a.regs p a.word first c.if-number-2.true c.kept_bits-then-number-2.ensures
 
 pub returns-else-number-2 : goal.returns-else-number-2
 returns-else-number-2 c p =
     let a = c.args in
-    aimed-source a.regs p a.word (first c.before) c.if-number-2.false
+    let first : c.if-number.next ≡ sourced a.regs a.word (to_source a.regs) =
+    elim c.if-number.branch [
+      then-number w ↦ w.next-is ∙ rw (w.if-number.true, w.kept_bits.ensures)
+      | else-number w ↦ w.next-is ∙ rw w.if-number.false
+    ] in
+    aimed-source a.regs p a.word first c.if-number-2.false

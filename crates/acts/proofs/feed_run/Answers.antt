@@ -18,39 +18,30 @@ returns-then-verdict-ne0 c =
 pub words_needed-needed-requires : goal.words_needed-needed-requires
 words_needed-needed-requires c = feed-ready c.args.bank.regs c.decode_feed-feed.ensures
 
--- the words that the blit needs
-needed : (c : goal.After-words_needed-needed) → c.words_needed-needed.result ≡ words_of (feed_of c.args.bank.regs)
-needed c = c.words_needed-needed.ensures ∙ ap words_of c.decode_feed-feed.ensures
-
 pub returns-then-needed-taken : goal.returns-then-needed-taken
 returns-then-needed-taken c =
-    let w = c.before.before.before in
     let a = c.args in
     ap (λ (r : Fed). fed r a.mem.now) c.undrawn-then-needed-taken.ensures
-    ∙ fed-none a.bank a.blit a.mem.now a.words.now c.host_verdict-verdict.ensures c.if-verdict-ne0.false (needed w) c.if-needed-taken.true c.no_blit.ensures
+    ∙ fed-none a.bank a.blit a.mem.now a.words.now c.host_verdict-verdict.ensures c.if-verdict-ne0.false (c.words_needed-needed.ensures ∙ ap words_of c.decode_feed-feed.ensures) c.if-needed-taken.true c.no_blit.ensures
 
 pub slice_bounds-part-end : goal.slice_bounds-part-end
 slice_bounds-part-end c =
-    let w = c.before.before.before in
     let a = c.args in
-    sym (part-long a.bank a.blit a.mem.now a.words.now c.host_verdict-verdict.ensures c.if-verdict-ne0.false (needed w) c.if-needed-taken.false c.reach-n.ensures)
+    sym (part-long a.bank a.blit a.mem.now a.words.now c.host_verdict-verdict.ensures c.if-verdict-ne0.false (c.words_needed-needed.ensures ∙ ap words_of c.decode_feed-feed.ensures) c.if-needed-taken.false c.reach-n.ensures)
 
 pub paint_words-tally-requires : goal.paint_words-tally-requires
 paint_words-tally-requires c =
-    let w = c.before.before.before.before.before.before in
     let a = c.args in
-    part-feeds a.bank a.blit a.mem.now a.words.now c.host_verdict-verdict.ensures c.if-verdict-ne0.false (needed w) c.if-needed-taken.false c.reach-n.ensures
+    part-feeds a.bank a.blit a.mem.now a.words.now c.host_verdict-verdict.ensures c.if-verdict-ne0.false (c.words_needed-needed.ensures ∙ ap words_of c.decode_feed-feed.ensures) c.if-needed-taken.false c.reach-n.ensures
 
 pub blit_after-requires : goal.blit_after-requires
 blit_after-requires c =
-    let w = c.before.before.before.before.before.before.before.before.before in
     let a = c.args in
-    let part = part-feeds a.bank a.blit a.mem.now a.words.now c.host_verdict-verdict.ensures c.if-verdict-ne0.false (needed w) c.if-needed-taken.false c.reach-n.ensures in
-    rw (needed w) part.all
+    let part = part-feeds a.bank a.blit a.mem.now a.words.now c.host_verdict-verdict.ensures c.if-verdict-ne0.false (c.words_needed-needed.ensures ∙ ap words_of c.decode_feed-feed.ensures) c.if-needed-taken.false c.reach-n.ensures in
+    rw (c.words_needed-needed.ensures ∙ ap words_of c.decode_feed-feed.ensures) part.all
 
 pub returns : goal.returns
 returns c =
-    let w = c.before.before.before.before.before.before.before.before.before.before in
     let a = c.args in
-    fed-some a.bank a.blit a.mem.now a.words.now c.host_verdict-verdict.ensures c.if-verdict-ne0.false (needed w) c.if-needed-taken.false c.reach-n.ensures
+    fed-some a.bank a.blit a.mem.now a.words.now c.host_verdict-verdict.ensures c.if-verdict-ne0.false (c.words_needed-needed.ensures ∙ ap words_of c.decode_feed-feed.ensures) c.if-needed-taken.false c.reach-n.ensures
     c.blit_after.ensures c.paint_words-tally.ensures

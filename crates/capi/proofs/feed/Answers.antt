@@ -24,7 +24,7 @@ turn : (c : goal.After-after-1)
     → let k = c.loop-used in
     let t = c.tell-answered in
     let n = c.next-n.result in
-    Turned by_call c.args.piece.now (piece_call k.r k.state k.memory k.answers k.used k.answered) (piece_call n.reader t.new.0 t.new.1.0 t.new.1.1.0 n.used t.result)
+    Turned by_call c.args.piece.now (piece_call k.r k.state k.memory k.answers k.used k.answered) (piece_call n.reader t.new.state t.new.memory t.new.answers n.used t.result)
 turn c =
     let k = c.loop-used in
     let piece = c.args.piece.now in
@@ -40,7 +40,7 @@ pub loop-used-preserved : goal.loop-used-preserved
 loop-used-preserved c =
     let k = c.loop-used in
     let t = c.tell-answered in
-    ((turn c).same ∙ k.invariant.0, (t.auto.0 ∙ k.invariant.1.0, (t.auto.1.0 ∙ k.invariant.1.1.0, t.auto.1.1.0 ∙ k.invariant.1.1.1)))
+    ((turn c).same ∙ k.invariant.0, (t.auto.state ∙ k.invariant.1.0, (t.auto.memory ∙ k.invariant.1.1.0, t.auto.answers ∙ k.invariant.1.1.1)))
 
 pub returns : goal.returns
 returns c =

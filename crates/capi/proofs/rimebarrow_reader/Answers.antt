@@ -10,4 +10,4 @@ returns-then-reader-ne32 c = rw (ne_eqb _ _ c.if-reader-ne32.true)
 
 pub returns : goal.returns
 unfolding opened_reader
-returns c = rw (eq-eqb _ _ c.if-reader-ne32.false, c.save.ensures, c.before.before.before.«open».ensures)
+returns c = rw (eq-eqb _ _ c.if-reader-ne32.false, c.save.ensures, c.«open».ensures)

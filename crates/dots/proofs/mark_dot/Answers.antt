@@ -12,9 +12,6 @@ use Rattle.line.proofs.DrawLaws.{point-on}
 use Rattle.dots.proofs.DotLaws.{dot-written, dot-left, dot-clipped}
 use Rattle.dots.proofs.mark_dot.Goals as goal
 
-inside : (c : goal.Else-not-covers) → in_clip c.args.c c.args.p.x c.args.p.y ≡ true
-inside c = sym c.covers.ensures ∙ c.if-not-covers.false
-
 pub returns-then-not-covers : goal.returns-then-not-covers
 returns-then-not-covers c =
     let a = c.args in
@@ -22,10 +19,10 @@ returns-then-not-covers c =
     (dot-clipped a.ink a.c a.pen a.style a.p a.marks.now out, c.style_after-next.ensures)
 
 pub overflow_sub-p : goal.overflow_sub-p
-overflow_sub-p c = omega (arith, in-clip _ _ _ (inside c.before.before.before.before.before.before))
+overflow_sub-p c = omega (arith, in-clip _ _ _ (sym c.covers.ensures ∙ c.if-not-covers.false))
 
 pub overflow_sub-p-then-not-source : goal.overflow_sub-p-then-not-source
-overflow_sub-p-then-not-source c = omega (arith, in-clip _ _ _ (inside c.before.before.before.before.before.before.before))
+overflow_sub-p-then-not-source c = omega (arith, in-clip _ _ _ (sym c.covers.ensures ∙ c.if-not-covers.false))
 
 pub mark_pixel-requires : goal.mark_pixel-requires
 mark_pixel-requires c =
@@ -33,7 +30,7 @@ mark_pixel-requires c =
     record {
       len = p.len;
       limit = p.limit;
-      on = record { colour = p.surface; on = point-on c.args.ink.target p.len c.args.c c.args.p p.on (inside c.before.before.before.before.before.before.before) };
+      on = record { colour = p.surface; on = point-on c.args.ink.target p.len c.args.c c.args.p p.on (sym c.covers.ensures ∙ c.if-not-covers.false) };
     }
 
 pub returns-then-not-source : goal.returns-then-not-source
@@ -42,7 +39,7 @@ returns-then-not-source c =
     let source = c.bit_source-source in
     let left = ap (λ (r : Source). r.left) (sym (source.ensures ∙ ap (bit_source a.ink) c.stipple_bit-bit.ensures)) in (
       c.mark_pixel.ensures
-          ∙ dot-written a.ink a.c a.pen a.style a.p a.marks.now (inside c.before.before.before.before.before.before.before.before)
+          ∙ dot-written a.ink a.c a.pen a.style a.p a.marks.now (sym c.covers.ensures ∙ c.if-not-covers.false)
           (left ∙ not-true source.result.left c.if-not-source.true),
       c.style_after-next.ensures,
     )

@@ -7,19 +7,16 @@ use Rattle.paint.proofs.ClipLaws.{Covered, in-clip}
 use Rattle.drips.proofs.Marks.{one-falls, one_left, one_outside}
 use Rattle.drips.proofs.mark_one.Goals as goal
 
-position : (c : goal.Then-covers) → let a = c.args in Covered a.c (a.feed.x + a.i) (a.feed.y + a.j)
-position c = in-clip _ _ _ (sym c.covers.ensures ∙ c.if-covers.true)
-
 pub returns-then-is_left : goal.returns-then-is_left
 returns-then-is_left c =
     let a = c.args in
     one_left a.ink a.c a.feed a.i a.j a.v a.marks.now (sym c.is_left.ensures ∙ c.if-is_left.true)
 
 pub overflow_sub-x : goal.overflow_sub-x
-overflow_sub-x c = omega (arith, position c.before.before.before)
+overflow_sub-x c = omega (arith, (in-clip _ _ _ (sym c.covers.ensures ∙ c.if-covers.true)))
 
 pub overflow_sub-y : goal.overflow_sub-y
-overflow_sub-y c = omega (arith, position c.before.before.before)
+overflow_sub-y c = omega (arith, (in-clip _ _ _ (sym c.covers.ensures ∙ c.if-covers.true)))
 
 pub mark_pixel-requires : goal.mark_pixel-requires
 mark_pixel-requires c =

@@ -47,7 +47,7 @@ pub loop-f-preserved : goal.loop-f-preserved
 loop-f-preserved c =
     let k = c.loop-f in
     let t = c.tell-f in
-    ((turn c).same ∙ k.invariant.0, (t.auto.1.1.0 ∙ k.invariant.1.0, t.auto.1.1.1.0 ∙ k.invariant.1.1))
+    ((turn c).same ∙ k.invariant.0, (t.auto.mem ∙ k.invariant.1.0, t.auto.answers ∙ k.invariant.1.1))
 
 pub returns : goal.returns
 returns c =

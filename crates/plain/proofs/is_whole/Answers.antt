@@ -8,9 +8,10 @@ use Rattle.surface.proofs.OnLaws.{pos-of-ne}
 use Rattle.host.proofs.Needed.{some-pixel}
 use Rattle.plain.proofs.Straight.{neither}
 use Rattle.plain.proofs.is_whole.Goals as goal
+use Rattle.plain.proofs.is_whole.Goals.{Else-feed-p}
 
 -- what the first test leaves
-like : (c : goal.Else-feed-p) → let a = c.args in (a.feed.bytes ≡ 0) × ((a.p.target.tiled ≡ false) × ((a.taken ≡ 0) × (0 < a.feed.height)))
+like : (c : Else-feed-p) → let a = c.args in (a.feed.bytes ≡ 0) × ((a.p.target.tiled ≡ false) × ((a.taken ≡ 0) × (0 < a.feed.height)))
 like c =
     let a = c.args in
     let o = neither _ _ c.if-feed-p.false in
@@ -28,11 +29,11 @@ pub overflow_sub-feed : goal.overflow_sub-feed
 overflow_sub-feed c = some-pixel _ c.requires.0
 
 pub overflow_sub-feed-then-covers : goal.overflow_sub-feed-then-covers
-overflow_sub-feed-then-covers c = (like c.before.before.before.before.before.before.before).1.1.1
+overflow_sub-feed-then-covers c = (like (goal.at.overflow_sub-feed-then-covers c).Else-feed-p).1.1.1
 
 pub returns-then-covers : goal.returns-then-covers
 returns-then-covers c = λ e.
-    let l = like c.before.before.before.before.before.before.before.before.before in
+    let l = like (goal.at.returns-then-covers c).Else-feed-p in
     record {
       mono = l.0;
       flat = l.1.0;

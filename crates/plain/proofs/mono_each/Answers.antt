@@ -2,7 +2,6 @@
 -- Assumes nothing.
 use native.Mathlib.Omega.{arith}
 use Prim.Native.Nat.{◌-◌}
-use Rattle.plain.specs.Asked.{Here}
 use Rattle.plain.proofs.Stretch.{here-small}
 use Rattle.plain.proofs.Parts.{stretch-begins, stretch-room, stretch-goes-on, stretch-ended}
 use Rattle.plain.proofs.mono_each.Goals as goal
@@ -13,18 +12,15 @@ loop-i-init c = stretch-begins
 pub last_column-requires : goal.last_column-requires
 last_column-requires c = (c.requires.0.rows.sizes.bytes, omega (arith, c.requires.0.rows.sizes.width, c.requires.1.0.past))
 
-here : (c : goal.In-loop-i) → let a = c.args in Here a.feed a.t a.j a.column c.loop-i.i
-here c = c.requires.1.0.here c.loop-i.i c.loop-i.invariant.low c.loop-i-test.true
-
 pub overflow_add-t : goal.overflow_add-t
 overflow_add-t c =
-    omega (arith, c.last_column.ensures, here-small c.requires.0.rows (omega (arith, c.loop-i-test.true, c.requires.1.0.past)) (here c.before))
+    omega (arith, c.last_column.ensures, here-small c.requires.0.rows (omega (arith, c.loop-i-test.true, c.requires.1.0.past)) (c.requires.1.0.here c.loop-i.i c.loop-i.invariant.low c.loop-i-test.true))
 
 pub overflow_sub-t : goal.overflow_sub-t
-overflow_sub-t c = omega (arith, c.last_column.ensures, (here c.before).low)
+overflow_sub-t c = omega (arith, c.last_column.ensures, (c.requires.1.0.here c.loop-i.i c.loop-i.invariant.low c.loop-i-test.true).low)
 
 pub value_of-v-requires : goal.value_of-v-requires
-value_of-v-requires c = (c.requires.0.rows.sizes.bytes, omega (arith, c.last_column.ensures, (here c.before).high))
+value_of-v-requires c = (c.requires.0.rows.sizes.bytes, omega (arith, c.last_column.ensures, (c.requires.1.0.here c.loop-i.i c.loop-i.invariant.low c.loop-i-test.true).high))
 
 pub plain_bit-s-requires : goal.plain_bit-s-requires
 plain_bit-s-requires c = c.requires.1.1
@@ -44,9 +40,8 @@ loop-i-smaller c = omega (arith, c.loop-i-test.true)
 
 pub loop-i-preserved : goal.loop-i-preserved
 loop-i-preserved c =
-    let l = c.before.before.before.before.before.before.before in
     let v = c.value_of-v in
-    stretch-goes-on l.loop-i.invariant v.result l.loop-i-test.true (rw (c.last_column.ensures, (here l).byte) at v.ensures)
+    stretch-goes-on c.loop-i.invariant v.result c.loop-i-test.true (rw (c.last_column.ensures, (c.requires.1.0.here c.loop-i.i c.loop-i.invariant.low c.loop-i-test.true).byte) at v.ensures)
     c.plain_pixel-r.ensures
 
 pub shape_of-mem : goal.shape_of-mem

@@ -14,9 +14,10 @@ use Rattle.host.proofs.Places.{mono-column}
 use Rattle.plain.specs.Plain.{plain_ink}
 use Rattle.plain.proofs.Bits.{between, byte-drawn}
 use Rattle.plain.proofs.mono_part.Goals as goal
+use Rattle.plain.proofs.mono_part.Goals.{Then-covers-p}
 
 -- the byte of the word that holds the pixels
-held : (c : goal.Then-covers-p) → let a = c.args in (a.column ≤ a.i / 8) × (a.t + a.i / 8 - a.column < 4)
+held : (c : Then-covers-p) → let a = c.args in (a.column ≤ a.i / 8) × (a.t + a.i / 8 - a.column < 4)
 held c =
     let a = c.args in
     let w = c.requires.1.0 in
@@ -36,35 +37,35 @@ overflow_mul-byte c = omega (arith, held c)
 pub overflow_shr-byte : goal.overflow_shr-byte
 overflow_shr-byte c = omega (arith, held c)
 
-first-in : (c : goal.Then-covers-p) → let a = c.args in in_clip a.c (a.feed.x + a.i) (a.feed.y + a.j) ≡ true
+first-in : (c : Then-covers-p) → let a = c.args in in_clip a.c (a.feed.x + a.i) (a.feed.y + a.j) ≡ true
 first-in c = sym c.covers.ensures ∙ c.if-covers.true
 
-last-in : (c : goal.Then-covers-p) → let a = c.args in in_clip a.c (a.feed.x + a.i + (a.m - 1)) (a.feed.y + a.j) ≡ true
+last-in : (c : Then-covers-p) → let a = c.args in in_clip a.c (a.feed.x + a.i + (a.m - 1)) (a.feed.y + a.j) ≡ true
 last-in c = sym c.covers-then-covers.ensures ∙ and_left c.covers-then-covers.result _ c.if-covers-p.true
 
 pub overflow_sub-x : goal.overflow_sub-x
-overflow_sub-x c = omega (arith, in-clip _ _ _ (first-in c.before))
+overflow_sub-x c = omega (arith, in-clip _ _ _ (first-in (goal.at.overflow_sub-x c).Then-covers-p))
 
 pub overflow_sub-y : goal.overflow_sub-y
-overflow_sub-y c = omega (arith, in-clip _ _ _ (first-in c.before))
+overflow_sub-y c = omega (arith, in-clip _ _ _ (first-in (goal.at.overflow_sub-y c).Then-covers-p))
 
 pub put_bits-requires : goal.put_bits-requires
 unfolding plain_ink
 put_bits-requires c =
     let a = c.args in
     let p = c.requires in
-    let k = in-clip _ _ _ (first-in c.before) in
+    let k = in-clip _ _ _ (first-in (goal.at.put_bits-requires c).Then-covers-p) in
     let w = p.1.0 in (
       (
         (p.0.colour, not-true a.p.target.tiled (and_right c.covers-then-covers.result _ c.if-covers-p.true)),
         (
           record {
-            wide = omega (arith, in-clip _ _ _ (last-in c.before), p.0.bits12);
+            wide = omega (arith, in-clip _ _ _ (last-in (goal.at.put_bits-requires c).Then-covers-p), p.0.bits12);
             on = λ q l h.
                 let e : a.feed.x + (a.i + (q - (a.feed.x + a.i - 16384))) - 16384 ≡ q = omega (arith, k) in
                 let f : a.feed.x + a.i + (q - (a.feed.x + a.i - 16384)) ≡ a.feed.x + (a.i + (q - (a.feed.x + a.i - 16384))) = omega arith in
                 rw e at (p.0.covered.on (a.i + (q - (a.feed.x + a.i - 16384))) a.j (omega (arith, k, w.past)) w.row
-                (rw f at (between a.c (a.feed.x + a.i) (a.feed.y + a.j) a.m (q - (a.feed.x + a.i - 16384)) (first-in c.before) (last-in c.before) (omega (arith, k)))));
+                (rw f at (between a.c (a.feed.x + a.i) (a.feed.y + a.j) a.m (q - (a.feed.x + a.i - 16384)) (first-in (goal.at.put_bits-requires c).Then-covers-p) (last-in (goal.at.put_bits-requires c).Then-covers-p) (omega (arith, k)))));
           },
           room-less w.room (omega arith),
         ),
@@ -74,7 +75,7 @@ put_bits-requires c =
 
 pub returns-then-covers-p : goal.returns-then-covers-p
 returns-then-covers-p c =
-    let t = c.before.before.before.before in
+    let t = (goal.at.returns-then-covers-p c).Then-covers-p in
     let a = c.args in
     let mono = c.requires.1.1.0 in
     let fits = c.requires.1.1.1.1 in

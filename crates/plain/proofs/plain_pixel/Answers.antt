@@ -13,25 +13,21 @@ use Rattle.host.proofs.Drawing.{pixel-past}
 use Rattle.plain.proofs.PlainLaws.{plain-put}
 use Rattle.plain.proofs.plain_pixel.Goals as goal
 
-inside : (c : goal.Then-covers) → let a = c.args in in_clip a.c (a.feed.x + a.i) (a.feed.y + a.j) ≡ true
-inside c = sym c.covers.ensures ∙ c.if-covers.true
-
 pub overflow_sub-x : goal.overflow_sub-x
-overflow_sub-x c = omega (arith, in-clip _ _ _ (inside c.before))
+overflow_sub-x c = omega (arith, in-clip _ _ _ (sym c.covers.ensures ∙ c.if-covers.true))
 
 pub overflow_sub-y : goal.overflow_sub-y
-overflow_sub-y c = omega (arith, in-clip _ _ _ (inside c.before))
+overflow_sub-y c = omega (arith, in-clip _ _ _ (sym c.covers.ensures ∙ c.if-covers.true))
 
 pub put_value-requires : goal.put_value-requires
 unfolding plain_ink
 put_value-requires c =
-    (c.requires.0.covered.on c.args.i c.args.j c.requires.1.0 c.requires.1.1.0 (inside c.before), c.requires.1.1.1.0)
+    (c.requires.0.covered.on c.args.i c.args.j c.requires.1.0 c.requires.1.1.0 (sym c.covers.ensures ∙ c.if-covers.true), c.requires.1.1.1.0)
 
 pub returns-then-covers : goal.returns-then-covers
 returns-then-covers c =
-    let t = c.before.before.before.before in
-    let a = t.args in
-    plain-put a.p a.c a.feed a.i a.j a.v (tallied a.mem.now a.n) (inside t) (omega arith) t.requires.1.1.1.1 c.put_value.ensures
+    let a = c.args in
+    plain-put a.p a.c a.feed a.i a.j a.v (tallied a.mem.now a.n) (sym c.covers.ensures ∙ c.if-covers.true) (omega arith) c.requires.1.1.1.1 c.put_value.ensures
 
 pub returns : goal.returns
 returns c =

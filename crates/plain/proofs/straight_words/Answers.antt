@@ -6,14 +6,17 @@ use borrow.Author.Tests.{eqb-true, eqb-false, leb-false, not-false}
 use lib.Dec.{eqb}
 use mathlib.Core.Path.{◌≡◌, refl, sym, ◌∙◌}
 use mathlib.Core.Bool.{false}
-use Prim.Native.Nat.{◌+◌, ◌-◌, ◌*◌, ◌/◌, ◌%◌, ◌^◌, ◌<◌, ◌≤◌}
+use Prim.Native.Nat.{ℕ, ◌+◌, ◌-◌, ◌*◌, ◌/◌, ◌%◌, ◌^◌, ◌<◌, ◌≤◌}
 use Rattle.surface.proofs.Bytes.{product_lt}
 use Rattle.surface.proofs.OnLaws.{pos-of-ne}
+use Rattle.host.specs.declared.Feed.{Feed}
+use Rattle.host.specs.Asked.{Rows}
 use Rattle.plain.proofs.Straight.{neither, pixels-some}
 use Rattle.plain.proofs.straight_words.Goals as goal
+use Rattle.plain.proofs.straight_words.Goals.{Else-bytes-p, Else-column-bytes, Else-w-eq0}
 
 -- what the first test leaves
-like : (c : goal.Else-bytes-p) → let a = c.args in (0 < a.feed.bytes) × ((a.feed.bytes ≡ a.p.target.bytes) × (a.p.target.tiled ≡ false))
+like : (c : Else-bytes-p) → let a = c.args in (0 < a.feed.bytes) × ((a.feed.bytes ≡ a.p.target.bytes) × (a.p.target.tiled ≡ false))
 like c =
     let a = c.args in
     let o = neither _ a.p.target.tiled c.if-bytes-p.false in
@@ -21,16 +24,15 @@ like c =
     (pos-of-ne (eqb-false _ _ e.0), (eqb-true _ _ (not-false _ e.1), o.1))
 
 -- the third
-begun : (c : goal.Else-column-bytes) → let a = c.args in (4 * a.k % a.feed.step % a.feed.bytes ≡ 0) × (4 * a.k % a.feed.step / a.feed.bytes < a.feed.width)
+begun : (c : Else-column-bytes) → let a = c.args in (4 * a.k % a.feed.step % a.feed.bytes ≡ 0) × (4 * a.k % a.feed.step / a.feed.bytes < a.feed.width)
 begun c = let o = neither _ _ c.if-column-bytes.false in (eqb-true _ _ (not-false _ o.0), leb-false _ _ o.1)
 
 -- how many bytes are left in the row
-most : (c : goal.After-struct_known-5-1) → let a = c.args in (a.feed.width - 4 * a.k % a.feed.step / a.feed.bytes) * a.feed.bytes < 2 ^ 16
-most c =
-    product_lt 13 3 (omega (arith, c.requires.0.sizes.width)) (omega (arith, c.requires.0.sizes.bytes))
+most : {f : Feed} → Rows f → (i : ℕ) → (f.width - i) * f.bytes < 2 ^ 16
+most r i = product_lt 13 3 (omega (arith, r.sizes.width)) (omega (arith, r.sizes.bytes))
 
 -- what the fourth test leaves
-counted : (c : goal.Else-w-eq0) → let a = c.args in let w = c.whole_words-w.result in
+counted : (c : Else-w-eq0) → let a = c.args in let w = c.whole_words-w.result in
     (0 < w) × ((w ≤ a.left) × (4 * a.k % a.feed.step / a.feed.bytes + 4 * w / a.feed.bytes ≤ a.feed.width))
 counted c =
     let a = c.args in
@@ -38,8 +40,9 @@ counted c =
     let u = a.feed.width - 4 * a.k % a.feed.step / a.feed.bytes in
     let h = c.least.ensures in
     let l = c.whole_words-w.ensures.0 in
+    let b : 4 * a.k % a.feed.step / a.feed.bytes < a.feed.width = leb-false _ _ (neither _ _ c.if-column-bytes.false).1 in
     let n : 4 * w / a.feed.bytes ≤ u = div-le_of_le-mul a.feed.bytes (omega (arith, h, l, mul_comm u a.feed.bytes)) in
-    (omega (arith, c.if-w-eq0.false), (omega (arith, h, l), omega (arith, n, begun c.before.before.before.before)))
+    (omega (arith, c.if-w-eq0.false), (omega (arith, h, l), omega (arith, n, b)))
 
 pub returns-then-bytes-p : goal.returns-then-bytes-p
 returns-then-bytes-p c = λ n. absurd (n refl)
@@ -48,45 +51,45 @@ pub returns-then-feed-j : goal.returns-then-feed-j
 returns-then-feed-j c = λ n. absurd (n refl)
 
 pub nonzero_div-i : goal.nonzero_div-i
-nonzero_div-i c = (like c.before.before).0
+nonzero_div-i c = (like (goal.at.nonzero_div-i c).Else-bytes-p).0
 
 pub nonzero_rem-column-2 : goal.nonzero_rem-column-2
-nonzero_rem-column-2 c = (like c.before.before).0
+nonzero_rem-column-2 c = (like (goal.at.nonzero_rem-column-2 c).Else-bytes-p).0
 
 pub returns-then-column-bytes : goal.returns-then-column-bytes
 returns-then-column-bytes c = λ n. absurd (n refl)
 
 pub overflow_sub-feed : goal.overflow_sub-feed
-overflow_sub-feed c = omega (arith, begun c.before)
+overflow_sub-feed c = omega (arith, begun (goal.at.overflow_sub-feed c).Else-column-bytes)
 
 pub overflow_mul-feed : goal.overflow_mul-feed
-overflow_mul-feed c = omega (arith, most c)
+overflow_mul-feed c = omega (arith, most c.requires.0 (4 * c.args.k % c.args.feed.step / c.args.feed.bytes))
 
 pub returns-then-w-eq0 : goal.returns-then-w-eq0
 returns-then-w-eq0 c = λ n. absurd (n refl)
 
 pub overflow_add-x : goal.overflow_add-x
-overflow_add-x c = omega (arith, begun c.before.before.before.before.before, c.requires.0.sizes.width, c.requires.1.1.0)
+overflow_add-x c = omega (arith, begun (goal.at.overflow_add-x c).Else-column-bytes, c.requires.0.sizes.width, c.requires.1.1.0)
 
 pub overflow_add-y : goal.overflow_add-y
 overflow_add-y c = omega (arith, c.if-feed-j.false, c.requires.0.sizes.height, c.requires.1.1.1.0)
 
 pub overflow_mul-w : goal.overflow_mul-w
-overflow_mul-w c = omega (arith, most c.before.before.before.before.before.before.before, c.least.ensures, c.whole_words-w.ensures.0)
+overflow_mul-w c = omega (arith, most c.requires.0 (4 * c.args.k % c.args.feed.step / c.args.feed.bytes), c.least.ensures, c.whole_words-w.ensures.0)
 
 pub nonzero_div-w : goal.nonzero_div-w
-nonzero_div-w c = (like c.before.before.before.before.before.before.before.before.before.before.before.before).0
+nonzero_div-w c = (like (goal.at.nonzero_div-w c).Else-bytes-p).0
 
 pub overflow_sub-w : goal.overflow_sub-w
-overflow_sub-w c = pixels-some _ _ (like c.before.before.before.before.before.before.before.before.before.before.before.before).0 c.requires.0.sizes.bytes (counted c.before.before.before.before).0
+overflow_sub-w c = pixels-some _ _ (like (goal.at.overflow_sub-w c).Else-bytes-p).0 c.requires.0.sizes.bytes (counted (goal.at.overflow_sub-w c).Else-w-eq0).0
 
 pub overflow_add-x-then-covers : goal.overflow_add-x-then-covers
-overflow_add-x-then-covers c = omega (arith, counted c.before.before.before.before, c.requires.0.sizes.width, c.requires.1.1.0)
+overflow_add-x-then-covers c = omega (arith, counted (goal.at.overflow_add-x-then-covers c).Else-w-eq0, c.requires.0.sizes.width, c.requires.1.1.0)
 
 pub returns-then-covers-2 : goal.returns-then-covers-2
 returns-then-covers-2 c = λ _.
-    let l = like c.before.before.before.before.before.before.before.before.before.before.before.before.before.before in
-    let n = counted c.before.before.before.before.before.before in
+    let l = like (goal.at.returns-then-covers-2 c).Else-bytes-p in
+    let n = counted (goal.at.returns-then-covers-2 c).Else-w-eq0 in
     record {
       some = n.0;
       fits = n.1.0;
@@ -94,7 +97,7 @@ returns-then-covers-2 c = λ _.
       same = l.1.0;
       flat = l.1.1;
       row = c.if-feed-j.false;
-      begins = (begun c.before.before.before.before.before.before.before.before.before.before).0;
+      begins = (begun (goal.at.returns-then-covers-2 c).Else-column-bytes).0;
       whole = c.whole_words-w.ensures.1;
       past = n.1.1;
       first = sym c.covers.ensures ∙ c.if-covers.true;
