@@ -10,6 +10,7 @@ use Rattle.host.specs.Host.{last_of}
 use Rattle.host.proofs.Runs.{RunLeft, run-begins, run_room, run-takes, run-ended, last_some}
 use Rattle.plain.specs.Plain.{plain_ink}
 use Rattle.plain.proofs.by_turns.Goals as goal
+use Rattle.plain.proofs.by_turns.Goals.{After-take_some-t}
 
 -- ---- the words from number i on, and the last of n of them
 rest : (ws : List ℕ) (i : ℕ) → take (length ws - i) (drop i ws) ≡ drop i ws
@@ -43,7 +44,7 @@ take_some-t-requires c =
     rw (rest ws i, length-drop i ws, now.left.long)
     (record { opened = c.requires.opened; few = omega (arith, c.requires.few); short = omega (arith, c.requires.short) }, (omega arith, run_room now (length ws - i) c.requires.short (omega arith)))
 
-took : (c : goal.After-take_some-t) → (0 < c.take_some-t.result.taken) × (c.loop-i.i + c.take_some-t.result.taken ≤ length c.args.words.now)
+took : (c : After-take_some-t) → (0 < c.take_some-t.result.taken) × (c.loop-i.i + c.take_some-t.result.taken ≤ length c.args.words.now)
 took c =
     let ws = c.args.words.now in
     let i = c.loop-i.i in
@@ -51,27 +52,27 @@ took c =
     (e.0, omega (arith, e.1.0, ap length (rest ws i), length-drop i ws, c.loop-i.invariant.within))
 
 pub overflow_add-i : goal.overflow_add-i
-overflow_add-i c = omega (arith, took c.before.before.before.before, c.requires.short)
+overflow_add-i c = omega (arith, took (goal.at.overflow_add-i c).After-take_some-t, c.requires.short)
 
 pub overflow_sub-before : goal.overflow_sub-before
-overflow_sub-before c = omega (arith, took c.before.before.before.before)
+overflow_sub-before c = omega (arith, took (goal.at.overflow_sub-before c).After-take_some-t)
 
 pub offset_bounds-words-i-in-loop-i : goal.offset_bounds-words-i-in-loop-i
-offset_bounds-words-i-in-loop-i c = omega (arith, took c.before.before.before.before, c.requires.short)
+offset_bounds-words-i-in-loop-i c = omega (arith, took (goal.at.offset_bounds-words-i-in-loop-i c).After-take_some-t, c.requires.short)
 
 pub bounds-words-i : goal.bounds-words-i
-bounds-words-i c = omega (arith, took c.before.before.before.before.before)
+bounds-words-i c = omega (arith, took (goal.at.bounds-words-i c).After-take_some-t)
 
 pub loop-i-smaller : goal.loop-i-smaller
-loop-i-smaller c = omega (arith, took c.before.before.before.before.before, c.loop-i-test.true)
+loop-i-smaller c = omega (arith, took (goal.at.loop-i-smaller c).After-take_some-t, c.loop-i-test.true)
 
 pub loop-i-preserved : goal.loop-i-preserved
 loop-i-preserved c =
     let l = c.loop-i in
     let a = c.args in
     let t = c.take_some-t in
-    let k = took c.before.before.before.before.before in
-    subst (λ (b : ℕ). RunLeft (plain_ink a.p) [] a.c a.feed a.last a.words.now a.taken a.mem.now (l.i + t.result.taken) b t.new.0 t.result.n)
+    let k = took (goal.at.loop-i-preserved c).After-take_some-t in
+    subst (λ (b : ℕ). RunLeft (plain_ink a.p) [] a.c a.feed a.last a.words.now a.taken a.mem.now (l.i + t.result.taken) b t.new.mem t.result.n)
     (last-of a.words.now l.i t.result.taken l.before k.0 k.1)
     (run-takes l.invariant c.requires.opened.rows.sizes t.result.taken k.1 (rw (rest a.words.now l.i) at t.ensures.1.1))
 

@@ -1,7 +1,6 @@
 -- `plain::mono_blit` meets its contract: each turn paints the next row.
 -- Assumes nothing.
 use native.Mathlib.Omega.{arith}
-use Prim.Native.Nat.{◌-◌}
 use Rattle.plain.proofs.Glyphs.{done-long, rows-begin, rows-room, rows_take, rows-ended}
 use Rattle.plain.proofs.mono_blit.Goals as goal
 

@@ -1,7 +1,6 @@
 -- `plain::mono_each` meets its contract: each turn draws the next pixel of the stretch, whose source is a bit.
 -- Assumes nothing.
 use native.Mathlib.Omega.{arith}
-use Prim.Native.Nat.{◌-◌}
 use Rattle.plain.proofs.Stretch.{here-small}
 use Rattle.plain.proofs.Parts.{stretch-begins, stretch-room, stretch-goes-on, stretch-ended}
 use Rattle.plain.proofs.mono_each.Goals as goal

@@ -1,7 +1,6 @@
 -- `plain::mono_line` meets its contract: each turn paints the pixels of the row that one byte of the data holds.
 -- Assumes nothing.
 use native.Mathlib.Omega.{arith}
-use Prim.Native.Nat.{◌-◌}
 use Rattle.plain.proofs.Glyphs.{done-long, glyph-byte, glyph-row, glyph-on, line-begins, line-room, line-takes, line-ended}
 use Rattle.plain.proofs.mono_line.Goals as goal
 
@@ -59,7 +58,7 @@ pub loop-i-preserved : goal.loop-i-preserved
 loop-i-preserved c =
     let m = c.least-m in
     let u = c.loop-i-test.true in
-    line-takes c.loop-i.invariant c.requires.0 (λ a. omega (arith, c.shared_slice_known-1.given a)) m.result u (omega (arith, m.ensures, u)) (omega (arith, m.ensures)) (λ l. omega (arith, m.ensures, l))
+    line-takes c.loop-i.invariant c.requires.0 (λ a. omega (arith, c.type_inv.words a)) m.result u (omega (arith, m.ensures, u)) (omega (arith, m.ensures)) (λ l. omega (arith, m.ensures, l))
     (rw c.data_byte-byte.ensures at c.put_run-r.ensures)
 
 pub shape_of-mem : goal.shape_of-mem

@@ -54,18 +54,19 @@ unfolding plain_ink
 put_bits-requires c =
     let a = c.args in
     let p = c.requires in
-    let k = in-clip _ _ _ (first-in (goal.at.put_bits-requires c).Then-covers-p) in
+    let t = (goal.at.put_bits-requires c).Then-covers-p in
+    let k = in-clip _ _ _ (first-in t) in
     let w = p.1.0 in (
       (
         (p.0.colour, not-true a.p.target.tiled (and_right c.covers-then-covers.result _ c.if-covers-p.true)),
         (
           record {
-            wide = omega (arith, in-clip _ _ _ (last-in (goal.at.put_bits-requires c).Then-covers-p), p.0.bits12);
+            wide = omega (arith, in-clip _ _ _ (last-in t), p.0.bits12);
             on = λ q l h.
                 let e : a.feed.x + (a.i + (q - (a.feed.x + a.i - 16384))) - 16384 ≡ q = omega (arith, k) in
                 let f : a.feed.x + a.i + (q - (a.feed.x + a.i - 16384)) ≡ a.feed.x + (a.i + (q - (a.feed.x + a.i - 16384))) = omega arith in
                 rw e at (p.0.covered.on (a.i + (q - (a.feed.x + a.i - 16384))) a.j (omega (arith, k, w.past)) w.row
-                (rw f at (between a.c (a.feed.x + a.i) (a.feed.y + a.j) a.m (q - (a.feed.x + a.i - 16384)) (first-in (goal.at.put_bits-requires c).Then-covers-p) (last-in (goal.at.put_bits-requires c).Then-covers-p) (omega (arith, k)))));
+                (rw f at (between a.c (a.feed.x + a.i) (a.feed.y + a.j) a.m (q - (a.feed.x + a.i - 16384)) (first-in t) (last-in t) (omega (arith, k)))));
           },
           room-less w.room (omega arith),
         ),

@@ -1,7 +1,6 @@
 -- `plain::mono_row` meets its contract: each turn draws the pixels of the stretch that one byte holds.
 -- Assumes nothing.
 use native.Mathlib.Omega.{arith}
-use Prim.Native.Nat.{◌-◌}
 use Rattle.plain.proofs.Stretch.{within-part}
 use Rattle.plain.proofs.Parts.{stretch-begins, stretch-room, stretch-takes, stretch-ended}
 use Rattle.plain.proofs.mono_row.Goals as goal

@@ -1,12 +1,9 @@
 -- `plain::plain_pixel` meets its contract: its source is put there or left, or it is outside the clip.
 -- Assumes nothing.
 use native.Mathlib.Omega.{arith}
-use mathlib.Core.Path.{◌≡◌, sym, ◌∙◌}
-use mathlib.Core.Bool.{true}
+use mathlib.Core.Path.{sym, ◌∙◌}
 use mathlib.Core.List.{[]}
-use Prim.Native.Nat.{◌+◌}
 use Rattle.paint.specs.Paint.{tallied}
-use Rattle.paint.specs.Clip.{in_clip}
 use Rattle.paint.proofs.ClipLaws.{in-clip}
 use Rattle.plain.specs.Plain.{plain_ink}
 use Rattle.host.proofs.Drawing.{pixel-past}

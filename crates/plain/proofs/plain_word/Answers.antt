@@ -3,7 +3,7 @@
 use native.Mathlib.Omega.{arith}
 use native.Mathlib.Nat.{div-add-mod', mod-lt, add-mul, mul-le-mul_right}
 use mathlib.Core.List.{[]}
-use Prim.Native.Nat.{◌-◌, ◌*◌}
+use Prim.Native.Nat.{◌*◌}
 use Rattle.plain.specs.Plain.{plain_ink}
 use Rattle.host.proofs.Places.{step-some}
 use Rattle.host.proofs.Drawing.{draw-ended, word-begins, word_room, word-takes, word-ended}

@@ -14,4 +14,4 @@ returns-then-is_whole c =
     let a = c.args in
     c.mono_blits.ensures
     ∙ whole-drawn c.requires.opened (c.is_whole.ensures c.if-is_whole.true) (omega (arith, c.well_formed)) (omega (arith, c.well_formed)) a.last a.words.now (state a.mem.now 0 0) refl
-    (omega (arith, c.ranges.last)) (λ i. omega (arith, c.shared_slice_known-1.given i))
+    (omega (arith, c.ranges.last)) (λ i. omega (arith, c.type_inv.words i))

@@ -3,7 +3,7 @@
 use native.Mathlib.Omega.{arith}
 use native.Mathlib.Nat.{mul_comm, div-le_of_le-mul}
 use borrow.Author.Tests.{eqb-true, eqb-false, leb-false, not-false}
-use lib.Dec.{eqb}
+use lib.Dec.{eqb, leb}
 use mathlib.Core.Path.{◌≡◌, refl, sym, ◌∙◌}
 use mathlib.Core.Bool.{false}
 use Prim.Native.Nat.{ℕ, ◌+◌, ◌-◌, ◌*◌, ◌/◌, ◌%◌, ◌^◌, ◌<◌, ◌≤◌}
@@ -37,10 +37,12 @@ counted : (c : Else-w-eq0) → let a = c.args in let w = c.whole_words-w.result 
 counted c =
     let a = c.args in
     let w = c.whole_words-w.result in
-    let u = a.feed.width - 4 * a.k % a.feed.step / a.feed.bytes in
+    let i = 4 * a.k % a.feed.step / a.feed.bytes in
+    let u = a.feed.width - i in
     let h = c.least.ensures in
     let l = c.whole_words-w.ensures.0 in
-    let b : 4 * a.k % a.feed.step / a.feed.bytes < a.feed.width = leb-false _ _ (neither _ _ c.if-column-bytes.false).1 in
+    let o = neither _ (leb a.feed.width i) c.if-column-bytes.false in
+    let b : i < a.feed.width = leb-false _ _ o.1 in
     let n : 4 * w / a.feed.bytes ≤ u = div-le_of_le-mul a.feed.bytes (omega (arith, h, l, mul_comm u a.feed.bytes)) in
     (omega (arith, c.if-w-eq0.false), (omega (arith, h, l), omega (arith, n, b)))
 
