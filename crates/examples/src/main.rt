@@ -4,24 +4,25 @@
 #![tactic(auto)]
 
 use engine::{Answer, Engine};
-use libc::STDOUT_FILENO;
+use std::io::{self, BufWriter, Write};
 
-fn say(text: &[u8]) {
-    io::write_all(STDOUT_FILENO, text);
+fn say<W: Write>(out: &mut W, text: &[u8]) -> io::Result<()> {
+    out.write_all(text)
 }
 
-fn say_number(text: &[u8], n: u64) {
-    io::write_all(STDOUT_FILENO, text);
-    io::print_decimal(STDOUT_FILENO, n);
+fn say_number<W: Write>(out: &mut W, text: &[u8], n: u64) -> io::Result<()> {
+    out.write_all(text)?;
+    write!(out, "{n}")
 }
 
-fn say_answer(a: Answer) {
+fn say_answer<W: Write>(out: &mut W, a: Answer) -> io::Result<()> {
     let number = a.number();
-    say_number(b"", number as u64);
+    say_number(out, b"", number as u64)?;
     if number == 0 {
-        say_number(b", pixels ", a.count() as u64);
-        say_number(b", changed ", a.changed() as u64);
+        say_number(out, b", pixels ", a.count() as u64)?;
+        say_number(out, b", changed ", a.changed() as u64)?;
     }
+    Ok(())
 }
 
 fn put(e: Engine, mem: &mut [u8; 16384], offset: u32, word: u32) -> Engine {
@@ -30,39 +31,48 @@ fn put(e: Engine, mem: &mut [u8; 16384], offset: u32, word: u32) -> Engine {
 }
 
 // The same, printed with its answer.
-fn put_aloud(e: Engine, mem: &mut [u8; 16384], offset: u32, word: u32) -> Engine {
-    io::print_hex(STDOUT_FILENO, offset as u64, 2);
-    say(b" ");
-    io::print_hex(STDOUT_FILENO, word as u64, 8);
-    say(b": answer ");
-    let out = e.write(mem, offset, word);
-    let answer = out.answer;
-    say_answer(answer);
-    say(b"\n");
-    out.engine
+fn put_aloud<W: Write>(
+    out: &mut W,
+    e: Engine,
+    mem: &mut [u8; 16384],
+    offset: u32,
+    word: u32,
+) -> io::Result<Engine> {
+    write!(out, "{offset:02x} {word:08x}: answer ")?;
+    let done = e.write(mem, offset, word);
+    let answer = done.answer;
+    say_answer(out, answer)?;
+    say(out, b"\n")?;
+    Ok(done.engine)
 }
 
-fn say_pixel(low: u8) {
+fn say_pixel<W: Write>(out: &mut W, low: u8) -> io::Result<()> {
     match low {
-        0 => say(b"."),
-        1 => say(b"o"),
-        255 => say(b"#"),
-        _ => say(b"?"),
+        0 => say(out, b"."),
+        1 => say(out, b"o"),
+        255 => say(out, b"#"),
+        _ => say(out, b"?"),
     }
 }
 
 // A row of pixels of 16 bits; rows are 2048 bytes apart.
-fn say_row(mem: &[u8; 16384], y: usize, width: usize) {
+fn say_row<W: Write>(out: &mut W, mem: &[u8; 16384], y: usize, width: usize) -> io::Result<()> {
     for x in 0..width {
-        say_pixel(mem[y % 8 * 2048 + x % 1024 * 2]);
+        say_pixel(out, mem[y % 8 * 2048 + x % 1024 * 2])?;
     }
-    say(b"\n");
+    say(out, b"\n")
 }
 
-fn say_rows(mem: &[u8; 16384], width: usize, height: usize) {
+fn say_rows<W: Write>(
+    out: &mut W,
+    mem: &[u8; 16384],
+    width: usize,
+    height: usize,
+) -> io::Result<()> {
     for y in 0..height {
-        say_row(mem, y, width);
+        say_row(out, mem, y, width)?;
     }
+    Ok(())
 }
 
 // The registers of the databook's first host blit, 11 by 7 pixels.
@@ -81,91 +91,114 @@ fn prepare(mem: &mut [u8; 16384], command: u32, format: u32) -> Engine {
     put(e, mem, 0x5c, 0)
 }
 
-fn host_example(name: &[u8], command: u32, one: u32, two: u32, three: u32, four: u32) {
-    say(name);
+fn host_example<W: Write>(
+    out: &mut W,
+    name: &[u8],
+    command: u32,
+    one: u32,
+    two: u32,
+    three: u32,
+    four: u32,
+) -> io::Result<()> {
+    say(out, name)?;
     let mut mem = [0u8; 16384];
     let e = prepare(&mut mem, command, 0x40_0000);
-    let e = put_aloud(e, &mut mem, 0x80, one);
-    let e = put_aloud(e, &mut mem, 0x80, two);
-    let e = put_aloud(e, &mut mem, 0x80, three);
-    put_aloud(e, &mut mem, 0x80, four);
-    say_rows(&mem, 11, 7);
+    let e = put_aloud(out, e, &mut mem, 0x80, one)?;
+    let e = put_aloud(out, e, &mut mem, 0x80, two)?;
+    let e = put_aloud(out, e, &mut mem, 0x80, three)?;
+    put_aloud(out, e, &mut mem, 0x80, four)?;
+    say_rows(out, &mem, 11, 7)
 }
 
 // The words of the databook, and the same with the bytes of each half word swapped.
-fn both_words(printed: &[u8], swapped: &[u8], command: u32) {
+fn both_words<W: Write>(
+    out: &mut W,
+    printed: &[u8],
+    swapped: &[u8],
+    command: u32,
+) -> io::Result<()> {
     host_example(
+        out,
         printed,
         command,
         0xc060_8020,
         0xc460_c060,
         0x3b80_6ec0,
         0x1100,
-    );
+    )?;
     host_example(
+        out,
         swapped,
         command,
         0x60c0_2080,
         0x60c4_60c0,
         0x803b_c06e,
         0x11,
-    );
+    )
 }
 
 // Source formats with a swizzle bit: both of them in the first example's, bit 21 in the second example's, which sets dstXY where it means dstSize.
-fn swizzle_examples() {
+fn swizzle_examples<W: Write>(out: &mut W) -> io::Result<()> {
     let mut mem = [0u8; 16384];
-    say(b"host blit 1 with both swizzles\n");
+    say(out, b"host blit 1 with both swizzles\n")?;
     let e = prepare(&mut mem, 0xcc00_0003, 0x70_0000);
-    put_aloud(e, &mut mem, 0x80, 0xc060_8020);
-    say(b"host blit 2, its format as printed\n");
+    put_aloud(out, e, &mut mem, 0x80, 0xc060_8020)?;
+    say(out, b"host blit 2, its format as printed\n")?;
     let e = prepare(&mut mem, 0xcc00_0003, 0x24_0000);
-    let e = put_aloud(e, &mut mem, 0x80, 0xc060_8020);
+    let e = put_aloud(out, e, &mut mem, 0x80, 0xc060_8020)?;
     let e = put(e, &mut mem, 0x68, 0);
     let e = put(e, &mut mem, 0x6c, 0x7_000b);
-    put_aloud(e, &mut mem, 0x80, 0xc060_8020);
+    put_aloud(out, e, &mut mem, 0x80, 0xc060_8020)?;
+    Ok(())
 }
 
 // A number that is not built: stored, refused at the launch, and refused when it is to run at once.
-fn not_built(e: Engine, mem: &mut [u8; 16384], number: u32, data: u32) -> Engine {
-    let e = put_aloud(e, mem, 0x70, number);
-    let e = put_aloud(e, mem, 0x80, data);
-    put_aloud(e, mem, 0x70, number | 0x100)
+fn not_built<W: Write>(
+    out: &mut W,
+    e: Engine,
+    mem: &mut [u8; 16384],
+    number: u32,
+    data: u32,
+) -> io::Result<Engine> {
+    let e = put_aloud(out, e, mem, 0x70, number)?;
+    let e = put_aloud(out, e, mem, 0x80, data)?;
+    put_aloud(out, e, mem, 0x70, number | 0x100)
 }
 
-fn not_built_examples() {
+fn not_built_examples<W: Write>(out: &mut W) -> io::Result<()> {
     let mut mem = [0u8; 16384];
     let e = prepare(&mut mem, 0xcc00_0003, 0x40_0000);
-    say(b"polygon\n");
+    say(out, b"polygon\n")?;
     let e = put(e, &mut mem, 0x5c, 0x1_0004);
-    let e = not_built(e, &mut mem, 0xcc00_0008, 0x4_0002);
-    say(b"SGRAM mode, colour and mask\n");
-    let e = not_built(e, &mut mem, 13, 0);
-    let e = not_built(e, &mut mem, 14, 0);
-    not_built(e, &mut mem, 15, 0);
+    let e = not_built(out, e, &mut mem, 0xcc00_0008, 0x4_0002)?;
+    say(out, b"SGRAM mode, colour and mask\n")?;
+    let e = not_built(out, e, &mut mem, 13, 0)?;
+    let e = not_built(out, e, &mut mem, 14, 0)?;
+    not_built(out, e, &mut mem, 15, 0)?;
+    Ok(())
 }
 
 // One word of 32 mono pixels.
-fn mono_word(word: u32) {
+fn mono_word<W: Write>(out: &mut W, word: u32) -> io::Result<()> {
     let mut mem = [0u8; 16384];
     let e = prepare(&mut mem, 0xcc00_0003, 0x40_0000);
     let e = put(e, &mut mem, 0x60, 1);
     let e = put(e, &mut mem, 0x68, 0x1_0020);
-    put_aloud(e, &mut mem, 0x80, word);
-    say_rows(&mem, 32, 1);
+    put_aloud(out, e, &mut mem, 0x80, word)?;
+    say_rows(out, &mem, 32, 1)
 }
 
 // A fill with a mono pattern whose rows are bytes fe 80 80 f8 80 80 80 00.
-fn mono_pattern() {
-    say(b"mono pattern\n");
+fn mono_pattern<W: Write>(out: &mut W) -> io::Result<()> {
+    say(out, b"mono pattern\n")?;
     let mut mem = [0u8; 16384];
     let e = prepare(&mut mem, 0xf000_2005, 0);
     let e = put(e, &mut mem, 0x60, 1);
     let e = put(e, &mut mem, 0x44, 0xf880_80fe);
     let e = put(e, &mut mem, 0x48, 0x0080_8080);
     let e = put(e, &mut mem, 0x68, 0x8_0008);
-    put_aloud(e, &mut mem, 0x80, 0);
-    say_rows(&mem, 8, 8);
+    put_aloud(out, e, &mut mem, 0x80, 0)?;
+    say_rows(out, &mem, 8, 8)
 }
 
 // How many words of data a waiting host blit takes.
@@ -193,51 +226,62 @@ fn words_of(source: u32, target: u32, size: u32) -> u64 {
 }
 
 // Five rows need four steps more than one row does, which is as many words more as the step has bytes.
-fn say_step(source: u32, target: u32, width: u32) {
+fn say_step<W: Write>(out: &mut W, source: u32, target: u32, width: u32) -> io::Result<()> {
     let one = words_of(source, target, 0x1_0000 | width);
     let five = words_of(source, target, 0x5_0000 | width);
     if five < one {
-        say(b" ?");
+        say(out, b" ?")
     } else {
-        say_number(b" ", five - one);
+        say_number(out, b" ", five - one)
     }
 }
 
 // The steps under packing 1, 2 and 3.
-fn say_steps(name: &[u8], source: u32, target: u32, width: u32) {
-    say(name);
-    say_step(source | 0x40_0000, target, width);
-    say_step(source | 0x80_0000, target, width);
-    say_step(source | 0xc0_0000, target, width);
-    say(b"\n");
+fn say_steps<W: Write>(
+    out: &mut W,
+    name: &[u8],
+    source: u32,
+    target: u32,
+    width: u32,
+) -> io::Result<()> {
+    say(out, name)?;
+    say_step(out, source | 0x40_0000, target, width)?;
+    say_step(out, source | 0x80_0000, target, width)?;
+    say_step(out, source | 0xc0_0000, target, width)?;
+    say(out, b"\n")
 }
 
-fn step_examples() {
-    say(b"steps under packing 1, 2 and 3\n");
-    say_steps(b"11 pixels, mono:", 0, 0x3_0800, 11);
-    say_steps(b"9 pixels, mono:", 0, 0x3_0800, 9);
-    say_steps(b"5 pixels, 8 bits:", 0x1_0000, 0x1_0800, 5);
-    say_steps(b"3 pixels, 24 bits:", 0x4_0000, 0x3_0800, 3);
+fn step_examples<W: Write>(out: &mut W) -> io::Result<()> {
+    say(out, b"steps under packing 1, 2 and 3\n")?;
+    say_steps(out, b"11 pixels, mono:", 0, 0x3_0800, 11)?;
+    say_steps(out, b"9 pixels, mono:", 0, 0x3_0800, 9)?;
+    say_steps(out, b"5 pixels, 8 bits:", 0x1_0000, 0x1_0800, 5)?;
+    say_steps(out, b"3 pixels, 24 bits:", 0x4_0000, 0x3_0800, 3)
 }
 
-fn main() {
+fn main(rt: HostRuntime) -> io::Result<()> {
+    let alloc = rt.alloc();
+    let mut out = BufWriter::new(alloc, rt.stdout())?;
     both_words(
+        &mut out,
         b"host blit 1, words as printed\n",
         b"host blit 1, half words swapped\n",
         0xcc00_0003,
-    );
+    )?;
     both_words(
+        &mut out,
         b"transparent, words as printed\n",
         b"transparent, half words swapped\n",
         0xcc01_0003,
-    );
-    swizzle_examples();
-    not_built_examples();
-    say(b"mono order\n");
-    mono_word(0x80);
-    mono_word(0x100);
-    mono_word(0x8000_0000);
-    mono_word(0x0100_0000);
-    mono_pattern();
-    step_examples();
+    )?;
+    swizzle_examples(&mut out)?;
+    not_built_examples(&mut out)?;
+    say(&mut out, b"mono order\n")?;
+    mono_word(&mut out, 0x80)?;
+    mono_word(&mut out, 0x100)?;
+    mono_word(&mut out, 0x8000_0000)?;
+    mono_word(&mut out, 0x0100_0000)?;
+    mono_pattern(&mut out)?;
+    step_examples(&mut out)?;
+    out.flush()
 }

@@ -6,15 +6,15 @@
 ghost use Rattle.std.specs.Prelude.{◌≤◌};
 
 use engine::{Answer, Engine};
-use libc::STDOUT_FILENO;
+use std::io::{self, BufWriter, Write};
 
-fn say(text: &[u8]) {
-    io::write_all(STDOUT_FILENO, text);
+fn say<W: Write>(out: &mut W, text: &[u8]) -> io::Result<()> {
+    out.write_all(text)
 }
 
-fn say_number(text: &[u8], n: u64) {
-    io::write_all(STDOUT_FILENO, text);
-    io::print_decimal(STDOUT_FILENO, n);
+fn say_number<W: Write>(out: &mut W, text: &[u8], n: u64) -> io::Result<()> {
+    out.write_all(text)?;
+    write!(out, "{n}")
 }
 
 fn put(e: Engine, mem: &mut [u8; 2048], offset: u32, word: u32) -> Engine {
@@ -23,19 +23,26 @@ fn put(e: Engine, mem: &mut [u8; 2048], offset: u32, word: u32) -> Engine {
 }
 
 // The same, with the answer printed.
-fn put_aloud(text: &[u8], e: Engine, mem: &mut [u8; 2048], offset: u32, word: u32) -> Engine {
-    say(text);
-    let out = e.write(mem, offset, word);
-    let answer = out.answer;
+fn put_aloud<W: Write>(
+    out: &mut W,
+    text: &[u8],
+    e: Engine,
+    mem: &mut [u8; 2048],
+    offset: u32,
+    word: u32,
+) -> io::Result<Engine> {
+    say(out, text)?;
+    let done = e.write(mem, offset, word);
+    let answer = done.answer;
     match answer {
         Answer::Taken(n, c) => {
-            say_number(b"taken, pixels ", n as u64);
-            say_number(b", changed ", c as u64);
+            say_number(out, b"taken, pixels ", n as u64)?;
+            say_number(out, b", changed ", c as u64)?;
         }
-        _ => say(b"refused"),
+        _ => say(out, b"refused")?,
     }
-    say(b"\n");
-    out.engine
+    say(out, b"\n")?;
+    Ok(done.engine)
 }
 
 // A sheet with no two rows alike.
@@ -79,7 +86,7 @@ fn differ(start: &[u8; 2048], mem: &[u8; 2048], stride: usize, bytes: usize) -> 
 }
 
 // The sheet lies at byte 0, the place aside at byte 1024, on a surface of the same step and format; the rectangle is 13 by 9 pixels from (3, 2).
-fn save(e: Engine, mem: &mut [u8; 2048], format: u32) -> Engine {
+fn save<W: Write>(out: &mut W, e: Engine, mem: &mut [u8; 2048], format: u32) -> io::Result<Engine> {
     let e = put(e, mem, 0x10, 1024);
     let e = put(e, mem, 0x14, format);
     let e = put(e, mem, 0x34, 0);
@@ -89,79 +96,102 @@ fn save(e: Engine, mem: &mut [u8; 2048], format: u32) -> Engine {
     let e = put(e, mem, 0x68, 0x9_000d);
     let e = put(e, mem, 0x6c, 0);
     let e = put(e, mem, 0x70, 0xcc00_0001);
-    put_aloud(b"copy aside: ", e, mem, 0x80, 0x2_0003)
+    put_aloud(out, b"copy aside: ", e, mem, 0x80, 0x2_0003)
 }
 
 // A fill, a glyph, a line and a stippled polyline, all inside the rectangle, and two writes that are refused.
-fn draw_note(e: Engine, mem: &mut [u8; 2048]) -> Engine {
+fn draw_note<W: Write>(out: &mut W, e: Engine, mem: &mut [u8; 2048]) -> io::Result<Engine> {
     let e = put(e, mem, 0x10, 0);
     let e = put(e, mem, 0x08, 0x2_0003);
     let e = put(e, mem, 0x0c, 0xb_0010);
     let e = put(e, mem, 0x64, 0xff_ee80);
     let e = put(e, mem, 0x60, 0x40);
     let e = put(e, mem, 0x70, 0xcc00_0005);
-    let e = put_aloud(b"fill: ", e, mem, 0x80, 0x2_0003);
+    let e = put_aloud(out, b"fill: ", e, mem, 0x80, 0x2_0003)?;
     let e = put(e, mem, 0x64, 0x12_3456);
     let e = put(e, mem, 0x54, 0x40_0000);
     let e = put(e, mem, 0x5c, 0);
     let e = put(e, mem, 0x68, 0x7_000b);
     let e = put(e, mem, 0x6c, 0x3_0004);
     let e = put(e, mem, 0x70, 0xcc01_0003);
-    let e = put_aloud(b"glyph, word 1: ", e, mem, 0x80, 0x60c0_2080);
-    let e = put_aloud(b"glyph, word 2: ", e, mem, 0x80, 0x60c4_60c0);
-    let e = put_aloud(b"a register while the glyph waits: ", e, mem, 0x64, 0);
-    let e = put_aloud(b"glyph, word 3: ", e, mem, 0x80, 0x803b_c06e);
-    let e = put_aloud(b"glyph, word 4: ", e, mem, 0x80, 0x11);
+    let e = put_aloud(out, b"glyph, word 1: ", e, mem, 0x80, 0x60c0_2080)?;
+    let e = put_aloud(out, b"glyph, word 2: ", e, mem, 0x80, 0x60c4_60c0)?;
+    let e = put_aloud(out, b"a register while the glyph waits: ", e, mem, 0x64, 0)?;
+    let e = put_aloud(out, b"glyph, word 3: ", e, mem, 0x80, 0x803b_c06e)?;
+    let e = put_aloud(out, b"glyph, word 4: ", e, mem, 0x80, 0x11)?;
     let e = put(e, mem, 0x5c, 0);
     let e = put(e, mem, 0x70, 0xcc00_0006);
-    let e = put_aloud(b"line: ", e, mem, 0x80, 0xa_000f);
+    let e = put_aloud(out, b"line: ", e, mem, 0x80, 0xa_000f)?;
     let e = put(e, mem, 0x3c, 0x17);
     let e = put(e, mem, 0x40, 0x501);
     let e = put(e, mem, 0x70, 0x5a00_1007);
-    let e = put_aloud(b"stippled polyline: ", e, mem, 0x80, 0x3_0000);
-    put_aloud(b"a write past the registers: ", e, mem, 0x200, 0)
+    let e = put_aloud(out, b"stippled polyline: ", e, mem, 0x80, 0x3_0000)?;
+    put_aloud(out, b"a write past the registers: ", e, mem, 0x200, 0)
 }
 
-fn put_back(e: Engine, mem: &mut [u8; 2048], format: u32) -> Engine {
+fn put_back<W: Write>(
+    out: &mut W,
+    e: Engine,
+    mem: &mut [u8; 2048],
+    format: u32,
+) -> io::Result<Engine> {
     let e = put(e, mem, 0x34, 1024);
     let e = put(e, mem, 0x54, format);
     let e = put(e, mem, 0x68, 0x9_000d);
     let e = put(e, mem, 0x6c, 0x2_0003);
     let e = put(e, mem, 0x70, 0xcc00_0001);
-    put_aloud(b"copy back: ", e, mem, 0x80, 0)
+    put_aloud(out, b"copy back: ", e, mem, 0x80, 0)
 }
 
-fn say_differ(text: &[u8], start: &[u8; 2048], mem: &[u8; 2048], stride: usize, bytes: usize) {
-    say_number(text, differ(start, mem, stride, bytes));
-    say(b"\n");
+fn say_differ<W: Write>(
+    out: &mut W,
+    text: &[u8],
+    start: &[u8; 2048],
+    mem: &[u8; 2048],
+    stride: usize,
+    bytes: usize,
+) -> io::Result<()> {
+    say_number(out, text, differ(start, mem, stride, bytes))?;
+    say(out, b"\n")
 }
 
-fn save_and_restore(name: &[u8], format: u32, stride: usize, bytes: usize) {
-    say(name);
+fn save_and_restore<W: Write>(
+    out: &mut W,
+    name: &[u8],
+    format: u32,
+    stride: usize,
+    bytes: usize,
+) -> io::Result<()> {
+    say(out, name)?;
     let mut mem = [0u8; 2048];
     draw_sheet(&mut mem);
     let start = mem;
     let e = Engine::open(2048);
-    let e = save(e, &mut mem, format);
-    let e = draw_note(e, &mut mem);
+    let e = save(out, e, &mut mem, format)?;
+    let e = draw_note(out, e, &mut mem)?;
     say_differ(
+        out,
         b"bytes that the note changed: ",
         &start,
         &mem,
         stride,
         bytes,
-    );
-    put_back(e, &mut mem, format);
+    )?;
+    put_back(out, e, &mut mem, format)?;
     say_differ(
+        out,
         b"bytes outside the place aside that differ: ",
         &start,
         &mem,
         stride,
         bytes,
-    );
+    )
 }
 
-fn main() {
-    save_and_restore(b"16 bits a pixel\n", 0x3_0028, 40, 2);
-    save_and_restore(b"24 bits a pixel\n", 0x4_003c, 60, 3);
+fn main(rt: HostRuntime) -> io::Result<()> {
+    let alloc = rt.alloc();
+    let mut out = BufWriter::new(alloc, rt.stdout())?;
+    save_and_restore(&mut out, b"16 bits a pixel\n", 0x3_0028, 40, 2)?;
+    save_and_restore(&mut out, b"24 bits a pixel\n", 0x4_003c, 60, 3)?;
+    out.flush()
 }

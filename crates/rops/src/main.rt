@@ -2,9 +2,9 @@
 // formula in reverse Polish over P, S, D, 0 and 1 with a (and), o (or), x (exclusive or) and n (not). Empty lines and lines that begin with # are passed over.
 #![tactic(auto)]
 
-ghost use Rattle.std.specs.Prelude.{◌<◌, ◌≤◌, length};
+ghost use Rattle.std.specs.Prelude.{◌<◌, ◌≤◌};
 
-use libc::{STDIN_FILENO, STDOUT_FILENO};
+use std::io::{self, BufWriter, Read, Write};
 
 // The eight combinations of a pattern, a source and a target bit lie side by side in one byte: combination 4p + 2s + d at its bit.
 const PATTERN: u8 = 0xf0;
@@ -178,40 +178,44 @@ fn one_more(n: u64) -> u64 {
     std::num::wrapping_add_u64(n, 1)
 }
 
-fn report(line: u64, what: &[u8]) {
-    io::write_all(STDOUT_FILENO, b"line ");
-    io::print_decimal(STDOUT_FILENO, line);
-    io::write_all(STDOUT_FILENO, what);
+fn report<W: Write>(out: &mut W, line: u64, what: &[u8]) -> io::Result<()> {
+    write!(out, "line {line}")?;
+    out.write_all(what)
 }
 
-fn count_pair(t: Tally, number: u64, code: u8, formula: u8) -> Tally {
+fn count_pair<W: Write>(
+    out: &mut W,
+    t: Tally,
+    number: u64,
+    code: u8,
+    formula: u8,
+) -> io::Result<Tally> {
     let mut next = t;
     if agrees(code, formula) {
         next.seen[code as usize] = true;
         next.agree = one_more(next.agree);
-        return next;
+        return Ok(next);
     }
-    report(number, b": code ");
-    io::print_hex(STDOUT_FILENO, code as u64, 2);
-    io::write_all(STDOUT_FILENO, b" is not what its formula says\n");
+    report(out, number, b": code ")?;
+    writeln!(out, "{code:02x} is not what its formula says")?;
     next.differ = one_more(next.differ);
-    next
+    Ok(next)
 }
 
-fn judge(t: Tally, number: u64, line: &[u8]) -> Tally {
+fn judge<W: Write>(out: &mut W, t: Tally, number: u64, line: &[u8]) -> io::Result<Tally> {
     match read_line(line) {
-        Line::Empty => t,
+        Line::Empty => Ok(t),
         Line::Malformed => {
-            report(number, b": malformed\n");
+            report(out, number, b": malformed\n")?;
             let mut next = t;
             next.malformed = one_more(next.malformed);
-            next
+            Ok(next)
         }
-        Line::Pair(code, formula) => count_pair(t, number, code, formula),
+        Line::Pair(code, formula) => count_pair(out, t, number, code, formula),
     }
 }
 
-fn judge_all(text: &[u8]) -> Tally {
+fn judge_all<W: Write>(out: &mut W, text: &[u8]) -> io::Result<Tally> {
     let mut t = Tally {
         agree: 0,
         differ: 0,
@@ -224,13 +228,13 @@ fn judge_all(text: &[u8]) -> Tally {
     while i < text.len() {
         if text[i] == b'\n' {
             number = one_more(number);
-            let next = judge(t, number, &text[start..i]);
+            let next = judge(out, t, number, &text[start..i])?;
             t = next;
             start = i + 1;
         }
         i += 1;
     }
-    judge(t, one_more(number), &text[start..])
+    judge(out, t, one_more(number), &text[start..])
 }
 
 fn count_seen(seen: [bool; 256]) -> u64 {
@@ -245,25 +249,25 @@ fn count_seen(seen: [bool; 256]) -> u64 {
     n
 }
 
-fn say(n: u64, what: &[u8]) {
-    io::print_decimal(STDOUT_FILENO, n);
-    io::write_all(STDOUT_FILENO, what);
+fn say<W: Write>(out: &mut W, n: u64, what: &[u8]) -> io::Result<()> {
+    write!(out, "{n}")?;
+    out.write_all(what)
 }
 
-fn main() {
-    let mut buffer = io::large_buffer();
-    let n = io::read_full(STDIN_FILENO, &mut buffer);
+fn main(rt: HostRuntime) -> io::Result<()> {
+    let alloc = rt.alloc();
+    let mut out = BufWriter::new(alloc, rt.stdout())?;
+    let mut text = Vec::new(alloc);
+    let n = rt.stdin().take(65536).read_to_end(&mut text)?;
     if n == 65536 {
-        io::write_all(
-            STDOUT_FILENO,
-            b"input of 65536 bytes or more: not read to its end\n",
-        );
-        return;
+        out.write_all(b"input of 65536 bytes or more: not read to its end\n")?;
+        return out.flush();
     }
-    let t = judge_all(&buffer[..n]);
+    let t = judge_all(&mut out, &text)?;
     let seen = t.seen;
-    say(t.agree, b" lines agree, over ");
-    say(count_seen(seen), b" different codes\n");
-    say(t.differ, b" lines disagree\n");
-    say(t.malformed, b" lines are malformed\n");
+    say(&mut out, t.agree, b" lines agree, over ")?;
+    say(&mut out, count_seen(seen), b" different codes\n")?;
+    say(&mut out, t.differ, b" lines disagree\n")?;
+    say(&mut out, t.malformed, b" lines are malformed\n")?;
+    out.flush()
 }

@@ -4,10 +4,10 @@
 
 use bank::Reading;
 use engine::Engine;
-use libc::STDOUT_FILENO;
+use std::io::{self, BufWriter, Write};
 
-fn say(text: &[u8]) {
-    io::write_all(STDOUT_FILENO, text);
+fn say<W: Write>(out: &mut W, text: &[u8]) -> io::Result<()> {
+    out.write_all(text)
 }
 
 fn put(e: Engine, mem: &mut [u8; 512], offset: u32, word: u32) -> Engine {
@@ -15,47 +15,44 @@ fn put(e: Engine, mem: &mut [u8; 512], offset: u32, word: u32) -> Engine {
     out.engine
 }
 
-fn say_register(name: &[u8], e: Engine, offset: u32) {
-    say(name);
+fn say_register<W: Write>(out: &mut W, name: &[u8], e: Engine, offset: u32) -> io::Result<()> {
+    say(out, name)?;
     let r = e.read(offset);
     match r {
-        Reading::Value(v) => {
-            io::print_hex(STDOUT_FILENO, v as u64, 8);
-        }
-        Reading::Refused => {
-            say(b"refused");
-        }
+        Reading::Value(v) => write!(out, "{v:08x}")?,
+        Reading::Refused => say(out, b"refused")?,
     }
-    say(b"\n");
+    say(out, b"\n")
 }
 
-fn say_pixel(v: u8) {
+fn say_pixel<W: Write>(out: &mut W, v: u8) -> io::Result<()> {
     if v == 0 {
-        say(b".");
+        say(out, b".")
     } else if v == 1 {
-        say(b"o");
+        say(out, b"o")
     } else if v == 2 {
-        say(b"x");
+        say(out, b"x")
     } else {
-        say(b"?");
+        say(out, b"?")
     }
 }
 
 // Rows of a width from the first byte on, of n bytes together.
-fn say_rows(mem: &[u8; 512], width: usize, n: usize) {
+fn say_rows<W: Write>(out: &mut W, mem: &[u8; 512], width: usize, n: usize) -> io::Result<()> {
     let mut i = 0;
     let mut x = 0;
     while i < n {
         if i < 512 {
-            say_pixel(mem[i]);
+            say_pixel(out, mem[i])?;
         }
         i += 1;
         x += 1;
         if x == width {
-            say(b"\n");
+            say(out, b"\n")?;
             x = 0;
         }
     }
+    Ok(())
 }
 
 fn wide(b: u8) -> u64 {
@@ -84,30 +81,30 @@ fn prepare(
 }
 
 // The line of the databook's example, by a command.
-fn line_example(name: &[u8], command: u32) {
-    say(name);
+fn line_example<W: Write>(out: &mut W, name: &[u8], command: u32) -> io::Result<()> {
+    say(out, name)?;
     let mut mem = [0u8; 512];
     let e = prepare(
         &mut mem, 0x1_0020, 0x10_0020, 0x2_0003, 6, 0x201_0202, command,
     );
     let e = put(e, &mut mem, 0x80, 0xc_0016);
-    say_rows(&mem, 32, 512);
-    say_register(b"lineStyle ", e, 0x40);
-    say_register(b"srcXY ", e, 0x5c);
-    say_register(b"dstXY ", e, 0x6c);
+    say_rows(out, &mem, 32, 512)?;
+    say_register(out, b"lineStyle ", e, 0x40)?;
+    say_register(out, b"srcXY ", e, 0x5c)?;
+    say_register(out, b"dstXY ", e, 0x6c)
 }
 
 // Points from (0, 0) to (last, 0) under a stipple.
-fn stipple_example(stipple: u32, style: u32, last: u32) {
+fn stipple_example<W: Write>(out: &mut W, stipple: u32, style: u32, last: u32) -> io::Result<()> {
     let mut mem = [0u8; 512];
     let e = prepare(&mut mem, 0x1_0040, 0x1_0040, 0, stipple, style, 0xcc00_1006);
     let e = put(e, &mut mem, 0x80, last);
-    say_rows(&mem, 64, 64);
-    say_register(b"lineStyle ", e, 0x40);
+    say_rows(out, &mem, 64, 64)?;
+    say_register(out, b"lineStyle ", e, 0x40)
 }
 
 // Pattern bytes 0 to 63, offset 3 across and 5 down: the pixels of a fill of 2 by 2.
-fn pattern_example() {
+fn pattern_example<W: Write>(out: &mut W) -> io::Result<()> {
     let mut mem = [0u8; 512];
     let e = Engine::open(512);
     let e = put(e, &mut mem, 0x14, 0x1_0010);
@@ -131,24 +128,25 @@ fn pattern_example() {
     let e = put(e, &mut mem, 0x68, 0x2_0002);
     let e = put(e, &mut mem, 0x70, 0xf056_0005);
     put(e, &mut mem, 0x80, 0);
-    io::print_decimal(STDOUT_FILENO, wide(mem[0]));
-    say(b" ");
-    io::print_decimal(STDOUT_FILENO, wide(mem[1]));
-    say(b" ");
-    io::print_decimal(STDOUT_FILENO, wide(mem[16]));
-    say(b"\n");
+    writeln!(out, "{} {} {}", wide(mem[0]), wide(mem[1]), wide(mem[16]))
 }
 
-fn main() {
-    line_example(b"line, stippled\n", 0xcc00_1006);
-    line_example(b"polyline, stippled\n", 0xcc00_1007);
-    line_example(b"line, not stippled\n", 0xcc00_0006);
-    say(b"stipple 17, repeat 0, 1, 2\n");
-    stipple_example(0x17, 0x500, 11);
-    stipple_example(0x17, 0x501, 23);
-    stipple_example(0x17, 0x502, 35);
-    say(b"stipple 2b7 from the middle\n");
-    stipple_example(0x2b7, 0x702_0904, 62);
-    say(b"pattern from (3, 5): pixels (0, 0), (1, 0), (0, 1)\n");
-    pattern_example();
+fn main(rt: HostRuntime) -> io::Result<()> {
+    let alloc = rt.alloc();
+    let mut out = BufWriter::new(alloc, rt.stdout())?;
+    line_example(&mut out, b"line, stippled\n", 0xcc00_1006)?;
+    line_example(&mut out, b"polyline, stippled\n", 0xcc00_1007)?;
+    line_example(&mut out, b"line, not stippled\n", 0xcc00_0006)?;
+    say(&mut out, b"stipple 17, repeat 0, 1, 2\n")?;
+    stipple_example(&mut out, 0x17, 0x500, 11)?;
+    stipple_example(&mut out, 0x17, 0x501, 23)?;
+    stipple_example(&mut out, 0x17, 0x502, 35)?;
+    say(&mut out, b"stipple 2b7 from the middle\n")?;
+    stipple_example(&mut out, 0x2b7, 0x702_0904, 62)?;
+    say(
+        &mut out,
+        b"pattern from (3, 5): pixels (0, 0), (1, 0), (0, 1)\n",
+    )?;
+    pattern_example(&mut out)?;
+    out.flush()
 }
