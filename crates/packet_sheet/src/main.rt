@@ -3,9 +3,9 @@
 #![tactic(auto)]
 
 use engine::Engine;
-use libc::{STDIN_FILENO, STDOUT_FILENO};
 use packets::{Reader, Rest};
 use picture::Player;
+use std::io::{self, Read, Write};
 
 // Reader and engine so far, how many answers were 0 before the first that was not, the number of that one, or 0, and whether there may be more to read.
 #[derive(Clone, Copy)]
@@ -45,11 +45,10 @@ impl Turn {
     }
 
     // What one read brought. A piece of 4,096 bytes has at most 1,024 answers: RoomEnough of the crate packets.
-    fn read_some(self, mem: &mut [u8; 65536]) -> Turn {
-        let mut bytes = io::buffer();
+    fn read_some<R: Read>(self, input: &mut R, mem: &mut [u8; 65536]) -> io::Result<Turn> {
+        let mut bytes = [0u8; 4096];
         let mut answers = [0u32; 3075];
-        let got = libc::read(STDIN_FILENO, &mut bytes);
-        let n = io::count(got, &bytes);
+        let n = input.read(&mut bytes)?;
         let reader = self.reader;
         let engine = self.engine;
         let fed = intake::feed(reader, engine, mem, &bytes[..n], &mut answers);
@@ -62,25 +61,25 @@ impl Turn {
             refused: 0,
             more: n != 0,
         };
-        t.look(&answers, fed.answered)
+        Ok(t.look(&answers, fed.answered))
     }
 }
 
 // A proved loop has to end: the turns are counted down from a number that no run uses up.
-fn read_all(mem: &mut [u8; 65536]) -> Turn {
+fn read_all<R: Read>(input: &mut R, mem: &mut [u8; 65536]) -> io::Result<Turn> {
     let mut t = Turn::open();
     let mut turns = u64::MAX;
     while 0 < turns {
-        t = t.read_some(mem);
+        t = t.read_some(input, mem)?;
         if !t.more {
-            return t;
+            return Ok(t);
         }
         if t.refused != 0 {
-            return t;
+            return Ok(t);
         }
         turns -= 1;
     }
-    t
+    Ok(t)
 }
 
 // How many bytes are held, or one where words of a packet are left.
@@ -93,19 +92,29 @@ fn unfinished(r: Reader) -> u32 {
     }
 }
 
-fn write_text(p: Player, mem: &[u8; 65536], out: &mut [u8]) {
+fn write_text<W: Write>(
+    to: &mut W,
+    p: Player,
+    mem: &[u8; 65536],
+    out: &mut [u8],
+) -> io::Result<()> {
     let n = p.text(mem, out);
-    io::write_all(STDOUT_FILENO, &out[..n]);
+    to.write_all(&out[..n])
 }
 
 // No text is longer than 786,449 bytes: WholeText of the crate picture.
-fn show(p: Player, mem: &[u8; 65536], out: &mut [u8; 786449]) {
-    write_text(p, mem, out);
+fn show<W: Write>(
+    to: &mut W,
+    p: Player,
+    mem: &[u8; 65536],
+    out: &mut [u8; 786449],
+) -> io::Result<()> {
+    write_text(to, p, mem, out)
 }
 
-fn main() {
+fn main(rt: HostRuntime) -> io::Result<()> {
     let mut mem = [0u8; 65536];
-    let t = read_all(&mut mem);
+    let t = read_all(&mut rt.stdin(), &mut mem)?;
     let engine = t.engine;
     let reader = t.reader;
     let player = Player {
@@ -116,5 +125,5 @@ fn main() {
         refused: t.refused,
     };
     let mut out = [0u8; 786449];
-    show(player, &mem, &mut out);
+    show(&mut rt.stdout(), player, &mem, &mut out)
 }

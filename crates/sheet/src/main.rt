@@ -2,8 +2,8 @@
 // surface as a plain PPM, or the first fault met.
 #![tactic(auto)]
 
-use libc::{STDIN_FILENO, STDOUT_FILENO};
 use picture::Player;
+use std::io::{self, Read, Write};
 
 // The player after one read, and whether there may be more to read.
 #[derive(Clone, Copy)]
@@ -12,47 +12,56 @@ struct Turn {
     more: bool,
 }
 
-fn read_some(p: Player, mem: &mut [u8; 65536]) -> Turn {
-    let mut buf = io::buffer();
-    let got = libc::read(STDIN_FILENO, &mut buf);
-    let n = io::count(got, &buf);
+fn read_some<R: Read>(input: &mut R, p: Player, mem: &mut [u8; 65536]) -> io::Result<Turn> {
+    let mut buf = [0u8; 4096];
+    let n = input.read(&mut buf)?;
     let next = p.feed(mem, &buf[..n]);
     let more = (n != 0) & (next.refused == 0);
-    Turn {
+    Ok(Turn {
         player: next,
         more: more,
-    }
+    })
 }
 
 // A proved loop has to end: the turns are counted down from a number that no run uses up.
-fn read_all(p: Player, mem: &mut [u8; 65536]) -> Player {
+fn read_all<R: Read>(input: &mut R, p: Player, mem: &mut [u8; 65536]) -> io::Result<Player> {
     let mut player = p;
     let mut turns = u64::MAX;
     while 0 < turns {
-        let t = read_some(player, mem);
+        let t = read_some(input, player, mem)?;
         let next = t.player;
         player = next;
         if !t.more {
-            return player;
+            return Ok(player);
         }
         turns -= 1;
     }
-    player
+    Ok(player)
 }
 
-fn write_text(p: Player, mem: &[u8; 65536], out: &mut [u8]) {
+fn write_text<W: Write>(
+    to: &mut W,
+    p: Player,
+    mem: &[u8; 65536],
+    out: &mut [u8],
+) -> io::Result<()> {
     let n = p.text(mem, out);
-    io::write_all(STDOUT_FILENO, &out[..n]);
+    to.write_all(&out[..n])
 }
 
 // No text is longer than 786,449 bytes, three lines and 65,536 lines of 12: WholeSheet of the crate picture.
-fn show(p: Player, mem: &[u8; 65536], out: &mut [u8; 786449]) {
-    write_text(p, mem, out);
+fn show<W: Write>(
+    to: &mut W,
+    p: Player,
+    mem: &[u8; 65536],
+    out: &mut [u8; 786449],
+) -> io::Result<()> {
+    write_text(to, p, mem, out)
 }
 
-fn main() {
+fn main(rt: HostRuntime) -> io::Result<()> {
     let mut mem = [0u8; 65536];
-    let player = read_all(Player::open(65536), &mut mem);
+    let player = read_all(&mut rt.stdin(), Player::open(65536), &mut mem)?;
     let mut out = [0u8; 786449];
-    show(player, &mem, &mut out);
+    show(&mut rt.stdout(), player, &mem, &mut out)
 }
