@@ -5,10 +5,10 @@
 // `number count changed` for each write, `run number taken count changed` for each run, and checksums of registers and memory.
 #![tactic(auto)]
 
-ghost use Rattle.std.specs.Prelude.{◌<◌, ◌≤◌};
+ghost use Rattle.std.specs.Prelude.{◌<◌, ◌≤◌, length, IfOk};
 
 use engine::Engine;
-use libc::{STDIN_FILENO, STDOUT_FILENO};
+use std::io::{self, BufReader, BufWriter, Read, Write};
 
 // Three words of the input, and how many of their twelve bytes there were.
 #[derive(Clone, Copy)]
@@ -26,13 +26,13 @@ struct Turn {
     more: bool,
 }
 
-fn say(text: &[u8]) {
-    io::write_all(STDOUT_FILENO, text);
+fn say<W: Write>(out: &mut W, text: &[u8]) -> io::Result<()> {
+    out.write_all(text)
 }
 
-fn say_number(n: u64, text: &[u8]) {
-    io::print_decimal(STDOUT_FILENO, n);
-    io::write_all(STDOUT_FILENO, text);
+fn say_number<W: Write>(out: &mut W, n: u64, text: &[u8]) -> io::Result<()> {
+    write!(out, "{n}")?;
+    out.write_all(text)
 }
 
 fn wide(x: u8) -> u32
@@ -45,19 +45,34 @@ fn word(a: u8, b: u8, c: u8, d: u8) -> u32 {
     wide(a) + wide(b) * 0x100 + wide(c) * 0x1_0000 + wide(d) * 0x100_0000
 }
 
-fn read_record() -> Record {
+// Reads until b is full or the input ends; how many bytes there were.
+fn read_full<R: Read>(input: &mut R, b: &mut [u8]) -> io::Result<usize>
+    ensures { IfOk result (λ n. n ≤ length b.new) }
+{
+    let mut done = 0;
+    while done < b.len() {
+        let n = input.read(&mut b[done..])?;
+        if n == 0 {
+            return Ok(done);
+        }
+        done += n;
+    }
+    Ok(done)
+}
+
+fn read_record<R: Read>(input: &mut R) -> io::Result<Record> {
     let mut b = [0u8; 12];
-    let n = io::read_full(STDIN_FILENO, &mut b);
-    Record {
+    let n = read_full(input, &mut b)?;
+    Ok(Record {
         first: word(b[0], b[1], b[2], b[3]),
         second: word(b[4], b[5], b[6], b[7]),
         third: word(b[8], b[9], b[10], b[11]),
         came: n,
-    }
+    })
 }
 
-fn say_inside() {
-    say(b"the input ends inside a stream\n");
+fn say_inside<W: Write>(out: &mut W) -> io::Result<()> {
+    say(out, b"the input ends inside a stream\n")
 }
 
 fn no_more(e: Engine) -> Turn {
@@ -67,137 +82,173 @@ fn no_more(e: Engine) -> Turn {
     }
 }
 
-fn play_write(e: Engine, mem: &mut [u8], r: Record) -> Turn {
+fn play_write<W: Write>(out: &mut W, e: Engine, mem: &mut [u8], r: Record) -> io::Result<Turn> {
     let len = recorded::lent(mem.len(), r.third);
-    let out = e.write(&mut mem[..len], r.first, r.second);
-    let next = out.engine;
-    let answer = out.answer;
-    say_number(answer.number() as u64, b" ");
-    say_number(answer.count() as u64, b" ");
-    say_number(answer.changed() as u64, b"\n");
-    Turn {
+    let done = e.write(&mut mem[..len], r.first, r.second);
+    let next = done.engine;
+    let answer = done.answer;
+    say_number(out, answer.number() as u64, b" ")?;
+    say_number(out, answer.count() as u64, b" ")?;
+    say_number(out, answer.changed() as u64, b"\n")?;
+    Ok(Turn {
         engine: next,
         more: true,
-    }
+    })
 }
 
 // The n words of a run, three to a record; whether they were there.
-fn read_words(run: &mut [u32; 1026], n: usize) -> bool
+fn read_words<R: Read>(input: &mut R, run: &mut [u32; 1026], n: usize) -> io::Result<bool>
     requires { n ≤ 1023 }
 {
     let mut i = 0;
     while i < n {
-        let r = read_record();
+        let r = read_record(input)?;
         if r.came < 12 {
-            return false;
+            return Ok(false);
         }
         run[i] = r.first;
         run[i + 1] = r.second;
         run[i + 2] = r.third;
         i += 3;
     }
-    true
+    Ok(true)
 }
 
 // The first n words of a run.
-fn play_words(e: Engine, mem: &mut [u8], run: &[u32], n: usize) -> Turn {
+fn play_words<W: Write>(
+    out: &mut W,
+    e: Engine,
+    mem: &mut [u8],
+    run: &[u32],
+    n: usize,
+) -> io::Result<Turn> {
     let many = recorded::least(n, run.len());
-    let out = words::take_run(e, mem, &run[..many]);
-    let next = out.engine;
-    say(b"run ");
-    say_number(out.number as u64, b" ");
-    say_number(out.sums.taken as u64, b" ");
-    say_number(out.sums.count, b" ");
-    say_number(out.sums.changed, b"\n");
-    Turn {
+    let done = words::take_run(e, mem, &run[..many]);
+    let next = done.engine;
+    say(out, b"run ")?;
+    say_number(out, done.number as u64, b" ")?;
+    say_number(out, done.sums.taken as u64, b" ")?;
+    say_number(out, done.sums.count, b" ")?;
+    say_number(out, done.sums.changed, b"\n")?;
+    Ok(Turn {
         engine: next,
         more: true,
-    }
+    })
 }
 
 // The same, in the array that holds them.
-fn play_held(e: Engine, mem: &mut [u8], run: &[u32; 1026], n: usize) -> Turn {
-    play_words(e, mem, run, n)
+fn play_held<W: Write>(
+    out: &mut W,
+    e: Engine,
+    mem: &mut [u8],
+    run: &[u32; 1026],
+    n: usize,
+) -> io::Result<Turn> {
+    play_words(out, e, mem, run, n)
 }
 
-fn play_run(e: Engine, mem: &mut [u8], r: Record) -> Turn {
+fn play_run<R: Read, W: Write>(
+    input: &mut R,
+    out: &mut W,
+    e: Engine,
+    mem: &mut [u8],
+    r: Record,
+) -> io::Result<Turn> {
     let n = r.first as usize;
     if 1023 < n {
-        say(b"a run has more than 1023 words\n");
-        return no_more(e);
+        say(out, b"a run has more than 1023 words\n")?;
+        return Ok(no_more(e));
     }
     let mut run = [0u32; 1026];
-    if !read_words(&mut run, n) {
-        say_inside();
-        return no_more(e);
+    if !read_words(input, &mut run, n)? {
+        say_inside(out)?;
+        return Ok(no_more(e));
     }
     let len = recorded::lent(mem.len(), r.second);
-    play_held(e, &mut mem[..len], &run, n)
+    play_held(out, e, &mut mem[..len], &run, n)
 }
 
-fn play_record(e: Engine, mem: &mut [u8]) -> Turn {
-    let r = read_record();
+fn play_record<R: Read, W: Write>(
+    input: &mut R,
+    out: &mut W,
+    e: Engine,
+    mem: &mut [u8],
+) -> io::Result<Turn> {
+    let r = read_record(input)?;
     if r.came < 12 {
-        say_inside();
-        return no_more(e);
+        say_inside(out)?;
+        return Ok(no_more(e));
     }
     if r.third == 2 {
-        return play_run(e, mem, r);
+        return play_run(input, out, e, mem, r);
     }
-    play_write(e, mem, r)
+    play_write(out, e, mem, r)
 }
 
-fn say_sums(e: Engine, mem: &[u8]) {
-    say(b"registers ");
-    io::print_hex(STDOUT_FILENO, recorded::sum_registers(e), 8);
-    say(b" memory ");
-    io::print_hex(STDOUT_FILENO, recorded::sum_memory(mem), 8);
-    say(b"\n");
+fn say_sums<W: Write>(out: &mut W, e: Engine, mem: &[u8]) -> io::Result<()> {
+    let registers = recorded::sum_registers(e);
+    let memory = recorded::sum_memory(mem);
+    writeln!(out, "registers {registers:08x} memory {memory:08x}")
 }
 
 // The records of a stream on an engine opened for a length; whether all of them were there.
-fn play(mem: &mut [u8], opened: usize, records: u32) -> bool {
+fn play<R: Read, W: Write>(
+    input: &mut R,
+    out: &mut W,
+    mem: &mut [u8],
+    opened: usize,
+    records: u32,
+) -> io::Result<bool> {
     let mut e = Engine::open(opened);
     let mut done: u32 = 0;
     while done < records {
-        let t = play_record(e, mem);
+        let t = play_record(input, out, e, mem)?;
         if !t.more {
-            return false;
+            return Ok(false);
         }
         let next = t.engine;
         e = next;
         done += 1;
     }
-    say_sums(e, mem);
-    true
+    say_sums(out, e, mem)?;
+    Ok(true)
 }
 
 // Stream k; whether it was there whole. One for a longer memory than there is gets all there is.
-fn play_stream(mem: &mut [u8], k: u64) -> bool {
-    let head = read_record();
+fn play_stream<R: Read, W: Write>(
+    input: &mut R,
+    out: &mut W,
+    mem: &mut [u8],
+    k: u64,
+) -> io::Result<bool> {
+    let head = read_record(input)?;
     if head.came == 0 {
-        return false;
+        return Ok(false);
     }
     if head.came < 12 {
-        say_inside();
-        return false;
+        say_inside(out)?;
+        return Ok(false);
     }
     let opened = head.first as usize;
-    say(b"stream ");
-    say_number(k, b": ");
-    say_number(head.first as u64, b" bytes\n");
+    say(out, b"stream ")?;
+    say_number(out, k, b": ")?;
+    say_number(out, head.first as u64, b" bytes\n")?;
     let len = recorded::least(opened, mem.len());
     recorded::fill(&mut mem[..len], head.third);
-    play(&mut mem[..len], opened, head.second)
+    play(input, out, &mut mem[..len], opened, head.second)
 }
 
-fn main() {
-    let mut mem = io::large_buffer();
+fn main(rt: HostRuntime) -> io::Result<()> {
+    let alloc = rt.alloc();
+    let mut input = BufReader::new(alloc, rt.stdin())?;
+    let mut out = BufWriter::new(alloc, rt.stdout())?;
+    let mut mem = vec![in alloc; 0u8; 65536]?;
     let mut k: u64 = 0;
     while k < 0x1_0000_0000 {
-        if !play_stream(&mut mem, k) {
-            return;
+        if !play_stream(&mut input, &mut out, &mut mem, k)? {
+            return out.flush();
         }
         k += 1;
     }
+    out.flush()
 }
