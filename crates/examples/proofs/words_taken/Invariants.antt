@@ -1,6 +1,6 @@
 -- `examples::words_taken` is safe and ends: the measure is what is left of 64 words.
 -- Assumes nothing.
-use Prim.Native.Nat.{◌-◌, ◌≤◌}
+use Rattle.std.proofs.Common.{◌-◌, ◌≤◌}
 use Rattle.examples.proofs.words_taken.Given as goal
 
 abbrev pub invariant-loop-n : goal.invariant-loop-n

@@ -1,6 +1,6 @@
 -- `note::differ` is safe and ends: the measure is what is left of the memory, and no more bytes differ than were compared.
 -- Assumes nothing.
-use Prim.Native.Nat.{◌-◌, ◌≤◌}
+use Rattle.std.proofs.Common.{◌-◌, ◌≤◌}
 use Rattle.note.proofs.differ.Given as goal
 
 abbrev pub invariant-loop-a : goal.invariant-loop-a

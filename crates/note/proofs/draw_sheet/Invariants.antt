@@ -1,6 +1,6 @@
 -- `note::draw_sheet` is safe and ends: the measure is what is left of the memory.
 -- Assumes nothing.
-use Prim.Native.Nat.{◌-◌, ◌≤◌}
+use Rattle.std.proofs.Common.{◌-◌, ◌≤◌}
 use Rattle.note.proofs.draw_sheet.Given as goal
 
 abbrev pub invariant-loop-i : goal.invariant-loop-i
