@@ -18,6 +18,7 @@ returns-then-number-2 c p =
     aimed-target a.regs p a.word first c.if-number-2.true c.kept_bits-then-number-2.ensures
 
 pub returns-else-number-2 : goal.returns-else-number-2
+unfolding put_reg
 returns-else-number-2 c p =
     let a = c.args in
     let first : c.if-number.next ≡ sourced a.regs a.word (to_source a.regs) =

@@ -1,13 +1,14 @@
 -- `acts::carry` meets its contract: by the number of the command.
 -- Assumes nothing.
 use mathlib.Core.Path.{sym, ap, ◌∙◌}
-use mathlib.Core.Logic.{⊎_elim}
 use native.Mathlib.Omega.{arith}
 use Rattle.bank.specs.declared.Bank.{Bank}
-use Rattle.acts.proofs.Cases.{unbuilt-low, unbuilt-high}
+use Prim.Native.Nat.{◌%◌}
+use Rattle.acts.proofs.Cases.{Unbuilt, unbuilt-low, unbuilt-high}
 use Rattle.acts.specs.declared.Act.{Act}
 use Rattle.acts.specs.Deed.{bank_of, Deed, deed, judged, idling, unbuilt}
 use Rattle.acts.proofs.Numbers.{carry-idle, carry-copy, carry-stretch, carry-host, carry-fill, carry-line, carry-other}
+use Rattle.acts.proofs.carry.Goals.{in_default-via-then-number-lt5, in_default-via-else-number-lt5+else-number-lt8}
 use Rattle.acts.proofs.carry.Goals as goal
 
 pub returns-in-0 : goal.returns-in-0
@@ -52,10 +53,13 @@ returns-in-6 c =
 pub returns-in_default : goal.returns-in_default
 unfolding judged
 returns-in_default c =
-    let n = c.in_default-1.rest in
     let a = c.args in
     let b = bank_of a.regs a.pattern.now in
+    let other : Unbuilt (a.regs.command % 16) =
+    elim c.in_default.branch [
+      in_default-via-then-number-lt5 w ↦ unbuilt-low _ (λ e. omega (arith, e, w)) (λ e. omega (arith, e, w)) (λ e. omega (arith, e, w)) (λ e. omega (arith, e, w)) (λ e. omega (arith, e, w)) (omega (arith, w))
+      | in_default-via-else-number-lt5+else-number-lt8 w ↦ unbuilt-high _ (λ e. omega (arith, e, w)) (λ e. omega (arith, e, w)) (λ e. omega (arith, e, w)) (λ e. omega (arith, e, w)) (λ e. omega (arith, e, w)) (omega (arith, w))
+    ] in
     ap (λ (r : Act). deed b r a.mem.now) c.unpainted-in_default.ensures
     ∙ ap (λ (x : Bank). unbuilt x a.blit a.mem.now) (c.ends_of-in_default.ensures a.pattern.now)
-    ∙ ap (λ (d : Deed). judged d b a.blit a.mem.now) (sym (carry-other b a.blit a.mem.now
-    (⊎_elim (λ w. unbuilt-low _ n.0.0.0.0.1 n.0.0.0.1 n.0.0.1 n.0.1 n.1 w.taken) (λ w. unbuilt-high _ n.0.0.0.0.1 n.0.0.0.1 n.0.0.1 n.0.1 n.1 w.1.left) c.in_default.branch)))
+    ∙ ap (λ (d : Deed). judged d b a.blit a.mem.now) (sym (carry-other b a.blit a.mem.now other))

@@ -2,9 +2,7 @@
 -- Assumes nothing.
 use native.Mathlib.Omega.{arith}
 use mathlib.Core.Path.{sym, ap, ◌∙◌}
-use mathlib.Core.Bool.{true}
 use mathlib.Core.List.{List}
-use Prim.Native.Nat.{◌-◌}
 use Rattle.spans.specs.Span.{all_on}
 use Rattle.line.specs.declared.Point.{Point}
 use Rattle.line.specs.Draw.{covered_points}

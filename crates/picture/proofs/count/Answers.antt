@@ -6,7 +6,7 @@ use Rattle.picture.proofs.count.Goals as goal
 
 pub returns-then-number-eq0 : goal.returns-then-number-eq0
 unfolding counted
-returns-then-number-eq0 c = rw (eq-eqb _ _ c.if-number-eq0.true) c.wrapping_add_u64.ensures
+returns-then-number-eq0 c = rw (eq-eqb _ _ c.if-number-eq0.true) c.wrapping_add_u64.ensures.value
 
 pub returns : goal.returns
 unfolding counted

@@ -1,6 +1,5 @@
 -- `sift::task_at` meets its contract: by the test for a stretch.
 -- Assumes nothing.
-use Prim.Native.Nat.{◌-◌}
 use native.Mathlib.Omega.{arith}
 use Rattle.scale.specs.Stretch.{taken_at, pixel_task}
 use Rattle.sift.specs.Sift.{task_at}

@@ -21,4 +21,4 @@ pub returns : goal.returns
 returns c =
     let f = c.both_fine in
     rw (c.target_surface-t.ensures, c.source_surface-s.ensures, c.copy_cut-c.ensures) at c.source_rows.ensures
-    ∙ copy-rows c.args.r c.args.len (sym f.ensures ∙ not-false f.result c.if-not-both_fine.false)
+    ∙ copy-rows c.args.r c.args.len (sym f.ensures ∙ c.if-not-both_fine.false)

@@ -3,4 +3,4 @@
 use Rattle.words.proofs.add.Goals as goal
 
 pub returns : goal.returns
-returns c = rw (c.wrapping_add_u64.ensures, c.wrapping_add_u64-2.ensures)
+returns c = rw (c.wrapping_add_u64.ensures.value, c.wrapping_add_u64-2.ensures.value)
