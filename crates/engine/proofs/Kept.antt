@@ -27,7 +27,7 @@ use Rattle.acts.proofs.Cases.{picked, by-number}
 use Rattle.engine.specs.declared.Engine.{Engine}
 use Rattle.engine.specs.declared.Answer.{Answer}
 use Rattle.engine.specs.Step.{Step, step, judging, fresh_engine, regs, idle, stored_in, carried, launched, commanded, to_register, to_pattern, to_place, written}
-use Rattle.engine.specs.Writes.{Lent, lent_to}
+use Rattle.engine.specs.Writes.{Lent, lent_to, by}
 use Rattle.engine.specs.Promises.{KeptFresh, KeptAlways, KeptEver, RoomHolds, keeping, KeptAside}
 
 -- ---- no command writes a register of a surface
@@ -105,7 +105,7 @@ module _ (len : ℕ) where
   lent-keeps : (e : Engine) (ws : List Lent) → Keeps len e → Keeps len (lent_to e ws)
   unfolding lent_to
   lent-keeps e [] k = k
-  lent-keeps e (w ∷ ws) k = lent-keeps _ ws (written_keeps e w.memory w.write.offset w.write.word k)
+  lent-keeps e (w ∷ ws) k = lent-keeps (by e w.memory w.write).engine ws (written_keeps e w.memory w.write.offset w.write.word k)
 
 pub kept_fresh : KeptFresh
 unfolding fresh_engine fresh_bank worked source_room target_room room_of source_of step_of

@@ -24,7 +24,7 @@ use Rattle.acts.specs.Deed.{no_blit, Made, Deed, carrying, starting}
 use Rattle.engine.specs.declared.Engine.{Engine}
 use Rattle.engine.specs.Step.{Step, making, judging, fresh_engine, with_bank, with_blit, regs, idle, stored_in, carried, launched, commanded, to_register, to_pattern, to_place, written}
 use Rattle.engine.specs.Orders.{order_at, order}
-use Rattle.engine.specs.Writes.{Lent, lent_to}
+use Rattle.engine.specs.Writes.{Lent, lent_to, by}
 use Rattle.engine.specs.Promises.{row1, row2, row3, Sound, SoundFresh, SoundKept, SoundAlways, WordsTaken}
 use Rattle.engine.proofs.Short.{after_rect, after_line, filled, copied, stretched, lined, begun, fed}
 use Rattle.acts.proofs.Cases.{picked, by-number}
@@ -125,7 +125,7 @@ sound-kept e m o d s =
 still-sound : (e : Engine) (ws : List Lent) → Sound e → Sound (lent_to e ws)
 unfolding lent_to
 still-sound e [] s = s
-still-sound e (w ∷ ws) s = still-sound _ ws (sound-kept e w.memory w.write.offset w.write.word s)
+still-sound e (w ∷ ws) s = still-sound (by e w.memory w.write).engine ws (sound-kept e w.memory w.write.offset w.write.word s)
 
 pub sound-always : SoundAlways
 sound-always len ws = still-sound (fresh_engine len) ws (sound-fresh len)
