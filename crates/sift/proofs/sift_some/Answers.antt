@@ -33,12 +33,11 @@ returns-then-n-gt0 c =
     )
 
 pub task_at-requires : goal.task_at-requires
-task_at-requires c =
-    (
-      omega (arith, c.requires.0.wide, c.requires.1),
-      omega (arith, c.requires.0.high),
-      (c.requires.0.each (px c.args.x c.args.y) (record { left = omega arith; right = omega (arith, c.requires.1); top = omega arith; bottom = omega arith })).scales,
-    )
+task_at-requires c = (
+  omega (arith, c.requires.0.wide, c.requires.1),
+  omega (arith, c.requires.0.high),
+  (c.requires.0.each (px c.args.x c.args.y) (record { left = omega arith; right = omega (arith, c.requires.1); top = omega arith; bottom = omega arith })).scales,
+)
 
 pub is_left-requires : goal.is_left-requires
 is_left-requires c =
