@@ -3,7 +3,7 @@
 use native.Mathlib.Omega.{arith}
 use mathlib.Core.Path.{ap, ◌∙◌}
 use mathlib.Core.List.{List, [], ◌∷◌}
-use Prim.Native.Nat.{◌+◌, ◌-◌, ◌%◌}
+use Prim.Native.Nat.{◌+◌, ◌%◌}
 use Rattle.host.specs.Host.{Pixel, pixel, run}
 use Rattle.host.proofs.Places.{whole-width, step-some, column-small}
 use Rattle.host.proofs.Drawing.{run-turn, run-done, byte-run, byte-none}

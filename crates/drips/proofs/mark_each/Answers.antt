@@ -3,7 +3,7 @@
 use native.Mathlib.Omega.{arith}
 use mathlib.Core.Path.{ap, ◌∙◌}
 use mathlib.Core.List.{List}
-use Prim.Native.Nat.{◌+◌, ◌-◌}
+use Prim.Native.Nat.{◌+◌}
 use lib.ListN.{drop, get_or}
 use Rattle.host.specs.Host.{Pixel, by_word, by_run}
 use Rattle.drips.proofs.Marks.{dripping, none-drips, drip-takes, run-turn, run-start, run-done}

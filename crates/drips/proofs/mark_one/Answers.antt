@@ -2,8 +2,7 @@
 -- Assumes nothing.
 use native.Mathlib.Omega.{arith}
 use mathlib.Core.Path.{sym, ◌∙◌}
-use Prim.Native.Nat.{◌+◌}
-use Rattle.paint.proofs.ClipLaws.{Covered, in-clip}
+use Rattle.paint.proofs.ClipLaws.{in-clip}
 use Rattle.drips.proofs.Marks.{one-falls, one_left, one_outside}
 use Rattle.drips.proofs.mark_one.Goals as goal
 

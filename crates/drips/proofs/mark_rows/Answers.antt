@@ -1,9 +1,8 @@
 -- `drips::mark_rows` meets its contract: the rows left, marked now, are all of them, marked at the start.
 -- Assumes nothing.
 use native.Mathlib.Omega.{arith}
-use Prim.Native.Nat.{◌+◌, ◌-◌, ◌*◌}
+use Prim.Native.Nat.{◌+◌, ◌*◌}
 use Rattle.host.proofs.Places.{step-some}
-use Rattle.drips.specs.Drips.{past_row}
 use Rattle.drips.proofs.RowLaws.{rows_take, rows-done}
 use Rattle.drips.proofs.mark_rows.Goals as goal
 
