@@ -12,7 +12,7 @@ returns-then-number-2 c p =
     let a = c.args in
     let first : c.if-number.next ≡ sourced a.regs a.word (to_source a.regs) =
     elim c.if-number.branch [
-      then-number w ↦ w.next-is ∙ rw (w.if-number.true, w.kept_bits.ensures)
+      | then-number w ↦ w.next-is ∙ rw (w.if-number.true, w.kept_bits.ensures)
       | else-number w ↦ w.next-is ∙ rw w.if-number.false
     ] in
     aimed-target a.regs p a.word first c.if-number-2.true c.kept_bits-then-number-2.ensures
@@ -23,7 +23,7 @@ returns-else-number-2 c p =
     let a = c.args in
     let first : c.if-number.next ≡ sourced a.regs a.word (to_source a.regs) =
     elim c.if-number.branch [
-      then-number w ↦ w.next-is ∙ rw (w.if-number.true, w.kept_bits.ensures)
+      | then-number w ↦ w.next-is ∙ rw (w.if-number.true, w.kept_bits.ensures)
       | else-number w ↦ w.next-is ∙ rw w.if-number.false
     ] in
     aimed-source a.regs p a.word first c.if-number-2.false

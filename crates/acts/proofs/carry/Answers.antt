@@ -57,7 +57,7 @@ returns-in_default c =
     let b = bank_of a.regs a.pattern.now in
     let other : Unbuilt (a.regs.command % 16) =
     elim c.in_default.branch [
-      in_default-via-then-number-lt5 w ↦ unbuilt-low _ (λ e. omega (arith, e, w)) (λ e. omega (arith, e, w)) (λ e. omega (arith, e, w)) (λ e. omega (arith, e, w)) (λ e. omega (arith, e, w)) (omega (arith, w))
+      | in_default-via-then-number-lt5 w ↦ unbuilt-low _ (λ e. omega (arith, e, w)) (λ e. omega (arith, e, w)) (λ e. omega (arith, e, w)) (λ e. omega (arith, e, w)) (λ e. omega (arith, e, w)) (omega (arith, w))
       | in_default-via-else-number-lt5+else-number-lt8 w ↦ unbuilt-high _ (λ e. omega (arith, e, w)) (λ e. omega (arith, e, w)) (λ e. omega (arith, e, w)) (λ e. omega (arith, e, w)) (λ e. omega (arith, e, w)) (omega (arith, w))
     ] in
     ap (λ (r : Act). deed b r a.mem.now) c.unpainted-in_default.ensures

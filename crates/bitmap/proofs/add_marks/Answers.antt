@@ -16,7 +16,7 @@ loop-k-preserved c =
     let args = c.args in
     let h = c.loop-k-test.true in
     elim c.if-marks-k.branch [
-      then-marks-k w ↦
+      | then-marks-k w ↦
           let e = w.s-is ∙ w.set_bit.ensures in
           (rw e (mark-turn loop.s args.at args.marks.now loop.k args.past h w.if-marks-k.true ∙ loop.invariant.0), rw e (bit_length loop.s args.at loop.k ∙ loop.invariant.1))
       | else-marks-k w ↦ (rw w.s-is (no-mark-turn loop.s args.at args.marks.now loop.k args.past h w.if-marks-k.false ∙ loop.invariant.0), rw w.s-is loop.invariant.1)

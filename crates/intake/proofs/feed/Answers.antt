@@ -26,9 +26,11 @@ pub returns-then-r-room : goal.returns-then-r-room
 returns-then-r-room c =
     let k = c.loop-f in
     let a = c.args in
+    let e =
     ending a.reader (machine a.engine a.mem.now) a.piece.now a.answers.now (
     full-stays by_engine (drop k.f.used c.args.piece.now) (fed_of k.f k.mem k.answers)
-    (tested by_engine k.f.reader (machine k.f.engine k.mem) (lent k.answers k.f.answered) k.f.used c.has_room-room.ensures c.if-r-room.true) ∙ k.invariant.0)
+    (tested by_engine k.f.reader (machine k.f.engine k.mem) (lent k.answers k.f.answered) k.f.used c.has_room-room.ensures c.if-r-room.true) ∙ k.invariant.0) in
+    record { answers_after = e.0; within = e.1 }
 
 turn : (c : goal.After-slice_known-in-loop-f-2-1)
     → let k = c.loop-f in
@@ -53,5 +55,7 @@ pub returns : goal.returns
 returns c =
     let k = c.loop-f in
     let a = c.args in
+    let e =
     ending a.reader (machine a.engine a.mem.now) a.piece.now a.answers.now (
-    each-ends (took_one by_engine) c.args.piece.now k.f.used (fed_of k.f k.mem k.answers) c.loop-f-test.false ∙ k.invariant.0)
+    each-ends (took_one by_engine) c.args.piece.now k.f.used (fed_of k.f k.mem k.answers) c.loop-f-test.false ∙ k.invariant.0) in
+    record { answers_after = e.0; within = e.1 }

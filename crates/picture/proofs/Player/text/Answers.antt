@@ -11,16 +11,16 @@ pub returns-then-refused-gt0 : goal.returns-then-refused-gt0
 unfolding printed
 returns-then-refused-gt0 c =
     let a = c.args in
-    (rw (ne_eqb a.self.refused 0 (λ e. omega arith)) c.say_refusal.ensures, text-within (refusal a.self.refused a.self.played) a.out.now _ c.say_refusal.ensures)
+    record { result_after = rw (ne_eqb a.self.refused 0 (λ e. omega arith)) c.say_refusal.ensures; within = text-within (refusal a.self.refused a.self.played) a.out.now _ c.say_refusal.ensures }
 
 pub returns-then-self-gt0 : goal.returns-then-self-gt0
 unfolding printed
 returns-then-self-gt0 c =
     let a = c.args in
-    (rw (eq-eqb a.self.refused 0 (omega arith), ne_eqb a.self.held 0 (λ e. omega arith)) c.say.ensures, text-within (short_write) a.out.now _ c.say.ensures)
+    record { result_after = rw (eq-eqb a.self.refused 0 (omega arith), ne_eqb a.self.held 0 (λ e. omega arith)) c.say.ensures; within = text-within (short_write) a.out.now _ c.say.ensures }
 
 pub returns : goal.returns
 unfolding printed
 returns c =
     let a = c.args in
-    (rw (eq-eqb a.self.refused 0 (omega arith), eq-eqb a.self.held 0 (omega arith)) c.say_picture.ensures, text-within (picture (regs a.self.engine) a.mem.now) a.out.now _ c.say_picture.ensures)
+    record { result_after = rw (eq-eqb a.self.refused 0 (omega arith), eq-eqb a.self.held 0 (omega arith)) c.say_picture.ensures; within = text-within (picture (regs a.self.engine) a.mem.now) a.out.now _ c.say_picture.ensures }
