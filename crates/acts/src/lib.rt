@@ -306,7 +306,7 @@ pub fn carry(regs: Regs, pattern: &[u8; 256], blit: Blit, mem: &mut [u8], rooms:
 }
 
 // A launch write's word in the register that the command takes it from.
-pub fn aim(regs: Regs, word: u32) -> Regs
+fn aim(regs: Regs, word: u32) -> Regs
     ensures { (p : List ℕ) → bank_of result p ≡ aimed (bank_of regs p) word }
 {
     let number = regs.command % 16;
