@@ -105,6 +105,12 @@ class Papers(unittest.TestCase):
         self.says(check, "an equation", public=PUBLIC.replace("law `row-once` of `engine/proofs/Once`", "an equation"))
         self.says(check, "no contract", source=SOURCE.replace("        ensures { result ≡ number_of self }\n", ""))
 
+    def test_clauses(self):
+        self.assertEqual(papers.clauses_of("pub fn f(x: u32) -> u32\n    requires low { 0 < x }\n    requires high { x < 9 }\n    ensures {\n        result ≡ record { a = x }\n    }\n{\n    x\n}\n"),
+                         [("requires", "0 < x"), ("requires", "x < 9"), ("ensures", "result ≡ record { a = x }")])
+        self.assertEqual(papers.clauses_of("pub fn g() -> u32 {\n    0\n}\n\nfn f()\n    ensures { 0 < result }\n{\n}\n"), [])
+        self.says(papers.check_public, "no contract", source=SOURCE.replace("    requires { at < 8 }\n    ensures { RowOf at result }\n", ""), public=PUBLIC.replace("`Small`: row 5", "nothing"))
+
     def test_reading(self):
         check = papers.check_reading
         self.says(check, "does not name low", reading="\n".join(line for line in READING.splitlines() if "`low`" not in line))
@@ -121,6 +127,7 @@ class Papers(unittest.TestCase):
         self.says(check, "engine/proofs/Gone", readme="see `engine/proofs/Gone`")
         self.says(check, "engine/gone", readme="see `engine/gone`")
         self.says(check, "has no law row-twice", readme="law `row-twice` of `engine/proofs/Once`")
+        self.assertEqual(self.found(check, readme="see `crates/engine/out/libengine.a`, which a command makes"), [])
 
 
 if __name__ == "__main__":
