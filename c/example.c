@@ -3,11 +3,11 @@
    again, and changes none. The packets are cut in two within a word, and of each piece it says how many answers came.
 
    On x86-64:
-       rt staticlib capi
-       cc -O2 c/example.c target/staticlib/libcapi.a -o example
-   On another processor `bench/run` compiles the same library for it:
-       bench/run register
-       cc -O2 c/example.c target/bench/engine.o -o example
+       (cd crates/capi && rt lib)
+       cc -O2 c/example.c crates/capi/out/libcapi.a -o example
+   For 64-bit Arm the kit, which itself runs on x86-64, makes the same library by
+       (cd crates/capi && rt lib --target aarch64-unknown-linux-gnu)
+   and the second line is then given on the Arm machine, or to a compiler for it.
    Then:
        ./example sheet.ppm */
 #include <stdio.h>

@@ -1,5 +1,7 @@
 /* Rimebarrow: a software engine for the 2D registers of the Voodoo Banshee.
 
+   The library is crates/capi/out/libcapi.a, which `rt lib` makes in the folder crates/capi, for processors from x86-64-v2 on; c/example.c says how to link it.
+
    The engine keeps nothing of its own. Its state is RIMEBARROW_STATE_SIZE bytes that the caller lends to each call, and its video memory is a run of
    bytes that the caller lends too. Several engines may run at once, each with a state of its own.
 

@@ -10,7 +10,7 @@ from pathlib import Path
 from model import Engine
 
 SOURCE = Path(__file__).resolve().parent.parent / "crates/note/src/main.rt"
-WRITE = re.compile(r'put(_aloud)?\(\s*(?:b"([^"]*)",\s*)?e,\s*mem,\s*(\w+),\s*(\w+),?\s*\)')
+WRITE = re.compile(r'put(_aloud)?\(\s*(?:out,\s*b"([^"]*)",\s*)?e,\s*mem,\s*(\w+),\s*(\w+),?\s*\)')
 PARTS = {"save": None, "draw_note": "bytes that the note changed: ", "put_back": "bytes outside the place aside that differ: "}
 
 
@@ -21,7 +21,7 @@ def play(name: str, form: int, stride: int, size: int) -> None:
     aside = {1024 + y * stride + x for y in range(9) for x in range(13 * size)}
     engine = Engine(2048)
     for part, differ in PARTS.items():
-        body = SOURCE.read_text().split(f"fn {part}(")[1].split("\n}")[0]
+        body = re.split(rf"fn {part}\b", SOURCE.read_text())[1].split("\n}")[0]
         for aloud, text, offset, word in WRITE.findall(body):
             number, pixels, changed = engine.write(mem, int(offset, 0), form if word == "format" else int(word, 0))
             if aloud:

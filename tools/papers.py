@@ -10,7 +10,7 @@ ROOT = Path(__file__).resolve().parent.parent
 PAPERS = ["README.md", *(f"docs/{name}.md" for name in ("PROMISES", "PUBLIC", "READING", "DECISIONS", "BENCH"))]
 
 # Demands 1 to 3 rest on the promises of the engine and of restore, and on what the contracts of the engine's functions name; those of runs of words and of packets stand apart.
-ROOTS = [("engine", "Promises"), ("restore", "Restore"), ("engine", "Step", "written", "freshEngine", "readFrom", "numberOf", "countOf"), ("words", "Promises"),
+ROOTS = [("engine", "Promises"), ("restore", "Restore"), ("engine", "Step", "written", "fresh_engine", "read_from", "number_of", "count_of"), ("words", "Promises"),
          ("packets", "Promises"), ("intake", "Promises")]
 
 Key = tuple[str, str, str]  # crate, file, name
@@ -33,20 +33,37 @@ def rows_of(paper: str) -> list[list[str]]:
 # ---- public functions
 
 
+OPENING = re.compile(r"(?:\b(requires|ensures)\b[\s*\w]*)?\{")
+
+
+def clauses_of(text: str) -> list[tuple[str, str]]:
+    """The clauses between a function's head and its body, each with its word: the text begins with the head, the body is the first brace that no clause opens."""
+    found, at = [], 0
+    while match := OPENING.search(text, at):
+        if match[1] is None:
+            break
+        depth, at = 1, match.end()
+        while depth:
+            depth += {"{": 1, "}": -1}.get(text[at], 0)
+            at += 1
+        found.append((match[1], text[match.end():at - 1].strip()))
+    return found
+
+
 def public_functions() -> dict[str, tuple[bool, str]]:
     """Each `pub fn` by its name, with whether it asks for anything, and what it ensures."""
     found = {}
     for path in sorted(ROOT.glob("crates/*/src/*.rt")):
         crate, owner, lines = path.parts[-3], "", path.read_text().splitlines()
         for number, line in enumerate(lines):
-            if match := re.match(r"impl (\w+)", line):
+            if match := re.match(r"impl (?:\w+ for )?(\w+)", line):
                 owner = match[1] + "::"
             elif line.startswith("}"):
                 owner = ""
             elif match := re.match(r"(\s*)pub (?:extern \"C\" )?fn (\w+)", line):
-                head = [part.strip() for part in lines[number:lines.index(match[1] + "{", number)]]
-                ensures = " ".join(part for part in head if part.startswith("ensures"))
-                found[f"{crate}::{owner if match[1] else ''}{match[2]}"] = (any(part.startswith("requires") for part in head), ensures)
+                clauses = clauses_of("\n".join(lines[number:]))
+                ensures = " ".join(text for word, text in clauses if word == "ensures")
+                found[f"{crate}::{owner if match[1] else ''}{match[2]}"] = (any(word == "requires" for word, _ in clauses), ensures)
     return found
 
 
@@ -72,7 +89,7 @@ def check_public() -> list[str]:
         if not ensures:
             wrong.append(f"{name} has no contract")
             continue
-        missing = [word for word in names_in(cells[1]) if not re.search(rf"(?<![\w′]){re.escape(word)}(?![\w′])", ensures)]
+        missing = [word for word in names_in(cells[1]) if not re.search(rf"(?<![\w'.]){re.escape(word)}(?![\w'])", ensures)]
         if missing or not names_in(cells[1]):
             wrong.append(f"PUBLIC says that {name} settles {cells[1]}, its contract says {ensures}")
         if cells[2].startswith("an equation") and "≡" not in ensures:
@@ -107,19 +124,22 @@ class Definitions:
             self.read(path.parts[-3], path.stem, path.read_text().splitlines())
         for path in sorted(ROOT.glob("crates/*/src/*.rt")):
             brought = {name: (crate, "src", name) for crate, name in re.findall(r"^use (\w+)::(\w+);", path.read_text(), re.M)}
-            for match in re.finditer(r"^(?:// .*\n)*pub (?:struct|enum) (\w+)[^}]*\}", path.read_text(), re.M):
+            for match in re.finditer(r"^(?:// .*\n)*(?:#\[.*\]\n)*pub (?:struct|enum) (\w+)[^}]*\}", path.read_text(), re.M):
                 self.lines[path.parts[-3], "src", match[1]] = match[0].splitlines()
                 self.uses[path.parts[-3], "src", match[1]] = {brought[word] for word in re.findall(r"\w+", match[0]) if word in brought}
 
     def read(self, crate: str, file: str, lines: list[str]) -> None:
         brought: dict[str, Key] = {}
+        modules: dict[str, tuple[str, str]] = {}
         comment: list[str] = []
         name = ""
         for line in outside_sections(lines):
-            if match := re.match(r"use Rattle·(\w+)(?:·specs)?\.specs\.([\w.-]+)\.\{(.*)\}", line):
+            if match := re.match(r"use Rattle\.(\w+)\.specs\.([\w.]+)\.\{(.*)\}", line):
                 for word in match[3].split(", "):
                     home = ("src", match[2].split(".")[1]) if match[2].startswith("declared") else (match[2], word)
                     brought[word] = (match[1], *home)
+            elif match := re.match(r"use Rattle\.(\w+)\.specs\.(\w+) as (\w+)", line):
+                modules[match[3]] = (match[1], match[2])
             elif line.startswith("use "):
                 continue
             elif line.startswith("--") or not line.strip():
@@ -131,9 +151,11 @@ class Definitions:
                 comment = []
                 self.lines[crate, file, name].append(line)
         for key in [key for key in self.lines if key[:2] == (crate, file)]:
-            words = set(re.split(r"[\s(){}\[\],;.]+", "\n".join(line for line in self.lines[key] if not line.startswith("--"))))
+            text = "\n".join(line for line in self.lines[key] if not line.startswith("--"))
+            words = set(re.split(r"[\s(){}\[\],;.]+", text))
             own = {(crate, file, word) for word in words if (crate, file, word) in self.lines}
-            self.uses[key] = (own | {brought[word] for word in words if word in brought}) - {key}
+            named = {(*modules[module], word) for module, word in re.findall(r"(?<![\w.])(\w+)\.(\w+)", text) if module in modules}
+            self.uses[key] = (own | named | {brought[word] for word in words if word in brought}) - {key}
 
     def rest(self) -> set[Key]:
         """All that the demands rest on."""
@@ -188,6 +210,8 @@ def check_names() -> list[str]:
     for paper in PAPERS:
         for name in names_in(text_of(paper)):
             places = []
+            if "/out/" in name:  # made by a command
+                continue
             if re.fullmatch(r"(crates|docs|tools|c|bench)/[\w./-]+\.\w+", name):
                 places = [name]
             elif match := re.fullmatch(r"(\w+)/(specs|proofs)/([\w/]+)", name):

@@ -4,13 +4,12 @@
 
 TIMES enlarges a PNG: each pixel becomes a square of so many pixels a side.
 STREAM holds pairs of little-endian 32-bit words, offset then data; with --packets it holds packets of the command FIFO,
-as the driver put them there. The proved program target/bin/sheet, with --packets target/bin/packet_sheet, plays them on
-65,536 zero bytes; it is built first where it is missing or older than its sources (`rt check sheet`, or `rt check
-packet_sheet`). Where the program prints a fault and no picture, nothing is written, the fault is said in a sentence, and
-the exit status is 1.
+as the driver put them there. The proved program crates/sheet/out/sheet, with --packets
+crates/packet_sheet/out/packet_sheet, plays them on 65,536 zero bytes; it is built first where it is missing or older than
+its sources (`rt run` in its crate's folder). Where the program prints a fault and no picture, nothing is written, the fault
+is said in a sentence, and the exit status is 1. The programs are for x86-64 Linux.
 """
 
-import functools
 import os
 import platform
 import re
@@ -38,13 +37,13 @@ ANSWERS = {
 
 
 def program(crate: str) -> Path:
-    return ROOT / "target/bin" / crate
+    return ROOT / "crates" / crate / "out" / crate
 
 
 def crates(crate: str) -> set[str]:
     """The repository's crates that a program stands on, itself included."""
     lines = (line.split("#")[0].split(":") for line in (ROOT / "crates.txt").read_text().splitlines())
-    needs = {parts[0].strip(): parts[1].split() for parts in lines if len(parts) == 2}
+    needs = {parts[0].split()[0]: parts[1].split() for parts in lines if len(parts) == 2}
     found, todo = set(), [crate]
     while todo:
         name = todo.pop()
@@ -58,34 +57,25 @@ def is_old(crate: str = WRITES) -> bool:
     """The program is missing, or one of its sources is newer."""
     if not program(crate).exists():
         return True
-    files = (path for name in crates(crate) for path in (ROOT / "crates" / name).rglob("*") if path.suffix in (".rt", ".antt"))
+    files = (path for name in crates(crate) for part in ("src", "specs", "proofs") for path in (ROOT / "crates" / name / part).rglob("*") if path.is_file())
     return max(path.stat().st_mtime for path in files) > program(crate).stat().st_mtime
 
 
 def build(crate: str = WRITES) -> None:
     if shutil.which("rt") is None:
         sys.exit("The program is not built, and there is no rt on the path to build it with.")
-    print(f"Building the program (rt check {crate}) ...", file=sys.stderr)
-    run = subprocess.run(["rt", "check", crate], cwd=ROOT, stdout=subprocess.PIPE, stderr=subprocess.STDOUT, text=True)
+    print(f"Building the program (rt run in crates/{crate}) ...", file=sys.stderr)
+    run = subprocess.run(["rt", "run"], cwd=ROOT / "crates" / crate, stdin=subprocess.DEVNULL, stdout=subprocess.PIPE, stderr=subprocess.STDOUT, text=True)
     if run.returncode != 0:
-        sys.exit(f"rt check {crate} did not succeed. Its last lines:\n" + "\n".join(run.stdout.splitlines()[-10:]))
+        sys.exit(f"rt run in crates/{crate} did not succeed. Its last lines:\n" + "\n".join(run.stdout.splitlines()[-10:]))
     os.utime(program(crate))
 
 
-@functools.cache
 def command(crate: str = WRITES) -> list[str]:
-    """How the program is started: on another processor than x86-64 by the emulator of the kit that rt belongs to."""
-    machine = platform.machine()
-    if machine == "x86_64":
-        return [str(program(crate))]
-    if shutil.which("rt") is None:
-        sys.exit(f"The program is for x86-64; on this processor, {machine}, rt must be on the path, for its kit's emulator.")
-    guide = subprocess.run(["rt", "doc"], stdout=subprocess.PIPE, text=True, check=True).stdout.strip()
-    tools = Path(guide).resolve().parent.parent / "on" / machine / "toolchain"
-    emulator, library = tools / "bin/qemu-x86_64", tools / "lib"
-    if not os.access(emulator, os.X_OK):
-        sys.exit(f"The program is for x86-64, and rt's kit has no emulator of it for this processor, {machine}.")
-    return [str(emulator), str(library / "ld-linux-x86-64.so.2"), "--library-path", str(library), str(program(crate))]
+    """How the program is started."""
+    if platform.machine() != "x86_64":
+        sys.exit(f"The program is for x86-64, and the kit has no emulator of it for this processor, {platform.machine()}.")
+    return [str(program(crate))]
 
 
 def play(stream: bytes, crate: str = WRITES) -> str:

@@ -13,9 +13,10 @@ import model
 from model import Engine, Surface, key_match
 
 SOURCE = Path(__file__).resolve().parent.parent / "crates/sheets/src/main.rt"
-FUNCTION = re.compile(r"^fn (\w+)\(([^)]*)\)[^{]*\{\n(.*?)^\}", re.M | re.S)
+FUNCTION = re.compile(r"^fn (\w+)(?:<[^>]*>)?\(([^)]*)\)[^{]*\{\n(.*?)^\}", re.M | re.S)
 STATEMENT = re.compile(r'let (\w+) = (b"[^"]*");|(\w+)\(((?:b"[^"]*"|[^()"])*)\)')
 ARGUMENT = re.compile(r'b"[^"]*"|[^,\s][^,]*')
+STREAM = ("alloc", "stdout", "flush")  # what the program's output takes, of which the model knows nothing
 LENGTH = 128
 
 
@@ -78,25 +79,25 @@ class Stage:
         answer, _ = [engine.write(mem, offset, word) for engine, mem in self.sheets]
         return answer
 
-    def put_aloud(self, *write) -> None:
+    def put_aloud(self, _out, *write) -> None:
         number, count, changed = self.put(*write)
         print("refused" if number else f"pixels {count}, changed {changed}")
 
-    def say(self, text: str) -> None:
+    def say(self, _out, text: str) -> None:
         print(text, end="")
 
-    def say_register(self, name: str, _e, offset: int) -> None:
+    def say_register(self, _out, name: str, _e, offset: int) -> None:
         print(f"{name}{self.sheets[0][0].read(offset)[1]:08x}")
 
-    def show(self, _mem, width: int, height: int, which: int = 0) -> None:
+    def show(self, _out, _mem, width: int, height: int, which: int = 0) -> None:
         self.size = width, height
         mem = self.sheets[which][1]
         for y in range(height):
             print("".join(".ox"[mem[16 * y + x]] for x in range(width)))
 
-    def show_wrong(self, _text: str) -> None:
+    def show_wrong(self, _out, _text: str) -> None:
         print("a wrong engine would show")
-        self.show(None, *self.size, which=1)
+        self.show(None, None, *self.size, which=1)
 
 
 def run(name: str, values: list) -> None:
@@ -111,7 +112,7 @@ def run(name: str, values: list) -> None:
         given = [value(argument.strip(), scope) for argument in ARGUMENT.findall(arguments)]
         if hasattr(stage, callee):
             getattr(stage, callee)(*given)
-        else:
+        elif callee not in STREAM:
             run(callee, given)
 
 

@@ -10,15 +10,15 @@ import papers
 
 SOURCE = """impl Card {
     pub fn answer(self) -> u32
-        ensures { λ r. ⌜ r ≡ numberOf self ⌝ }
+        ensures { result ≡ number_of self }
     {
         0
     }
 }
 
 pub fn row(at: u32) -> u32
-    requires { ⌜ at < 8 ⌝ }
-    ensures { λ r. ⌜ RowOf at r ⌝ }
+    requires { at < 8 }
+    ensures { RowOf at result }
 {
     at
 }
@@ -29,28 +29,28 @@ fn inner() -> u32 {
 """
 PUBLIC = """| function | settled by | one result by | asks for |
 |---|---|---|---|
-| `engine::Card::answer` | `numberOf` | an equation | nothing |
+| `engine::Card::answer` | `number_of` | an equation | nothing |
 | `engine::row` | `RowOf` | law `row-once` of `engine/proofs/Once` | `Small`: row 5 |
 """
 LAW = "pub row-once : Type 0\n"
-STEP = """use Prim.Native.Nat.{ℕ}
-use Rattle·engine·specs.specs.Base.{low}
+STEP = """use Rattle.std.specs.Prelude.{ℕ}
+use Rattle.engine.specs.Base.{low}
 
 -- one more
 abbrev pub written : ℕ → ℕ
 written n = low n
 
-abbrev pub readFrom : ℕ → ℕ
-readFrom n = n
+abbrev pub read_from : ℕ → ℕ
+read_from n = n
 
-abbrev pub freshEngine : ℕ
-freshEngine = 0
+abbrev pub fresh_engine : ℕ
+fresh_engine = 0
 
-abbrev pub numberOf : ℕ
-numberOf = 0
+abbrev pub number_of : ℕ
+number_of = 0
 
-abbrev pub countOf : ℕ
-countOf = 0
+abbrev pub count_of : ℕ
+count_of = 0
 """
 BASE = """abbrev pub low : ℕ → ℕ
 low n = n
@@ -61,7 +61,7 @@ unused = 0
 READING = """| words | definitions | file | lines |
 |---|---|---|---|
 | the low part | `low` | `crates/engine/specs/Base.antt` | 2 |
-| the rest | `written`, `readFrom`, `freshEngine`, `numberOf`, `countOf` | `crates/engine/specs/Step.antt` | 11 |
+| the rest | `written`, `read_from`, `fresh_engine`, `number_of`, `count_of` | `crates/engine/specs/Step.antt` | 11 |
 """
 
 
@@ -96,14 +96,20 @@ class Papers(unittest.TestCase):
 
     def test_public(self):
         check = papers.check_public
-        self.says(check, "does not name engine::more", source=SOURCE + "\npub fn more() -> u32\n    ensures { λ r. ⌜ r ≡ 0 ⌝ }\n{\n    0\n}\n")
-        self.says(check, "engine::inner, which is no public function", public=PUBLIC + "| `engine::inner` | `numberOf` | an equation | nothing |\n")
+        self.says(check, "does not name engine::more", source=SOURCE + "\npub fn more() -> u32\n    ensures { result ≡ 0 }\n{\n    0\n}\n")
+        self.says(check, "engine::inner, which is no public function", public=PUBLIC + "| `engine::inner` | `number_of` | an equation | nothing |\n")
         self.says(check, "twice", public=PUBLIC + PUBLIC.splitlines()[2] + "\n")
         self.says(check, "asks for", public=PUBLIC.replace("`Small`: row 5", "nothing"))
         self.says(check, "asks for", public=PUBLIC.replace("| nothing |", "| `Small`: row 5 |"))
-        self.says(check, "settles", public=PUBLIC.replace("`numberOf`", "`countOf`"))
+        self.says(check, "settles", public=PUBLIC.replace("`number_of`", "`count_of`"))
         self.says(check, "an equation", public=PUBLIC.replace("law `row-once` of `engine/proofs/Once`", "an equation"))
-        self.says(check, "no contract", source=SOURCE.replace("        ensures { λ r. ⌜ r ≡ numberOf self ⌝ }\n", ""))
+        self.says(check, "no contract", source=SOURCE.replace("        ensures { result ≡ number_of self }\n", ""))
+
+    def test_clauses(self):
+        self.assertEqual(papers.clauses_of("pub fn f(x: u32) -> u32\n    requires low { 0 < x }\n    requires high { x < 9 }\n    ensures {\n        result ≡ record { a = x }\n    }\n{\n    x\n}\n"),
+                         [("requires", "0 < x"), ("requires", "x < 9"), ("ensures", "result ≡ record { a = x }")])
+        self.assertEqual(papers.clauses_of("pub fn g() -> u32 {\n    0\n}\n\nfn f()\n    ensures { 0 < result }\n{\n}\n"), [])
+        self.says(papers.check_public, "no contract", source=SOURCE.replace("    requires { at < 8 }\n    ensures { RowOf at result }\n", ""), public=PUBLIC.replace("`Small`: row 5", "nothing"))
 
     def test_reading(self):
         check = papers.check_reading
@@ -121,6 +127,7 @@ class Papers(unittest.TestCase):
         self.says(check, "engine/proofs/Gone", readme="see `engine/proofs/Gone`")
         self.says(check, "engine/gone", readme="see `engine/gone`")
         self.says(check, "has no law row-twice", readme="law `row-twice` of `engine/proofs/Once`")
+        self.assertEqual(self.found(check, readme="see `crates/engine/out/libengine.a`, which a command makes"), [])
 
 
 if __name__ == "__main__":

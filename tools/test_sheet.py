@@ -1,5 +1,6 @@
 """The programs compared with the model on named and on seeded streams, of pairs and of packets, and tools/sheet.py on their
-faults and its PNG. It needs target/bin/sheet and target/bin/packet_sheet (rt check sheet, rt check packet_sheet).
+faults and its PNG. It needs the two programs, and builds them where they are missing (rt run in crates/sheet and in
+crates/packet_sheet).
 Run: python3 tools/test_sheet.py"""
 
 import fcntl
