@@ -20,6 +20,7 @@ fn pack(a: Answer) -> u64
 }
 
 // A word that draws nothing, stored at its place in the state where the tests let it.
+#[tactic(auto, unfolding(crate::specs::Calls::tested))]
 fn put_plain(s: &mut [u8], len: usize, at: usize, word: u32) -> u64
     requires { (length s.old ≡ state_size) × (at + 4 ≤ state_size) }
     ensures { opening s.new result ≡ plainly s.old len at word }
@@ -220,6 +221,7 @@ fn feed(
 
 // An empty reader: 0, or 255 where its bytes have another number.
 #[unsafe(no_mangle)]
+#[tactic(auto, unfolding(crate::specs::Packets::opened_reader))]
 pub extern "C" fn rimebarrow_reader(reader: &mut [u8]) -> u32
     ensures { opening reader.new result ≡ opened_reader reader.old }
 {

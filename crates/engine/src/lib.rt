@@ -235,6 +235,7 @@ impl Engine {
     }
 
     // One register write: the engine after it, and the answer.
+    #[tactic(auto, unfolding(crate::specs::Step::written))]
     pub fn write(self, mem: &mut [u8], offset: u32, word: u32) -> Outcome
         ensures { step result.engine mem.new result.answer ≡ written self mem.old offset word }
     {

@@ -63,6 +63,7 @@ fn turn_down(header: u32) -> bool
     !((header % 8 == 1) & (header / 0x4000 % 2 == 1) | (header % 8 == 2))
 }
 
+#[tactic(auto, unfolding(crate::specs::Reader::counted))]
 fn count_from(offset: u32, step: u32, left: u32) -> Rest
     ensures { result ≡ counted offset step left }
 {

@@ -2,8 +2,7 @@
 -- Assumes nothing.
 use mathlib.Core.Path.{sym, ap, ◌∙◌}
 use mathlib.Core.Bool.{false}
-use borrow.Author.Tests.{lt-ltb, le-ltb, eq-eqb, ne_eqb}
-use borrow.Author.Tests.{not-true, not-false}
+use borrow.Author.Tests.{le-ltb, ne_eqb}
 use Rattle.surface.specs.declared.Surface.{Surface}
 use Rattle.formats.specs.Format.{target_of}
 use Rattle.surface.specs.Pixels.{rect}
@@ -12,18 +11,6 @@ use Rattle.spans.specs.Span.{all_on}
 use Rattle.views.specs.View.{view_answer}
 use Rattle.formats.proofs.FormatLaws.{target_small}
 use Rattle.views.proofs.view_answer.Goals as goal
-
-pub returns-then-len-gt16777216 : goal.returns-then-len-gt16777216
-unfolding view_answer
-returns-then-len-gt16777216 c = rw (lt-ltb _ _ c.if-len-gt16777216.true)
-
-pub returns-then-not-names_view : goal.returns-then-not-names_view
-unfolding view_answer
-returns-then-not-names_view c = rw (le-ltb _ _ c.if-len-gt16777216.false, ← c.names_view.ensures, c.if-not-names_view.true)
-
-pub returns-then-width-eq0 : goal.returns-then-width-eq0
-unfolding view_answer
-returns-then-width-eq0 c = rw (le-ltb _ _ c.if-len-gt16777216.false, ← c.names_view.ensures, c.if-not-names_view.false, eq-eqb _ _ c.if-width-eq0.true)
 
 pub rect_on-requires : goal.rect_on-requires
 rect_on-requires c = rw c.target_of-s.ensures (target_small c.args.base c.args.format)

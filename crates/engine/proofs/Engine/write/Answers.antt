@@ -1,18 +1,10 @@
 -- `engine::Engine::write` meets its contract: by the memory, and by what the offset names.
 -- Assumes nothing.
 use mathlib.Core.Path.{sym, ap, ◌∙◌}
-use borrow.Author.Tests.{eq-eqb, ne_eqb, lt-ltb, le-ltb}
+use borrow.Author.Tests.{eq-eqb, le-ltb}
 use Rattle.registers.specs.declared.Place.{Place}
 use Rattle.engine.specs.Step.{written, to_place}
 use Rattle.engine.proofs.Engine.write.Goals as goal
-
-pub returns-then-len-gt16777216 : goal.returns-then-len-gt16777216
-unfolding written
-returns-then-len-gt16777216 c = simp (lt-ltb _ _ c.if-len-gt16777216.true)
-
-pub returns-then-len-self : goal.returns-then-len-self
-unfolding written
-returns-then-len-self c = simp (le-ltb _ _ c.if-len-gt16777216.false, ne_eqb _ _ c.if-len-self.true)
 
 pub returns-in-Register : goal.returns-in-Register
 unfolding written
