@@ -35,13 +35,8 @@ pub struct Pen {
     pub stippled: bool,
 }
 
-fn distance(a: u32, b: u32) -> u32
-    ensures { result ≡ far a b }
-{
-    if a < b { b - a } else { a - b }
-}
-
 // k steps from a towards b.
+#[tactic(auto, using(std::proofs::lemmas::Bool::Decides::nat_tests), unfolding(crate::specs::Line::towards, crate::specs::Line::far))]
 fn moved(a: u32, b: u32, k: u32) -> u32
     requires { k ≤ far a b }
     ensures { result ≡ towards a b k }
@@ -49,58 +44,46 @@ fn moved(a: u32, b: u32, k: u32) -> u32
     if a <= b { a + k } else { a - k }
 }
 
+#[tactic(auto, unfolding(crate::specs::Line::x_major, crate::specs::Line::far))]
 pub fn x_major(l: Line) -> bool
     ensures { result ≡ x_major l }
 {
-    distance(l.y0, l.y1) <= distance(l.x0, l.x1)
+    l.y0.abs_diff(l.y1) <= l.x0.abs_diff(l.x1)
 }
 
+#[tactic(auto, using(std::proofs::lemmas::Bool::Decides::nat_tests), unfolding(crate::specs::Line::longer, crate::specs::Line::x_major, crate::specs::Line::far))]
 pub fn long_side(l: Line) -> u32
     ensures { result ≡ longer l }
 {
-    if x_major(l) {
-        distance(l.x0, l.x1)
-    } else {
-        distance(l.y0, l.y1)
-    }
+    l.x0.abs_diff(l.x1).max(l.y0.abs_diff(l.y1))
 }
 
+#[tactic(auto, using(std::proofs::lemmas::Bool::Decides::nat_tests), unfolding(crate::specs::Line::shorter, crate::specs::Line::x_major, crate::specs::Line::far))]
 pub fn short_side(l: Line) -> u32
     ensures { result ≡ shorter l }
 {
-    if x_major(l) {
-        distance(l.y0, l.y1)
-    } else {
-        distance(l.x0, l.x1)
-    }
+    l.x0.abs_diff(l.x1).min(l.y0.abs_diff(l.y1))
 }
 
+#[tactic(auto, unfolding(crate::specs::Line::point_count, crate::specs::Line::longer, crate::specs::Line::far))]
 pub fn point_count(l: Line) -> u32
     requires { Placed l }
     ensures { result ≡ point_count l }
 {
-    if l.poly {
-        long_side(l)
-    } else {
-        long_side(l) + 1
-    }
+    let n = long_side(l);
+    if l.poly { n } else { n + 1 }
 }
 
 // The point a steps along the major axis and b along the minor.
+#[tactic(auto, unfolding(crate::specs::Line::place, crate::specs::Line::longer, crate::specs::Line::shorter))]
 pub fn place_point(l: Line, a: u32, b: u32) -> Point
     requires { (a ≤ longer l) × (b ≤ shorter l) }
     ensures { result ≡ place l a b }
 {
-    if x_major(l) {
-        Point {
-            x: moved(l.x0, l.x1, a),
-            y: moved(l.y0, l.y1, b),
-        }
-    } else {
-        Point {
-            x: moved(l.x0, l.x1, b),
-            y: moved(l.y0, l.y1, a),
-        }
+    let (across, down) = if x_major(l) { (a, b) } else { (b, a) };
+    Point {
+        x: moved(l.x0, l.x1, across),
+        y: moved(l.y0, l.y1, down),
     }
 }
 
@@ -112,6 +95,7 @@ pub struct Tread {
 }
 
 // From a point to the next, of a line of sides n and m: what is left over grows, or a step aside takes it up.
+#[tactic(auto, using(std::proofs::lemmas::Bool::Decides::nat_tests), unfolding(crate::specs::Tread::trodden))]
 pub fn tread_on(n: u32, m: u32, t: Tread) -> Tread
     requires { (m ≤ n) × (n < 2 ^ 13) × (t.aside ≤ n) }
     ensures { result ≡ trodden n m t }
@@ -119,18 +103,20 @@ pub fn tread_on(n: u32, m: u32, t: Tread) -> Tread
     let more = m + m;
     let limit = n + n - more;
     if t.rest < limit {
-        return Tread {
-            aside: t.aside,
+        Tread {
             rest: t.rest + more,
-        };
-    }
-    Tread {
-        aside: t.aside + 1,
-        rest: t.rest - limit,
+            ..t
+        }
+    } else {
+        Tread {
+            aside: t.aside + 1,
+            rest: t.rest - limit,
+        }
     }
 }
 
 // The word lineStyle after a point of a stippled line.
+#[tactic(auto, using(std::proofs::lemmas::Bool::Decides::nat_tests), unfolding(crate::specs::Stipple::stepped))]
 fn style_step(style: u32) -> u32
     ensures { result ≡ stepped style }
 {
@@ -138,16 +124,18 @@ fn style_step(style: u32) -> u32
     let size = style / 0x100 % 0x20;
     let position = style / 0x10000 % 0x100;
     let bit = style / 0x1000000 % 0x20;
-    if position < count {
-        return count + size * 0x100 + (position + 1) * 0x10000 + bit * 0x1000000;
-    }
-    if bit < size {
-        return count + size * 0x100 + 0 * 0x10000 + (bit + 1) * 0x1000000;
-    }
-    count + size * 0x100 + 0 * 0x10000 + 0 * 0x1000000
+    let (position, bit) = if position < count {
+        (position + 1, bit)
+    } else if bit < size {
+        (0, bit + 1)
+    } else {
+        (0, 0)
+    };
+    count + size * 0x100 + position * 0x10000 + bit * 0x1000000
 }
 
 // After a point of any line.
+#[tactic(auto, unfolding(crate::specs::Stipple::after))]
 pub fn style_after(pen: Pen, style: u32) -> u32
     ensures { result ≡ after pen style }
 {
@@ -158,6 +146,7 @@ pub fn style_after(pen: Pen, style: u32) -> u32
     }
 }
 
+#[tactic(auto, unfolding(crate::specs::Stipple::stipple_bit))]
 pub fn stipple_bit(pen: Pen, style: u32) -> u32
     ensures { result ≡ stipple_bit pen style }
 {
@@ -173,22 +162,7 @@ fn point_off(len: usize, s: Surface, c: Clip, p: Point) -> bool
     requires { Colour s × Bits12 c }
     ensures { result ≡ line_off s len c (p ∷ []) }
 {
-    if paint::covers(c, p.x, p.y) {
-        return !spans::close_on(len, s, p.x - 16384, p.y - 16384);
-    }
-    false
-}
-
-fn larger(a: u32, b: u32) -> u32
-    ensures { result ≡ max a b }
-{
-    if a < b { b } else { a }
-}
-
-fn smaller(a: u32, b: u32) -> u32
-    ensures { result ≡ min a b }
-{
-    if a < b { a } else { b }
+    paint::covers(c, p.x, p.y) && !spans::close_on(len, s, p.x - 16384, p.y - 16384)
 }
 
 // How many columns, from the first on, hold those of a line from a to b inside a clip up to, and without, `end`; or how many rows.
@@ -196,7 +170,7 @@ fn reach(a: u32, b: u32, end: u32) -> u32
     requires { Within a × (Within b × (end < 2 ^ 12)) }
     ensures { result ≡ min (max a b + 1) (16384 + end) - 16384 }
 {
-    larger(smaller(larger(a, b) + 1, 16384 + end), 16384) - 16384
+    (a.max(b) + 1).min(16384 + end).max(16384) - 16384
 }
 
 // Whether a covered point of the line is off the surface: none is where the rectangle is on it that holds them.
@@ -211,15 +185,12 @@ pub fn line_off(len: usize, s: Surface, c: Clip, l: Line) -> bool
     }
     let n = long_side(l);
     let m = short_side(l);
-    let total = point_count(l);
     let mut t = Tread { aside: 0, rest: n };
-    let mut i = 0;
-    while i < total {
+    for i in 0..point_count(l) {
         if point_off(len, s, c, place_point(l, i, t.aside)) {
             return true;
         }
         t = tread_on(n, m, t);
-        i += 1;
     }
     false
 }

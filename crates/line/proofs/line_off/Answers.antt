@@ -1,8 +1,7 @@
 -- `line::line_off` meets its contract: the rectangle that holds the covered points is on the surface, or the points that are left decide it.
 -- Assumes nothing.
 use native.Mathlib.Omega.{arith}
-use mathlib.Core.Path.{sym, ap, ◌∙◌}
-use Prim.Native.Nat.{◌-◌}
+use mathlib.Core.Path.{refl, sym, ap, ◌∙◌}
 use Rattle.line.specs.Draw.{line_off}
 use Rattle.line.proofs.TreadLaws.{way-starts, way-placed, way-point, way-small, way-goes}
 use Rattle.line.proofs.PointLaws.{from_start}
@@ -20,40 +19,28 @@ returns-then-box_on c =
 
 pub loop-i-init : goal.loop-i-init
 loop-i-init c =
-    let a = c.args in (
-      ap (line_off a.s a.len a.c) (from_start a.l _ c.point_count-total.ensures),
-      (λ _. way-starts c.long_side-n.ensures c.short_side-m.ensures),
-      omega arith,
-    )
+    let a = c.args in
+    (ap (line_off a.s a.len a.c) (from_start a.l _ refl), λ _. way-starts c.long_side-n.ensures c.short_side-m.ensures)
 
 pub place_point-requires : goal.place_point-requires
-place_point-requires c = way-placed (c.loop-i.invariant.1 c.loop-i-test.true)
+place_point-requires c = way-placed (c.loop-i.invariant.1 (omega arith))
 
 pub returns-then-point_off : goal.returns-then-point_off
 returns-then-point_off c =
     let a = c.args in
-    off-left a.s a.len a.c a.l _ _ _ _ c.loop-i-test.true (way-point (c.loop-i.invariant.1 c.loop-i-test.true) c.place_point.ensures) (sym c.if-point_off.true ∙ c.point_off.ensures)
+    off-left a.s a.len a.c a.l _ _ _ _ (omega arith) (way-point (c.loop-i.invariant.1 (omega arith)) c.place_point.ensures) (sym c.if-point_off.true ∙ c.point_off.ensures)
     ∙ c.loop-i.invariant.0
 
 pub tread_on-t-requires : goal.tread_on-t-requires
-tread_on-t-requires c = way-small (c.loop-i.invariant.1 c.loop-i-test.true) c.requires.line
-
-pub overflow_add-i : goal.overflow_add-i
-overflow_add-i c = omega arith
-
-pub loop-i-smaller : goal.loop-i-smaller
-loop-i-smaller c = omega arith
+tread_on-t-requires c = way-small (c.loop-i.invariant.1 (omega arith)) c.requires.line
 
 pub loop-i-preserved : goal.loop-i-preserved
 loop-i-preserved c =
     let a = c.args in (
-      off-left a.s a.len a.c a.l _ _ _ _ c.loop-i-test.true (way-point (c.loop-i.invariant.1 c.loop-i-test.true) c.place_point.ensures) (sym c.if-point_off.false ∙ c.point_off.ensures)
+      off-left a.s a.len a.c a.l _ _ _ _ (omega arith) (way-point (c.loop-i.invariant.1 (omega arith)) c.place_point.ensures) (sym c.if-point_off.false ∙ c.point_off.ensures)
           ∙ c.loop-i.invariant.0,
-      (λ h. way-goes (c.loop-i.invariant.1 c.loop-i-test.true) c.tread_on-t.ensures c.point_count-total.ensures h),
-      omega arith,
+      (λ h. way-goes (c.loop-i.invariant.1 (omega arith)) c.tread_on-t.ensures refl h),
     )
 
 pub returns : goal.returns
-returns c =
-    let a = c.args in
-    off-none a.s a.len a.c a.l _ _ c.loop-i-test.false ∙ c.loop-i.invariant.0
+returns c = let a = c.args in off-none a.s a.len a.c a.l _ _ (omega arith) ∙ c.loop-i.invariant.0

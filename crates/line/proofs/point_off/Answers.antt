@@ -18,5 +18,5 @@ close_on-requires c = let k = in-clip c.args.c c.args.p.x c.args.p.y (sym c.cove
 pub returns-then-covers : goal.returns-then-covers
 returns-then-covers c = let a = c.args in off-covered a.s a.len a.c a.p _ c.close_on.ensures (sym c.covers.ensures ∙ c.if-covers.true)
 
-pub returns : goal.returns
-returns c = let a = c.args in off-clipped a.s a.len a.c a.p (sym c.covers.ensures ∙ c.if-covers.false)
+pub returns-else-covers : goal.returns-else-covers
+returns-else-covers c = let a = c.args in c.if-covers.false ∙ off-clipped a.s a.len a.c a.p (sym c.covers.ensures ∙ c.if-covers.false)
