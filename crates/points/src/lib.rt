@@ -62,20 +62,14 @@ fn paint_point(
     requires { DrawablePoint ink.target (length mem.old) c p done.tally }
     ensures { (tallied mem.new result.tally ≡ paint ink.target (line_touches ink pattern.now c pen done.style (p ∷ [])) (tallied mem.old done.tally)) × (result.style ≡ after pen done.style) }
 {
-    let next = line::style_after(pen, done.style);
-    let tally = done.tally;
+    let style = line::style_after(pen, done.style);
     if !paint::covers(c, p.x, p.y) {
-        return LineDone {
-            style: next,
-            tally: tally,
-        };
+        return LineDone { style, ..done };
     }
-    let x = p.x - 16384;
-    let y = p.y - 16384;
     let bit = line::stipple_bit(pen, done.style);
     LineDone {
-        style: next,
-        tally: put_point(mem, ink, pattern, x, y, bit, tally),
+        style,
+        tally: put_point(mem, ink, pattern, p.x - 16384, p.y - 16384, bit, done.tally),
     }
 }
 
@@ -94,21 +88,16 @@ pub fn paint_each(
 {
     let n = line::long_side(l);
     let m = line::short_side(l);
-    let total = line::point_count(l);
-    let mut done = LineDone {
-        style: style,
-        tally: Tally {
-            count: 0,
-            changed: 0,
-        },
+    let tally = Tally {
+        count: 0,
+        changed: 0,
     };
+    let mut done = LineDone { style, tally };
     let mut t = Tread { aside: 0, rest: n };
-    let mut i = 0;
-    while i < total {
+    for i in 0..line::point_count(l) {
         let p = line::place_point(l, i, t.aside);
         done = paint_point(mem, ink, pattern, c, p, pen, done);
         t = line::tread_on(n, m, t);
-        i += 1;
     }
     done
 }

@@ -2,7 +2,7 @@
 -- Assumes nothing.
 use mathlib.Core.Path.{◌≡◌}
 use mathlib.Core.Bool.{true}
-use Prim.Native.Nat.{◌-◌, ◌<◌, ◌≤◌}
+use Prim.Native.Nat.{◌-◌, ◌<◌}
 use lib.ListN.{length}
 use Rattle.spans.specs.Span.{all_on}
 use Rattle.paint.specs.Tally.{tally}
@@ -15,11 +15,7 @@ use Rattle.points.proofs.paint_each.Given as goal
 
 abbrev pub invariant-loop-i : goal.invariant-loop-i
 invariant-loop-i l =
-    Left l.ink.target (line_touches l.ink l.pattern l.c l.pen l.style (points l.l)) l.initial.mem (tally 0 0) l.i (line_touches l.ink l.pattern l.c l.pen l.done.style (points_from l.l l.i (l.total - l.i))) l.mem l.done.tally
-    × (style_after l.pen (l.total - l.i) l.done.style ≡ style_after l.pen (point_count l.l) l.style)
-    × (all_on l.ink.target (length l.initial.mem) (covered_points l.c (points_from l.l l.i (l.total - l.i))) ≡ true)
-    × (l.i < l.total → OnWay l.l l.n l.m l.i l.t)
-    × (l.i ≤ l.total)
-
-abbrev pub decreases-loop-i : goal.decreases-loop-i
-decreases-loop-i l = l.total - l.i
+    Left l.ink.target (line_touches l.ink l.pattern l.c l.pen l.style (points l.l)) l.initial.mem (tally 0 0) l.i (line_touches l.ink l.pattern l.c l.pen l.done.style (points_from l.l l.i (point_count l.l - l.i))) l.mem l.done.tally
+    × (style_after l.pen (point_count l.l - l.i) l.done.style ≡ style_after l.pen (point_count l.l) l.style)
+    × (all_on l.ink.target (length l.initial.mem) (covered_points l.c (points_from l.l l.i (point_count l.l - l.i))) ≡ true)
+    × (l.i < point_count l.l → OnWay l.l l.n l.m l.i l.t)

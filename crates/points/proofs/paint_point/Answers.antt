@@ -11,13 +11,13 @@ pub returns-then-not-covers : goal.returns-then-not-covers
 returns-then-not-covers c =
     let a = c.args in
     let out = sym c.covers.ensures ∙ c.if-not-covers.true in
-    (paint-clipped a.ink a.pattern.now a.c a.pen a.p a.done.style (tallied a.mem.now a.done.tally) out, c.style_after-next.ensures)
+    (paint-clipped a.ink a.pattern.now a.c a.pen a.p a.done.style (tallied a.mem.now a.done.tally) out, c.style_after-style.ensures)
 
-pub overflow_sub-x : goal.overflow_sub-x
-overflow_sub-x c = omega (arith, in-clip _ _ _ (sym c.covers.ensures ∙ c.if-not-covers.false))
+pub overflow_sub-p : goal.overflow_sub-p
+overflow_sub-p c = omega (arith, in-clip _ _ _ (sym c.covers.ensures ∙ c.if-not-covers.false))
 
-pub overflow_sub-y : goal.overflow_sub-y
-overflow_sub-y c = omega (arith, in-clip _ _ _ (sym c.covers.ensures ∙ c.if-not-covers.false))
+pub overflow_sub-p-2 : goal.overflow_sub-p-2
+overflow_sub-p-2 c = omega (arith, in-clip _ _ _ (sym c.covers.ensures ∙ c.if-not-covers.false))
 
 pub put_point-requires : goal.put_point-requires
 put_point-requires c =
@@ -32,5 +32,5 @@ pub returns : goal.returns
 returns c =
     let a = c.args in (
       paint-covered a.ink a.pattern.now a.c a.pen a.p a.done.style (tallied a.mem.now a.done.tally) (sym c.covers.ensures ∙ c.if-not-covers.false) c.stipple_bit-bit.ensures c.put_point.ensures,
-      c.style_after-next.ensures,
+      c.style_after-style.ensures,
     )
