@@ -109,10 +109,10 @@ no-flip true e = refl
 no-flip false e = e
 
 module _ (ink : Ink) (l : Line) (t : Track) (e : t ≡ track_of ink l) where
-  pub track-mixing : {len n : ℕ} {flip : Bool} → Mixable ink len l → n ≡ ink.target.bytes → (flip ≡ true → flips ink.rop0 ≡ true) → Mixing len n flip t
+  pub track-mixing : {len : ℕ} {flip : Bool} → Mixable ink len l → (flip ≡ true → flips ink.rop0 ≡ true) → Mixing len t.ink.target.bytes flip t
   unfolding track_of
-  track-mixing {len} {n} {flip} can bytes flipping =
-      subst⁻¹ (Mixing len n flip) e (record { mixable = can; bytes = bytes; flipping = flipping; worked = refl })
+  track-mixing {len} {flip} can flipping =
+      subst⁻¹ (λ (u : Track). Mixing len u.ink.target.bytes flip u) e (record { mixable = can; bytes = refl; flipping = flipping; worked = refl })
 
   pub track-drawn : (pattern m : List ℕ)
       → paint t.ink.target (mix_touches t.ink pattern (points t.line)) (state m 0 0) ≡ paint ink.target (mix_touches ink pattern (points l)) (state m 0 0)

@@ -72,13 +72,15 @@ pub record LeftAt (c : Clip) (l : Line) (from : Spot) (past : ℕ) : Type 0 wher
   pub inside : (i : ℕ) → from.at ≤ i → i < past → in_clip c (point_at l i).x (point_at l i).y ≡ true
   pub outside : (i : ℕ) → past ≤ i → i < point_count l → in_clip c (point_at l i).x (point_at l i).y ≡ false
 
--- a part of a line that can be walked, in a memory of len bytes
+-- a part of a line that can be walked, in a memory of len bytes; its first point is at the origin or after it even where the part has no point
 pub record PartOn (s : Surface) (len : ℕ) (p : Part) : Type 0 where
   pub flat : s.tiled ≡ false
   pub surface : Colour s
   pub line : Placed p.line
   pub walk : AtStep (longer p.line) (shorter p.line) p.from.at p.from.tread
-  pub some : p.from.at < p.past
+  pub first : p.from.at ≤ longer p.line
+  pub start : (origin ≤ (point_at p.line p.from.at).x) × (origin ≤ (point_at p.line p.from.at).y)
+  pub some : p.from.at ≤ p.past
   pub upto : p.past ≤ point_count p.line
   pub near : (i : ℕ) → p.from.at ≤ i → i < p.past → (origin ≤ (point_at p.line i).x) × (origin ≤ (point_at p.line i).y)
   pub on : (i : ℕ) → p.from.at ≤ i → i < p.past → on_surface s len ((point_at p.line i).x - origin) ((point_at p.line i).y - origin) ≡ true

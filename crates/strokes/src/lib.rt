@@ -1,12 +1,14 @@
 // A line drawn: walked by address where it lies inside the clip and its points get their source, and else point by point.
 #![tactic(auto)]
 
-ghost use Rattle.std.specs.Prelude.{◌≡◌, ◌+◌, ◌-◌, ◌/◌, ◌%◌, ◌^◌, ◌<◌, ◌≤◌, true, false, length, if◌then◌else◌};
+ghost use Rattle.std.specs.Prelude.{◌≡◌, ◌+◌, ◌-◌, ◌/◌, ◌%◌, ◌^◌, ◌<◌, ◌≤◌, true, false, ◌&&◌, length, if◌then◌else◌};
 ghost use Rattle.paint.specs.Paint.{state, tallied, paint};
 ghost use Rattle.surface.specs.Asked.{Colour};
 ghost use Rattle.ink.specs.Pattern.{pattern_pixel};
+ghost use Rattle.paint.specs.Clip.{in_clip};
 ghost use Rattle.paint.specs.Asked.{Bits12};
-ghost use Rattle.line.specs.Line.{point_count, points_from, points};
+ghost use Rattle.line.specs.Line.{longer, shorter, point_count, points_from, points};
+ghost use Rattle.line.specs.Tread.{AtStep};
 ghost use Rattle.line.specs.Asked.{Placed, Drawable};
 ghost use Rattle.line.specs.Stipple.{stipple_bit, after, style_after};
 ghost use Rattle.line.specs.Draw.{line_touches};
@@ -20,6 +22,12 @@ use paint::{Clip, Tally};
 use points::LineDone;
 use raster::Quad;
 use surface::Surface;
+
+// No pixel written yet.
+const NONE: Tally = Tally {
+    count: 0,
+    changed: 0,
+};
 
 // Where a walk along a line is: the address of a point's first byte, and the remainder of its steps along the minor axis.
 #[derive(Clone, Copy)]
@@ -47,62 +55,46 @@ pub struct Phase {
 }
 
 // u, or what takes u off in 64 bits.
+#[tactic(auto, unfolding(crate::specs::Walk::shift))]
 fn shifted(up: bool, u: usize) -> usize
     ensures { result ≡ shift up u }
 {
-    if up {
-        return u;
-    }
-    std::num::wrapping_sub_usize(0, u)
+    if up { u } else { u.wrapping_neg() }
 }
 
 // Where pixels are so many bytes apart, and rows so many.
-fn steps_by(bytes: usize, stride: usize, l: Line) -> Steps
+#[tactic(auto, using(std::proofs::lemmas::Bool::Decides::nat_tests), unfolding(crate::specs::Walk::steps_of, line::specs::Line::longer, line::specs::Line::shorter, line::specs::Line::x_major, line::specs::Line::far))]
+fn steps_of(bytes: usize, stride: usize, l: Line) -> Steps
     requires { Placed l }
     ensures { result ≡ steps_of bytes stride l }
 {
     let across = shifted(l.x0 <= l.x1, bytes);
     let down = shifted(l.y0 <= l.y1, stride);
-    let both = std::num::wrapping_add_usize(across, down);
     let more = 2 * line::short_side(l);
-    let limit = 2 * line::long_side(l) - more;
-    if line::x_major(l) {
-        return Steps {
-            along: across,
-            both: both,
-            limit: limit,
-            more: more,
-        };
-    }
     Steps {
-        along: down,
-        both: both,
-        limit: limit,
-        more: more,
+        along: if line::x_major(l) { across } else { down },
+        both: across.wrapping_add(down),
+        limit: 2 * line::long_side(l) - more,
+        more,
     }
-}
-
-fn steps_of(s: Surface, l: Line) -> Steps
-    requires { Placed l }
-    ensures { result ≡ steps_of s.bytes s.stride l }
-{
-    steps_by(surface::wide(s.bytes), surface::wide(s.stride), l)
 }
 
 // The next point.
+#[tactic(auto, using(std::proofs::lemmas::Bool::Decides::nat_tests), unfolding(crate::specs::Walk::walked_on))]
 fn walk_on(t: Steps, w: Walk) -> Walk
     requires { t.limit + t.more < 2 ^ 32 }
     ensures { result ≡ walked_on t w }
 {
     if w.rest < t.limit {
-        return Walk {
-            at: std::num::wrapping_add_usize(w.at, t.along),
+        Walk {
+            at: w.at.wrapping_add(t.along),
             rest: w.rest + t.more,
-        };
-    }
-    Walk {
-        at: std::num::wrapping_add_usize(w.at, t.both),
-        rest: w.rest - t.limit,
+        }
+    } else {
+        Walk {
+            at: w.at.wrapping_add(t.both),
+            rest: w.rest - t.limit,
+        }
     }
 }
 
@@ -141,29 +133,24 @@ fn phase_after(pen: Pen, p: Phase) -> Phase
     ensures { Fields result × (word_of result ≡ after pen (word_of p)) }
 {
     if !pen.stippled {
-        return p;
-    }
-    if p.position < p.repeat {
-        return Phase {
-            repeat: p.repeat,
-            size: p.size,
+        p
+    } else if p.position < p.repeat {
+        Phase {
             position: p.position + 1,
-            bit: p.bit,
-        };
-    }
-    if p.bit < p.size {
-        return Phase {
-            repeat: p.repeat,
-            size: p.size,
+            ..p
+        }
+    } else if p.bit < p.size {
+        Phase {
             position: 0,
             bit: p.bit + 1,
-        };
-    }
-    Phase {
-        repeat: p.repeat,
-        size: p.size,
-        position: 0,
-        bit: 0,
+            ..p
+        }
+    } else {
+        Phase {
+            position: 0,
+            bit: 0,
+            ..p
+        }
     }
 }
 
@@ -172,46 +159,35 @@ fn phase_bit(pen: Pen, p: Phase) -> u32
     ensures { result ≡ stipple_bit pen (word_of p) }
 {
     if pen.stippled {
-        return (pen.stipple >> p.bit) % 2;
+        (pen.stipple >> p.bit) % 2
+    } else {
+        1
     }
-    1
 }
 
-// What a point is given: colorFore where the stipple is on.
-fn pick(on: bool, fore: u32, back: u32) -> u32
-    ensures { result ≡ (if on then fore else back) }
-{
-    if on { fore } else { back }
-}
-
-// The line drawn by address, where each point, of n bytes, gets its source.
-fn stipple_points(mem: &mut [u8], n: u32, ink: Ink, l: Line, pen: Pen, style: u32) -> LineDone
-    requires { Walkable ink.target (length mem.old) l style × (n ≡ ink.target.bytes) }
+// The line drawn by address, where each point, of N bytes, gets its source.
+fn stipple_points<const N: u32>(mem: &mut [u8], ink: Ink, l: Line, pen: Pen, style: u32) -> LineDone
+    requires { Walkable ink.target (length mem.old) l style × (N ≡ ink.target.bytes) }
     ensures { (tallied mem.new result.tally ≡ paint ink.target (walk_touches ink pen style (points l)) (state mem.old 0 0)) × (result.style ≡ style_after pen (point_count l) style) }
 {
     let s = ink.target;
-    let t = steps_of(s, l);
+    let t = steps_of(s.bytes as usize, s.stride as usize, l);
     let mut w = Walk {
         at: surface::close_byte(s, l.x0 - 16384, l.y0 - 16384, 0),
         rest: line::long_side(l),
     };
     let mut p = phase_of(style);
-    let mut tally = Tally {
-        count: 0,
-        changed: 0,
-    };
-    let mut i = 0;
-    while i < surface::wide(line::point_count(l)) {
+    let mut tally = NONE;
+    for _i in 0..line::point_count(l) {
         let on = phase_bit(pen, p) == 1;
-        let v = pick(on, ink.fore, ink.back);
-        tally = paint::put_value_at(mem, w.at, n, ink.clear & !on, v, tally);
+        let v = if on { ink.fore } else { ink.back };
+        tally = paint::put_value_at(mem, w.at, N, ink.clear & !on, v, tally);
         w = walk_on(t, w);
         p = phase_after(pen, p);
-        i += 1;
     }
     LineDone {
         style: style_of(p),
-        tally: tally,
+        tally,
     }
 }
 
@@ -220,38 +196,12 @@ fn walk_line(mem: &mut [u8], ink: Ink, l: Line, pen: Pen, style: u32) -> LineDon
     requires { Walkable ink.target (length mem.old) l style }
     ensures { (tallied mem.new result.tally ≡ paint ink.target (walk_touches ink pen style (points l)) (state mem.old 0 0)) × (result.style ≡ style_after pen (point_count l) style) }
 {
-    let n = ink.target.bytes;
-    match n {
-        1 => stipple_points(mem, 1, ink, l, pen, style),
-        2 => stipple_points(mem, 2, ink, l, pen, style),
-        3 => stipple_points(mem, 3, ink, l, pen, style),
-        _ => stipple_points(mem, 4, ink, l, pen, style),
+    match ink.target.bytes {
+        1 => stipple_points::<1>(mem, ink, l, pen, style),
+        2 => stipple_points::<2>(mem, ink, l, pen, style),
+        3 => stipple_points::<3>(mem, ink, l, pen, style),
+        _ => stipple_points::<4>(mem, ink, l, pen, style),
     }
-}
-
-// The same of a line without a stipple, each point of which gets colorFore: a loop with less to keep.
-fn walk_plain(mem: &mut [u8], ink: Ink, l: Line) -> Tally
-    requires { Walkable ink.target (length mem.old) l 0 }
-    ensures { tallied mem.new result ≡ paint ink.target (plain_touches ink.fore (points l)) (state mem.old 0 0) }
-{
-    let s = ink.target;
-    let n = s.bytes;
-    let t = steps_of(s, l);
-    let mut w = Walk {
-        at: surface::close_byte(s, l.x0 - 16384, l.y0 - 16384, 0),
-        rest: line::long_side(l),
-    };
-    let mut tally = Tally {
-        count: 0,
-        changed: 0,
-    };
-    let mut i = 0;
-    while i < surface::wide(line::point_count(l)) {
-        tally = paint::put_value_at(mem, w.at, n, false, ink.fore, tally);
-        w = walk_on(t, w);
-        i += 1;
-    }
-    tally
 }
 
 // A column of the pattern in the bits from 32 on.
@@ -259,7 +209,7 @@ fn column_part(u: u32) -> usize
     requires { u < 2 ^ 14 }
     ensures { result ≡ column_part u }
 {
-    surface::wide(u) << 32
+    (u as usize) << 32
 }
 
 // A row of it in those from 46 on; the forced row is 0.
@@ -267,10 +217,7 @@ fn row_part(ink: Ink, u: u32) -> usize
     requires { u < 2 ^ 14 }
     ensures { result ≡ row_part ink u }
 {
-    if ink.forced {
-        return 0;
-    }
-    surface::wide(u) << 46
+    if ink.forced { 0 } else { (u as usize) << 46 }
 }
 
 // The pixel of n bytes of a colour pattern whose column and row lie there.
@@ -279,7 +226,7 @@ fn cell_of(pattern: &[u8; 256], n: u32, at: usize) -> u32
     ensures { result ≡ pattern_pixel n pattern.now (at / 2 ^ 32 % 8) (at / 2 ^ 46 % 8) }
 {
     let cell = at / 0x4000_0000_0000 % 8 * 8 + at / 0x1_0000_0000 % 8;
-    surface::get_bytes(pattern, cell * surface::wide(n), n)
+    surface::get_bytes(pattern, cell * n as usize, n)
 }
 
 // A line and its ink, with what a walk along it goes by, worked out before: the walk's address has the pattern's cell in its high bits.
@@ -300,16 +247,16 @@ fn track_of(ink: Ink, l: Line) -> Track
     let s = ink.target;
     let x = l.x0 - 16384;
     let y = l.y0 - 16384;
-    let bytes = surface::wide(s.bytes) + column_part(1);
-    let stride = surface::wide(s.stride) + row_part(ink, 1);
+    let bytes = s.bytes as usize + column_part(1);
+    let stride = s.stride as usize + row_part(ink, 1);
     let place = surface::close_byte(s, x, y, 0);
     let column = column_part(ink.pat_x % 8 + x);
     let row = row_part(ink, ink.pat_y % 8 + y);
     Track {
-        ink: ink,
+        ink,
         line: l,
         quad: raster::quad_of(ink.rop0, ink.fore),
-        steps: steps_by(bytes, stride, l),
+        steps: steps_of(bytes, stride, l),
         walk: Walk {
             at: place + column + row,
             rest: line::long_side(l),
@@ -318,51 +265,51 @@ fn track_of(ink: Ink, l: Line) -> Track
     }
 }
 
-// The line drawn by address, where each point, of n bytes, gets what pattern, colorFore and target make.
-fn mix_points(mem: &mut [u8], n: u32, flip: bool, pattern: &[u8; 256], track: Track) -> Tally
-    requires { Mixing (length mem.old) n flip track }
+// The line drawn by address, where each point, of N bytes, gets what pattern, colorFore and target make.
+fn mix_points<const N: u32, const FLIP: bool>(
+    mem: &mut [u8],
+    pattern: &[u8; 256],
+    track: Track,
+) -> Tally
+    requires { Mixing (length mem.old) N FLIP track }
     ensures { tallied mem.new result ≡ paint track.ink.target (mix_touches track.ink pattern.now (points track.line)) (state mem.old 0 0) }
 {
-    let q = track.quad;
-    let t = track.steps;
     let mut w = track.walk;
-    let mut tally = Tally {
-        count: 0,
-        changed: 0,
-    };
-    let mut i = 0;
-    while i < surface::wide(track.total) {
+    let mut tally = NONE;
+    for _i in 0..track.total {
         let at = w.at % 0x1_0000_0000;
-        let old = surface::get_bytes(mem, at, n);
-        let p = cell_of(pattern, n, w.at);
-        let v = raster::by_quad(q, flip, p, old);
-        tally = paint::put_value_at(mem, at, n, false, v, tally);
-        w = walk_on(t, w);
-        i += 1;
+        let old = surface::get_bytes(mem, at, N);
+        let p = cell_of(pattern, N, w.at);
+        let v = raster::by_quad(track.quad, FLIP, p, old);
+        tally = paint::put_value_at(mem, at, N, false, v, tally);
+        w = walk_on(track.steps, w);
     }
     tally
 }
 
-// By the number of bytes and by what the operation does to the target, so that each has a loop of its own.
+// By the number of bytes, so that each has a loop of its own.
+fn mix_line<const FLIP: bool>(mem: &mut [u8], pattern: &[u8; 256], track: Track) -> Tally
+    requires { Mixing (length mem.old) track.ink.target.bytes FLIP track }
+    ensures { tallied mem.new result ≡ paint track.ink.target (mix_touches track.ink pattern.now (points track.line)) (state mem.old 0 0) }
+{
+    match track.ink.target.bytes {
+        1 => mix_points::<1, FLIP>(mem, pattern, track),
+        2 => mix_points::<2, FLIP>(mem, pattern, track),
+        3 => mix_points::<3, FLIP>(mem, pattern, track),
+        _ => mix_points::<4, FLIP>(mem, pattern, track),
+    }
+}
+
+// And by what the operation does to the target.
 fn walk_mixed(mem: &mut [u8], ink: Ink, pattern: &[u8; 256], l: Line) -> Tally
     requires { Mixable ink (length mem.old) l }
     ensures { tallied mem.new result ≡ paint ink.target (mix_touches ink pattern.now (points l)) (state mem.old 0 0) }
 {
     let track = track_of(ink, l);
-    let n = ink.target.bytes;
     if raster::is_flip(ink.rop0) {
-        return match n {
-            1 => mix_points(mem, 1, true, pattern, track),
-            2 => mix_points(mem, 2, true, pattern, track),
-            3 => mix_points(mem, 3, true, pattern, track),
-            _ => mix_points(mem, 4, true, pattern, track),
-        };
-    }
-    match n {
-        1 => mix_points(mem, 1, false, pattern, track),
-        2 => mix_points(mem, 2, false, pattern, track),
-        3 => mix_points(mem, 3, false, pattern, track),
-        _ => mix_points(mem, 4, false, pattern, track),
+        mix_line::<true>(mem, pattern, track)
+    } else {
+        mix_line::<false>(mem, pattern, track)
     }
 }
 
@@ -373,46 +320,23 @@ pub struct Spot {
     pub tread: Tread,
 }
 
-// The first point inside the clip; past the last where there is none.
-fn enter(c: Clip, l: Line) -> Spot
-    requires { Placed l × Bits12 c }
-    ensures { Sought c l true 0 result }
-{
-    let n = line::long_side(l);
-    let m = line::short_side(l);
-    let total = line::point_count(l);
-    let mut t = Tread { aside: 0, rest: n };
-    let mut i = 0;
-    while i < total {
-        let p = line::place_point(l, i, t.aside);
-        if paint::covers(c, p.x, p.y) {
-            return Spot { at: i, tread: t };
-        }
-        t = line::tread_on(n, m, t);
-        i += 1;
-    }
-    Spot { at: i, tread: t }
-}
-
-// From a spot on, the first point outside it. The two are apart so that the compiler puts each where it is called.
-fn seek_out(c: Clip, l: Line, from: Spot) -> Spot
+// From a spot on, the first point inside the clip, or the first outside it; past the last where there is none.
+fn seek<const INSIDE: bool>(c: Clip, l: Line, from: Spot) -> Spot
     requires { Placed l × Bits12 c × OnSpot l from }
-    ensures { Sought c l false from.at result }
+    ensures { Sought c l INSIDE from.at result }
 {
     let n = line::long_side(l);
     let m = line::short_side(l);
     let total = line::point_count(l);
-    let mut t = from.tread;
-    let mut i = from.at;
-    while i < total {
-        let p = line::place_point(l, i, t.aside);
-        if !paint::covers(c, p.x, p.y) {
-            return Spot { at: i, tread: t };
+    let mut tread = from.tread;
+    for at in from.at..total {
+        let p = line::place_point(l, at, tread.aside);
+        if paint::covers(c, p.x, p.y) == INSIDE {
+            return Spot { at, tread };
         }
-        t = line::tread_on(n, m, t);
-        i += 1;
+        tread = line::tread_on(n, m, tread);
     }
-    Spot { at: i, tread: t }
+    Spot { at: total, tread }
 }
 
 // How many steps one way lead out of a clip that holds position p.
@@ -421,9 +345,10 @@ fn room(up: bool, low: u32, high: u32, p: u32) -> u32
     ensures { result ≡ (if up then 16384 + high - p else p + 1 - (16384 + low)) }
 {
     if up {
-        return 16384 + high - p;
+        16384 + high - p
+    } else {
+        p + 1 - (16384 + low)
     }
-    p + 1 - (16384 + low)
 }
 
 // The number of the first point that is outside the clip again, after one inside it. Where the line ends between the clip's sides along its minor axis, it leaves along the
@@ -436,14 +361,14 @@ fn leave(c: Clip, l: Line, from: Spot) -> u32
     let total = line::point_count(l);
     if line::x_major(l) {
         if paint::covers(c, p.x, l.y1) {
-            return surface::least(total, from.at + room(l.x0 <= l.x1, c.left, c.right, p.x));
+            return total.min(from.at + room(l.x0 <= l.x1, c.left, c.right, p.x));
         }
     } else {
         if paint::covers(c, l.x1, p.y) {
-            return surface::least(total, from.at + room(l.y0 <= l.y1, c.top, c.bottom, p.y));
+            return total.min(from.at + room(l.y0 <= l.y1, c.top, c.bottom, p.y));
         }
     }
-    let out = seek_out(c, l, from);
+    let out = seek::<false>(c, l, from);
     out.at
 }
 
@@ -455,77 +380,91 @@ pub struct Part {
     pub past: u32,
 }
 
-// They are drawn by address, and each gets colorFore.
-fn walk_part(mem: &mut [u8], ink: Ink, part: Part) -> Tally
+// They are drawn by address, and each gets colorFore: a loop with less to keep than that of a stipple. WHOLE: of a whole line, and else of a part, so that the compiler has
+// one for each place where it is called, and puts it there.
+fn walk_part<const WHOLE: bool>(mem: &mut [u8], ink: Ink, part: Part) -> Tally
     requires { PartOn ink.target (length mem.old) part }
     ensures { tallied mem.new result ≡ paint ink.target (plain_touches ink.fore (points_from part.line part.from.at (part.past - part.from.at))) (state mem.old 0 0) }
 {
     let s = ink.target;
-    let n = s.bytes;
-    let l = part.line;
-    let from = part.from;
-    let t = steps_of(s, l);
-    let p = line::place_point(l, from.at, from.tread.aside);
+    let t = steps_of(s.bytes as usize, s.stride as usize, part.line);
+    let p = line::place_point(part.line, part.from.at, part.from.tread.aside);
     let mut w = Walk {
         at: surface::close_byte(s, p.x - 16384, p.y - 16384, 0),
-        rest: from.tread.rest,
+        rest: part.from.tread.rest,
     };
-    let mut tally = Tally {
-        count: 0,
-        changed: 0,
-    };
-    let mut i = surface::wide(from.at);
-    while i < surface::wide(part.past) {
-        tally = paint::put_value_at(mem, w.at, n, false, ink.fore, tally);
+    let mut tally = NONE;
+    for _i in part.from.at..part.past {
+        tally = paint::put_value_at(mem, w.at, s.bytes, false, ink.fore, tally);
         w = walk_on(t, w);
-        i += 1;
     }
     tally
 }
 
-// The points inside the clip of a line without a stipple, each of which gets colorFore: they follow each other.
+// The first point of a line.
+fn start_of(l: Line) -> Spot
+    ensures { (result.at ≡ 0) × AtStep (longer l) (shorter l) 0 result.tread }
+{
+    Spot {
+        at: 0,
+        tread: Tread {
+            aside: 0,
+            rest: line::long_side(l),
+        },
+    }
+}
+
+// All points of a line without a stipple, each of which gets colorFore.
+fn walk_plain(mem: &mut [u8], ink: Ink, l: Line) -> Tally
+    requires { Walkable ink.target (length mem.old) l 0 }
+    ensures { tallied mem.new result ≡ paint ink.target (plain_touches ink.fore (points l)) (state mem.old 0 0) }
+{
+    let part = Part {
+        line: l,
+        from: start_of(l),
+        past: line::point_count(l),
+    };
+    walk_part::<true>(mem, ink, part)
+}
+
+// Those inside the clip: they follow each other.
 fn walk_clipped(mem: &mut [u8], ink: Ink, c: Clip, l: Line) -> Tally
     requires { Drawable ink.target (length mem.old) c l × (ink.target.tiled ≡ false) }
     ensures { tallied mem.new result ≡ paint ink.target (clip_touches ink.fore c (points l)) (state mem.old 0 0) }
 {
-    let first = enter(c, l);
-    if first.at == line::point_count(l) {
-        return Tally {
-            count: 0,
-            changed: 0,
-        };
+    let from = seek::<true>(c, l, start_of(l));
+    if from.at == line::point_count(l) {
+        return NONE;
     }
     let part = Part {
         line: l,
-        from: first,
-        past: leave(c, l, first),
+        from,
+        past: leave(c, l, from),
     };
-    walk_part(mem, ink, part)
+    walk_part::<false>(mem, ink, part)
 }
 
-// Whether a line can be drawn so.
+fn ends_inside(c: Clip, l: Line) -> bool
+    requires { Bits12 c }
+    ensures { result ≡ (in_clip c l.x0 l.y0 && in_clip c l.x1 l.y1) }
+{
+    paint::covers(c, l.x0, l.y0) & paint::covers(c, l.x1, l.y1)
+}
+
+// Whether a line can be walked.
 fn can_walk(ink: Ink, c: Clip, l: Line, style: u32) -> bool
     requires { Bits12 c }
     ensures { result ≡ walks ink c l style }
 {
-    paint::is_direct(ink)
-        & is_whole(style)
-        & paint::covers(c, l.x0, l.y0)
-        & paint::covers(c, l.x1, l.y1)
-        & !ink.target.tiled
+    paint::is_direct(ink) & is_whole(style) & ends_inside(c, l) & !ink.target.tiled
 }
 
-// Whether it can be drawn so with the pattern: without a key, a stipple or a mono pattern.
-fn can_mix(ink: Ink, c: Clip, way: Line, pen: Pen) -> bool
+// Whether it can be walked with the pattern: without a key, a stipple or a mono pattern.
+fn can_mix(ink: Ink, c: Clip, l: Line, pen: Pen) -> bool
     requires { Bits12 c }
-    ensures { result ≡ mixes ink c way pen }
+    ensures { result ≡ mixes ink c l pen }
 {
-    !ink.dst_key
-        & !ink.mono
-        & !pen.stippled
-        & paint::covers(c, way.x0, way.y0)
-        & paint::covers(c, way.x1, way.y1)
-        & !ink.target.tiled
+    !ink.dst_key & !ink.mono & !pen.stippled & ends_inside(c, l) & !ink.target.tiled
 }
 
 // The line drawn.
@@ -544,26 +483,17 @@ pub fn paint_line(
     if can_walk(ink, c, l, style) {
         if !pen.stippled {
             let tally = walk_plain(mem, ink, l);
-            return LineDone {
-                style: style,
-                tally: tally,
-            };
+            return LineDone { style, tally };
         }
         return walk_line(mem, ink, l, pen, style);
     }
     if can_mix(ink, c, l, pen) {
         let tally = walk_mixed(mem, ink, pattern, l);
-        return LineDone {
-            style: style,
-            tally: tally,
-        };
+        return LineDone { style, tally };
     }
     if paint::is_direct(ink) & !pen.stippled & !ink.target.tiled {
         let tally = walk_clipped(mem, ink, c, l);
-        return LineDone {
-            style: style,
-            tally: tally,
-        };
+        return LineDone { style, tally };
     }
     points::paint_each(mem, ink, pattern, c, l, pen, style)
 }

@@ -30,7 +30,7 @@ returns-then-covers c =
     let a = c.args in
     let here = way-point (record { long = refl; short = refl; upto = omega (arith, count-le c.args.l, c.requires.2.before); at = c.requires.2.spot.walk c.requires.2.before }) c.place_point-p.ensures in
     leaves-x a.c a.l a.from c.requires.2 (sym c.x_major.ensures ∙ c.if-x_major.true) (ap (λ (p : Point). in_clip a.c p.x a.l.y1) (sym here) ∙ sym c.covers.ensures ∙ c.if-covers.true) _
-    (c.least.ensures ∙ ap₂ (λ (t r : ℕ). min t (a.from.at + r)) c.point_count-total.ensures (c.room.ensures ∙ ap (λ (p : Point). cond (leb a.l.x0 a.l.x1) (16384 + a.c.right - p.x) (p.x + 1 - (16384 + a.c.left))) here))
+    (c.min.ensures ∙ ap₂ (λ (t r : ℕ). min t (a.from.at + r)) c.point_count-total.ensures (c.room.ensures ∙ ap (λ (p : Point). cond (leb a.l.x0 a.l.x1) (16384 + a.c.right - p.x) (p.x + 1 - (16384 + a.c.left))) here))
 
 pub room-requires-then-covers-2 : goal.room-requires-then-covers-2
 room-requires-then-covers-2 c = let k = subst (λ (p : Point). Covered c.args.c p.x p.y) (sym (way-point (record { long = refl; short = refl; upto = omega (arith, count-le c.args.l, c.requires.2.before); at = c.requires.2.spot.walk c.requires.2.before }) c.place_point-p.ensures)) (in-clip c.args.c _ _ c.requires.2.inside) in
@@ -45,10 +45,10 @@ returns-then-covers-2 c =
     let a = c.args in
     let here = way-point (record { long = refl; short = refl; upto = omega (arith, count-le c.args.l, c.requires.2.before); at = c.requires.2.spot.walk c.requires.2.before }) c.place_point-p.ensures in
     leaves-y a.c a.l a.from c.requires.2 (sym c.x_major.ensures ∙ c.if-x_major.false) (ap (λ (p : Point). in_clip a.c a.l.x1 p.y) (sym here) ∙ sym c.covers-else-x_major.ensures ∙ c.if-covers-2.true) _
-    (c.least-then-covers-2.ensures ∙ ap₂ (λ (t r : ℕ). min t (a.from.at + r)) c.point_count-total.ensures (c.room-then-covers-2.ensures ∙ ap (λ (p : Point). cond (leb a.l.y0 a.l.y1) (16384 + a.c.bottom - p.y) (p.y + 1 - (16384 + a.c.top))) here))
+    (c.min-then-covers-2.ensures ∙ ap₂ (λ (t r : ℕ). min t (a.from.at + r)) c.point_count-total.ensures (c.room-then-covers-2.ensures ∙ ap (λ (p : Point). cond (leb a.l.y0 a.l.y1) (16384 + a.c.bottom - p.y) (p.y + 1 - (16384 + a.c.top))) here))
 
-pub seek_out-out-requires : goal.seek_out-out-requires
-seek_out-out-requires c = (c.requires.0, c.requires.1, c.requires.2.spot)
+pub seek-out-requires : goal.seek-out-requires
+seek-out-requires c = (c.requires.0, c.requires.1, c.requires.2.spot)
 
 pub returns : goal.returns
-returns c = leaves-sought c.args.c c.args.l c.args.from c.requires.2 c.seek_out-out.ensures
+returns c = leaves-sought c.args.c c.args.l c.args.from c.requires.2 c.seek-out.ensures

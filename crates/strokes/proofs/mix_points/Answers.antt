@@ -1,6 +1,6 @@
 -- `strokes::mix_points` meets its contract: what the points that are left do from now on is what all of them do from the start, and the walk is at the next of them.
 -- Assumes nothing.
-use Rattle.std.proofs.Common.{◌≡◌, ℕ, ◌+◌, ◌-◌, ◌/◌, ◌%◌, ◌^◌, ◌<◌, Bool, [], ◌∷◌, sym, refl, ap, ◌∙◌, ap₂, arith}
+use Rattle.std.proofs.Common.{◌≡◌, ℕ, ◌+◌, ◌-◌, ◌/◌, ◌%◌, ◌^◌, ◌<◌, Bool, not, eqb, [], ◌∷◌, sym, refl, ap, ◌∙◌, ap₂, arith}
 use mathlib.Core.Path.{subst⁻¹}
 use mathlib.Core.Option.{Option, some}
 use Rattle.surface.specs.Place.{byte_of, read_bytes}
@@ -73,69 +73,62 @@ module _ {len n : ℕ} {flip : Bool} {t : Track} (p : Mixing len n flip t) where
 
 pub loop-i-init : goal.loop-i-init
 unfolding track_of
-loop-i-init c =
+loop-i-init g c =
     let a = c.args in (
       left-begins (ap (mix_touches a.track.ink a.pattern.now) (from_start a.track.line (point_count a.track.line) refl)),
       (λ h. subst⁻¹ (λ (u : Track). AtPoint (pair_of a.track.ink) a.track.line 0 u.walk) c.requires.worked (walk_start _ _ _ _ (sym (pair-address a.track.ink c.requires.mixable.walkable.flat _ _)) refl)),
-      omega arith,
     )
 
 pub get_bytes-old-requires : goal.get_bytes-old-requires
-get_bytes-old-requires c =
-    let h : c.loop-i.i < point_count c.args.track.line = omega (arith, c.wide.ensures, count c.requires) in
-    held c.requires c.loop-i.i h c.loop-i.w (c.loop-i.invariant.1 h) c.loop-i.invariant.0.long
+get_bytes-old-requires g c =
+    let h : c.loop-i._i < point_count c.args.track.line = omega (arith, count c.requires) in
+    held c.requires c.loop-i._i h c.loop-i.w (c.loop-i.invariant.1 h) c.loop-i.invariant.0.long
 
 pub cell_of-p-requires : goal.cell_of-p-requires
-cell_of-p-requires c =
+cell_of-p-requires g c =
     let p = c.requires in
     (omega (arith, p.bytes, p.mixable.walkable.surface.some), omega (arith, p.bytes, p.mixable.walkable.surface.small.bytes))
 
 pub put_value_at-tally-requires : goal.put_value_at-tally-requires
-put_value_at-tally-requires c =
-    let h : c.loop-i.i < point_count c.args.track.line = omega (arith, c.wide.ensures, count c.requires) in (
-      held c.requires c.loop-i.i h c.loop-i.w (c.loop-i.invariant.1 h) c.loop-i.invariant.0.long,
+put_value_at-tally-requires g c =
+    let h : c.loop-i._i < point_count c.args.track.line = omega (arith, count c.requires) in (
+      held c.requires c.loop-i._i h c.loop-i.w (c.loop-i.invariant.1 h) c.loop-i.invariant.0.long,
       room-first c.loop-i.invariant.0.upto (omega (arith, longer-lt c.requires.mixable.walkable.ahead.line, count-le c.args.track.line)),
     )
 
 pub walk_on-w-requires : goal.walk_on-w-requires
-walk_on-w-requires c = rw (course c.requires) (steps-small _ _ c.args.track.line c.requires.mixable.walkable.ahead.line)
-
-pub overflow_add-i : goal.overflow_add-i
-overflow_add-i c = omega (arith, c.wide.ensures, count c.requires)
-
-pub loop-i-smaller : goal.loop-i-smaller
-loop-i-smaller c = omega (arith, c.wide.ensures, count c.requires)
+walk_on-w-requires g c = rw (course c.requires) (steps-small _ _ c.args.track.line c.requires.mixable.walkable.ahead.line)
 
 pub loop-i-preserved : goal.loop-i-preserved
 unfolding paint
-loop-i-preserved c =
+loop-i-preserved g c =
     let a = c.args in
     let k = c.loop-i in
     let s = a.track.ink.target in
     let l = a.track.line in
     let p = c.requires in
+    let flip = not (eqb g.row.FLIP 0) in
     let w = p.mixable.walkable in
-    let h : k.i < point_count c.args.track.line = omega (arith, c.wide.ensures, count c.requires) in
+    let h : k._i < point_count c.args.track.line = omega (arith, count c.requires) in
     let at = k.invariant.1 h in
-    let q = point_at l k.i in
-    let here = place p k.i h k.w at in
+    let q = point_at l k._i in
+    let here = place p k._i h k.w at in
     let old = c.get_bytes-old.ensures ∙ ap (read_bytes k.mem (λ j. k.w.at % 2 ^ 32 + j) 0) p.bytes ∙ read-run s (in-rows w.flat) (q.x - origin) (q.y - origin) _ here k.mem in
-    let value = c.by_quad-v.ensures ∙ ap₂ (λ (f : Quad) (o : ℕ). quad_made a.flip f o c.get_bytes-old.result) (four p) c.cell_of-p.ensures in
+    let value = c.by_quad-v.ensures ∙ ap₂ (λ (f : Quad) (o : ℕ). quad_made flip f o c.get_bytes-old.result) (four p) c.cell_of-p.ensures in
     let put = c.put_value_at-tally.ensures
     ∙ ap (λ (n : ℕ). dab_at (k.w.at % 2 ^ 32) n (some c.by_quad-v.result) (tallied k.mem k.tally)) p.bytes
     ∙ dab-at s (in-rows w.flat) (pixel_at q.x q.y) _ (some c.by_quad-v.result) (tallied k.mem k.tally) here
     ∙ ap (λ (o : Option ℕ). dab s (pixel_at q.x q.y) o (tallied k.mem k.tally))
-    (point-given a.track.ink a.pattern.now a.n k.w.at (q.x - origin) (q.y - origin) _ _ a.flip p.mixable.keyless p.mixable.colour p.bytes (cell p k.i h k.w at) p.flipping c.get_bytes-old.type_inv value
+    (point-given a.track.ink a.pattern.now g.row.N k.w.at (q.x - origin) (q.y - origin) _ _ flip p.mixable.keyless p.mixable.colour p.bytes (cell p k._i h k.w at) p.flipping c.get_bytes-old.type_inv value
     ∙ ap (λ (o : ℕ). mixed a.track.ink (pattern_value a.track.ink a.pattern.now (q.x - origin) (q.y - origin)) (bit_source a.track.ink 1) o) old) in (
-      left-takes k.invariant.0 (mix_touches a.track.ink a.pattern.now (q ∷ [])) (mix-left a.track.ink a.pattern.now l k.i (point_count l) h) (omega arith) put,
-      (λ g. rw (c.walk_on-w.ensures, course p) (walk-next (pair_of a.track.ink) refl (pair-low a.track.ink w.flat w.surface) l w.ahead k.i (omega (arith, count-le l)) k.w at)),
-      omega arith,
+      left-takes k.invariant.0 (mix_touches a.track.ink a.pattern.now (q ∷ [])) (mix-left a.track.ink a.pattern.now l k._i (point_count l) h) (omega arith) put,
+      (λ g. rw (c.walk_on-w.ensures, course p) (walk-next (pair_of a.track.ink) refl (pair-low a.track.ink w.flat w.surface) l w.ahead k._i (omega (arith, count-le l)) k.w at)),
     )
 
 pub shape_of-mem : goal.shape_of-mem
-shape_of-mem c = c.loop-i.invariant.0.long
+shape_of-mem g c = c.loop-i.invariant.0.long
 
 pub returns : goal.returns
-returns c =
+returns g c =
     let a = c.args in
-    left_ended c.loop-i.invariant.0 (mix-none a.track.ink a.pattern.now a.track.line c.loop-i.i (point_count a.track.line) (omega (arith, c.wide.ensures, count c.requires)))
+    left_ended c.loop-i.invariant.0 (mix-none a.track.ink a.pattern.now a.track.line c.loop-i._i (point_count a.track.line) (omega (arith, count c.requires)))

@@ -1,6 +1,6 @@
 -- `strokes::mix_points` meets its contract: what the points that are left do from now on is what all of them do from the start, and the walk is at the next of them.
 -- Assumes nothing.
-use Rattle.std.proofs.Common.{◌-◌, ◌<◌, ◌≤◌}
+use Rattle.std.proofs.Common.{◌-◌, ◌<◌}
 use Rattle.paint.specs.Tally.{tally}
 use Rattle.paint.proofs.Loops.{Left}
 use Rattle.line.specs.Line.{point_count, points_from, points}
@@ -9,10 +9,6 @@ use Rattle.strokes.specs.Mixed.{pair_of, mix_touches}
 use Rattle.strokes.proofs.mix_points.Given as goal
 
 abbrev pub invariant-loop-i : goal.invariant-loop-i
-invariant-loop-i l =
-    Left l.track.ink.target (mix_touches l.track.ink l.pattern (points l.track.line)) l.initial.mem (tally 0 0) l.i (mix_touches l.track.ink l.pattern (points_from l.track.line l.i (point_count l.track.line - l.i))) l.mem l.tally
-    × (l.i < point_count l.track.line → AtPoint (pair_of l.track.ink) l.track.line l.i l.w)
-    × (l.i ≤ point_count l.track.line)
-
-abbrev pub decreases-loop-i : goal.decreases-loop-i
-decreases-loop-i l = point_count l.track.line - l.i
+invariant-loop-i g l =
+    Left l.track.ink.target (mix_touches l.track.ink l.pattern (points l.track.line)) l.initial.mem (tally 0 0) l._i (mix_touches l.track.ink l.pattern (points_from l.track.line l._i (point_count l.track.line - l._i))) l.mem l.tally
+    × (l._i < point_count l.track.line → AtPoint (pair_of l.track.ink) l.track.line l._i l.w)

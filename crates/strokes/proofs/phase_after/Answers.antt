@@ -24,9 +24,9 @@ returns-then-p-2 c = (
   rw (not-false c.args.pen.stippled c.if-not-pen.false, stepped-fields c.args.p.repeat c.args.p.size c.args.p.position c.args.p.bit c.requires.repeat c.requires.size c.requires.position c.requires.bit, le-ltb _ _ c.if-p.false, lt-ltb _ _ c.if-p-2.true),
 )
 
-pub returns : goal.returns
+pub returns-else-p-2 : goal.returns-else-p-2
 unfolding after
-returns c = (
+returns-else-p-2 c = (
   record { repeat = omega arith; size = omega arith; position = omega arith; bit = omega arith },
   rw (not-false c.args.pen.stippled c.if-not-pen.false, stepped-fields c.args.p.repeat c.args.p.size c.args.p.position c.args.p.bit c.requires.repeat c.requires.size c.requires.position c.requires.bit, le-ltb _ _ c.if-p.false, le-ltb _ _ c.if-p-2.false),
 )

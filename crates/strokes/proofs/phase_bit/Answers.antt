@@ -8,6 +8,6 @@ pub returns-then-pen : goal.returns-then-pen
 unfolding stipple_bit
 returns-then-pen c = rw (c.if-pen.true, fourth-field c.args.p.repeat c.args.p.size c.args.p.position c.args.p.bit c.requires.repeat c.requires.size c.requires.position c.requires.bit)
 
-pub returns : goal.returns
+pub returns-else-pen : goal.returns-else-pen
 unfolding stipple_bit
-returns c = rw c.if-pen.false
+returns-else-pen c = rw c.if-pen.false

@@ -1,6 +1,7 @@
 -- `strokes::stipple_points` meets its contract: what the points that are left do from now on is what all of them do from the start, and the walk is at the next of them.
 -- Assumes nothing.
-use Rattle.std.proofs.Common.{ℕ, ◌-◌, ◌<◌, ◌≤◌, List, [], ◌∷◌, sym, refl, ap, ◌∙◌, ap₂, arith}
+use Rattle.std.proofs.Common.{◌≡◌, ℕ, ◌-◌, ◌<◌, ◌≤◌, cond, eqb, List, [], ◌∷◌, sym, refl, ap, ◌∙◌, ap₂, arith}
+use borrow.Author.Tests.{eq-eqb, ne_eqb}
 use mathlib.Core.Option.{Option}
 use Rattle.paint.specs.Paint.{tallied, dab_at, paint}
 use Rattle.paint.specs.Mix.{bit_source, sourced}
@@ -18,27 +19,28 @@ use Rattle.paint.proofs.Turns.{dab-at}
 use Rattle.paint.proofs.Loops.{left-begins, left-takes, left_ended}
 use Rattle.strokes.proofs.WalkLaws.{small_low, steps-small, walk_start, walk-next}
 use Rattle.strokes.proofs.WalkDraw.{walk-left, walk_none, stipple-given}
+use Rattle.strokes.proofs.stipple_points.Goals.{then-on, else-on}
 use Rattle.strokes.proofs.stipple_points.Goals as goal
 
 pub steps_of-t-requires : goal.steps_of-t-requires
-steps_of-t-requires c = c.requires.0.ahead.line
+steps_of-t-requires g c = c.requires.0.ahead.line
 
 pub overflow_sub-l : goal.overflow_sub-l
-overflow_sub-l c = c.requires.0.ahead.left
+overflow_sub-l g c = c.requires.0.ahead.left
 
 pub overflow_sub-l-2 : goal.overflow_sub-l-2
-overflow_sub-l-2 c = c.requires.0.ahead.top
+overflow_sub-l-2 g c = c.requires.0.ahead.top
 
 pub close_byte-requires : goal.close_byte-requires
-close_byte-requires c =
+close_byte-requires g c =
     let p = c.requires.0 in
     (p.surface, p.surface.some, omega (arith, p.ahead.line.x0), omega (arith, p.ahead.line.y0))
 
 pub phase_of-p-requires : goal.phase_of-p-requires
-phase_of-p-requires c = c.requires.0.fields
+phase_of-p-requires g c = c.requires.0.fields
 
 pub loop-i-init : goal.loop-i-init
-loop-i-init c =
+loop-i-init g c =
     let a = c.args in
     let e = c.phase_of-p.ensures.1 in
     let n = point_count a.l in (
@@ -46,66 +48,59 @@ loop-i-init c =
       ap (style_after a.pen (n - 0)) e ∙ style-start a.pen n n a.style refl,
       (λ h. walk_start a.ink.target a.l _ _ c.close_byte.ensures c.long_side.ensures),
       c.phase_of-p.ensures.0,
-      omega arith,
     )
 
-pub point_count-requires : goal.point_count-requires
-point_count-requires c = c.requires.0.ahead.line
+pub point_count-i-end-requires : goal.point_count-i-end-requires
+point_count-i-end-requires g c = c.requires.0.ahead.line
 
 pub phase_bit-on-requires : goal.phase_bit-on-requires
-phase_bit-on-requires c = c.loop-i.invariant.3
+phase_bit-on-requires g c = c.loop-i.invariant.3
 
 pub put_value_at-tally-requires : goal.put_value_at-tally-requires
-put_value_at-tally-requires c =
+put_value_at-tally-requires g c =
     let a = c.args in
     let p = c.requires.0 in
     let k = c.loop-i in
-    let h : k.i < point_count a.l = omega (arith, c.wide.ensures, c.point_count.ensures) in (
-      rw (k.invariant.0.long, c.requires.1) (pixel-held (in-rows p.flat) (record { colour = p.surface; on = p.on k.i h }) _ (k.invariant.2 h).at),
+    let h : k._i < point_count a.l = omega arith in (
+      rw (k.invariant.0.long, c.requires.1) (pixel-held (in-rows p.flat) (record { colour = p.surface; on = p.on k._i h }) _ (k.invariant.2 h).at),
       room-first k.invariant.0.upto (omega (arith, longer-lt p.ahead.line, count-le a.l)),
     )
 
 pub walk_on-w-requires : goal.walk_on-w-requires
-walk_on-w-requires c = rw c.steps_of-t.ensures (steps-small _ _ c.args.l c.requires.0.ahead.line)
+walk_on-w-requires g c = rw c.steps_of-t.ensures (steps-small _ _ c.args.l c.requires.0.ahead.line)
 
 pub phase_after-p-requires : goal.phase_after-p-requires
-phase_after-p-requires c = c.loop-i.invariant.3
-
-pub overflow_add-i : goal.overflow_add-i
-overflow_add-i c = omega (arith, c.wide.ensures, c.point_count.ensures)
-
-pub loop-i-smaller : goal.loop-i-smaller
-loop-i-smaller c = omega (arith, c.wide.ensures, c.point_count.ensures)
+phase_after-p-requires g c = c.loop-i.invariant.3
 
 pub loop-i-preserved : goal.loop-i-preserved
 unfolding paint walk_touches
-loop-i-preserved c =
+loop-i-preserved g c =
     let a = c.args in
     let p = c.requires.0 in
     let k = c.loop-i in
     let s = a.ink.target in
-    let h : k.i < point_count a.l = omega (arith, c.wide.ensures, c.point_count.ensures) in
+    let h : k._i < point_count a.l = omega arith in
     let at = k.invariant.2 h in
-    let q = point_at a.l k.i in
+    let q = point_at a.l k._i in
+    let picked : c.if-on.v ≡ cond (eqb c.phase_bit-on.result 1) a.ink.fore a.ink.back = elim c.if-on.branch [ then-on w ↦ rw (eq-eqb _ _ w.if-on.true) w.v-is | else-on w ↦ rw (ne_eqb _ _ w.if-on.false) w.v-is ] in
     let put = c.put_value_at-tally.ensures
-    ∙ ap₂ (λ (n : ℕ) (o : Option ℕ). dab_at k.w.at n o (tallied k.mem k.tally)) c.requires.1 (stipple-given a.ink a.pen (word_of k.p) c.phase_bit-on.ensures c.pick-v.ensures)
+    ∙ ap₂ (λ (n : ℕ) (o : Option ℕ). dab_at k.w.at n o (tallied k.mem k.tally)) c.requires.1 (stipple-given a.ink a.pen (word_of k.p) c.phase_bit-on.ensures picked)
     ∙ dab-at s (in-rows p.flat) (pixel_at q.x q.y) _ (sourced (bit_source a.ink (stipple_bit a.pen (word_of k.p)))) (tallied k.mem k.tally) at.at in (
-      left-takes k.invariant.0 (walk_touches a.ink a.pen (word_of k.p) (q ∷ [])) (walk-left a.ink a.pen a.l k.i (point_count a.l) (word_of k.p) h c.phase_after-p.ensures.1)
+      left-takes k.invariant.0 (walk_touches a.ink a.pen (word_of k.p) (q ∷ [])) (walk-left a.ink a.pen a.l k._i (point_count a.l) (word_of k.p) h c.phase_after-p.ensures.1)
           (omega arith) put,
-      style-turn a.pen k.i (point_count a.l) (word_of k.p) _ h c.phase_after-p.ensures.1 ∙ k.invariant.1,
-      (λ g. rw (c.walk_on-w.ensures, c.steps_of-t.ensures) (walk-next s p.flat (small_low p.surface.small) a.l p.ahead k.i (omega (arith, count-le a.l)) k.w at)),
+      style-turn a.pen k._i (point_count a.l) (word_of k.p) _ h c.phase_after-p.ensures.1 ∙ k.invariant.1,
+      (λ g. rw (c.walk_on-w.ensures, c.steps_of-t.ensures) (walk-next s p.flat (small_low p.surface.small) a.l p.ahead k._i (omega (arith, count-le a.l)) k.w at)),
       c.phase_after-p.ensures.0,
-      omega arith,
     )
 
 pub style_of-requires : goal.style_of-requires
-style_of-requires c = c.loop-i.invariant.3
+style_of-requires g c = c.loop-i.invariant.3
 
 pub returns : goal.returns
-returns c =
+returns g c =
     let a = c.args in
     let k = c.loop-i in
-    let h : point_count a.l ≤ k.i = omega (arith, c.wide.ensures, c.point_count.ensures) in (
-      left_ended k.invariant.0 (walk_none a.ink a.pen a.l k.i (point_count a.l) (word_of k.p) h),
-      c.style_of.ensures ∙ sym (style-done a.pen k.i (point_count a.l) (word_of k.p) h) ∙ k.invariant.1,
+    let h : point_count a.l ≤ k._i = omega arith in (
+      left_ended k.invariant.0 (walk_none a.ink a.pen a.l k._i (point_count a.l) (word_of k.p) h),
+      c.style_of.ensures ∙ sym (style-done a.pen k._i (point_count a.l) (word_of k.p) h) ∙ k.invariant.1,
     )

@@ -7,7 +7,7 @@ use Rattle.strokes.proofs.MixedLaws.{row_small}
 use Rattle.strokes.proofs.track_of.Goals as goal
 
 pub overflow_add-stride : goal.overflow_add-stride
-overflow_add-stride c = omega (arith, c.wide-2.ensures, c.row_part.ensures, row_small c.args.ink 1, c.requires.0.small.stride)
+overflow_add-stride c = omega (arith, c.row_part.ensures, row_small c.args.ink 1, c.requires.0.small.stride)
 
 pub close_byte-place-requires : goal.close_byte-place-requires
 close_byte-place-requires c = (c.requires.0, c.requires.0.some, omega (arith, c.requires.1.line.x0), omega (arith, c.requires.1.line.y0))
@@ -18,8 +18,8 @@ column_part-column-requires c = omega (arith, c.requires.1.line.x0)
 pub row_part-row-requires : goal.row_part-row-requires
 row_part-row-requires c = omega (arith, c.requires.1.line.y0)
 
-pub steps_by-requires : goal.steps_by-requires
-steps_by-requires c = c.requires.1.line
+pub steps_of-requires : goal.steps_of-requires
+steps_of-requires c = c.requires.1.line
 
 pub overflow_add-result : goal.overflow_add-result
 overflow_add-result c =
@@ -47,4 +47,4 @@ point_count-requires c = c.requires.1.line
 
 pub returns : goal.returns
 unfolding track_of
-returns c = rw (c.steps_by.ensures, c.wide.ensures, c.column_part.ensures, c.wide-2.ensures, c.row_part.ensures, c.close_byte-place.ensures, c.column_part-column.ensures, c.row_part-row.ensures, c.quad_of.ensures, c.long_side.ensures, c.point_count.ensures)
+returns c = rw (c.steps_of.ensures, c.column_part.ensures, c.row_part.ensures, c.close_byte-place.ensures, c.column_part-column.ensures, c.row_part-row.ensures, c.quad_of.ensures, c.long_side.ensures, c.point_count.ensures)
