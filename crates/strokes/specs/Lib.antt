@@ -1,3 +1,4 @@
 pub mod Asked
 pub mod Walk
 pub mod Mixed
+pub mod Phase

@@ -1,7 +1,7 @@
 -- A line that lies inside the clip and whose points get their source, walked by address: each step adds to the address of the point before, and to a
 -- remainder that says when it goes along the minor axis too. The stipple's word is kept as its four numbers.
 -- Assumes nothing.
-use Rattle.std.specs.Prelude.{◌≡◌, ℕ, ◌+◌, ◌-◌, ◌*◌, ◌%◌, ◌^◌, ◌<◌, Bool, cond, not, ◌&&◌, List, [], ◌∷◌, map, ◌==◌, nat_le, nat_lt}
+use Rattle.std.specs.Prelude.{◌≡◌, ℕ, ◌+◌, ◌-◌, ◌*◌, ◌%◌, ◌^◌, Bool, cond, not, ◌&&◌, List, [], ◌∷◌, map, ◌==◌, nat_le, nat_lt}
 use Rattle.std.proofs.Math.Option.{some}
 use Rattle.surface.specs.declared.Surface.{Surface}
 use Rattle.surface.specs.Place.{byte_of}
@@ -16,7 +16,6 @@ use Rattle.line.specs.declared.Line.{Line}
 use Rattle.line.specs.declared.Pen.{Pen}
 use Rattle.strokes.specs.declared.Walk.{Walk}
 use Rattle.strokes.specs.declared.Steps.{Steps}
-use Rattle.strokes.specs.declared.Phase.{Phase}
 use Rattle.line.specs.Line.{x_major, longer, shorter, point_at}
 use Rattle.line.specs.Tread.{left_over}
 use Rattle.line.specs.Stipple.{repeat_count, size, position, bit_number, style_of, stipple_bit, after}
@@ -74,18 +73,9 @@ clip_touches v c (p ∷ ps) = cond (in_clip c p.x p.y) (touch (pixel_at p.x p.y)
 
 -- ---- the stipple's four numbers
 
-abbrev pub word_of : Phase → ℕ
-word_of p = style_of p.repeat p.size p.position p.bit
-
 -- a word that has no other bits
 abbrev pub whole : ℕ → Bool
 whole style = style_of (repeat_count style) (size style) (position style) (bit_number style) == style
-
-pub record Fields (p : Phase) : Type 0 where
-  pub repeat : p.repeat < 256
-  pub size : p.size < 32
-  pub position : p.position < 256
-  pub bit : p.bit < 32
 
 -- ---- what functions give
 

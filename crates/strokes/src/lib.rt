@@ -10,9 +10,9 @@ ghost use Rattle.paint.specs.Asked.{Bits12};
 ghost use Rattle.line.specs.Line.{longer, shorter, point_count, points_from, points};
 ghost use Rattle.line.specs.Tread.{AtStep};
 ghost use Rattle.line.specs.Asked.{Placed, Drawable};
-ghost use Rattle.line.specs.Stipple.{stipple_bit, after, style_after};
+ghost use Rattle.line.specs.Stipple.{repeat_count, size, position, bit_number, style_of, stipple_bit, after, style_after};
 ghost use Rattle.line.specs.Draw.{line_touches};
-ghost use Rattle.strokes.specs.Walk.{shift, steps_of, walked_on, walk, plain_touches, clip_touches, walk_touches, word_of, whole, Fields, walks};
+ghost use Rattle.strokes.specs.Walk.{shift, steps_of, walked_on, walk, plain_touches, clip_touches, walk_touches, whole, walks};
 ghost use Rattle.strokes.specs.Mixed.{column_part, row_part, track_of, mix_touches, mixes};
 ghost use Rattle.strokes.specs.Asked.{Ahead, Walkable, Mixable, Mixing, OnSpot, Sought, Entered, LeftAt, PartOn};
 
@@ -21,6 +21,7 @@ use line::{Line, Pen, Tread};
 use paint::{Clip, Tally};
 use points::LineDone;
 use raster::Quad;
+use std::marker::Model;
 use surface::Surface;
 
 // No pixel written yet.
@@ -45,13 +46,87 @@ pub struct Steps {
     pub more: u32,
 }
 
-// The four fields of the word lineStyle.
+// The word lineStyle by its four fields: contracts see the word.
 #[derive(Clone, Copy)]
 pub struct Phase {
-    pub repeat: u32,
-    pub size: u32,
-    pub position: u32,
-    pub bit: u32,
+    repeat: u32,
+    size: u32,
+    position: u32,
+    bit: u32,
+}
+
+impl Model for Phase {
+    ghost use Rattle.std.specs.Prelude.{ℕ};
+    ghost use Rattle.strokes.specs.Phase.{word_of, fields_of, Fields, fields-back};
+
+    ghost Value = { ℕ };
+
+    ghost view = { word_of };
+
+    ghost invariant = { Fields };
+
+    ghost inverse = { fields_of };
+
+    ghost inverse_ok = { fields-back };
+}
+
+impl Phase {
+    // Of a word, without its other bits.
+    fn of(style: u32) -> Phase
+        ensures { result ≡ style_of (repeat_count style) (size style) (position style) (bit_number style) }
+    {
+        Phase {
+            repeat: style % 0x100,
+            size: style / 0x100 % 0x20,
+            position: style / 0x10000 % 0x100,
+            bit: style / 0x1000000 % 0x20,
+        }
+    }
+
+    fn word(self) -> u32
+        ensures { result ≡ self }
+    {
+        self.repeat + self.size * 0x100 + self.position * 0x10000 + self.bit * 0x1000000
+    }
+
+    // After a point.
+    #[tactic(auto, using(std::proofs::lemmas::Bool::Decides::nat_tests), unfolding(line::specs::Stipple::after, line::specs::Stipple::stepped))]
+    fn after(self, pen: Pen) -> Phase
+        ensures { result ≡ after pen self }
+    {
+        if !pen.stippled {
+            self
+        } else if self.position < self.repeat {
+            Phase {
+                position: self.position + 1,
+                ..self
+            }
+        } else if self.bit < self.size {
+            Phase {
+                position: 0,
+                bit: self.bit + 1,
+                ..self
+            }
+        } else {
+            Phase {
+                position: 0,
+                bit: 0,
+                ..self
+            }
+        }
+    }
+
+    // The stipple's bit at a point.
+    #[tactic(auto, unfolding(line::specs::Stipple::stipple_bit))]
+    fn stipple_bit(self, pen: Pen) -> u32
+        ensures { result ≡ stipple_bit pen self }
+    {
+        if pen.stippled {
+            (pen.stipple >> self.bit) % 2
+        } else {
+            1
+        }
+    }
 }
 
 // u, or what takes u off in 64 bits.
@@ -98,71 +173,11 @@ fn walk_on(t: Steps, w: Walk) -> Walk
     }
 }
 
+// Whether a word has no other bits.
 fn is_whole(style: u32) -> bool
     ensures { result ≡ whole style }
 {
-    let count = style % 0x100;
-    let size = style / 0x100 % 0x20;
-    let position = style / 0x10000 % 0x100;
-    let bit = style / 0x1000000 % 0x20;
-    count + size * 0x100 + position * 0x10000 + bit * 0x1000000 == style
-}
-
-fn phase_of(style: u32) -> Phase
-    requires { whole style ≡ true }
-    ensures { Fields result × (word_of result ≡ style) }
-{
-    Phase {
-        repeat: style % 0x100,
-        size: style / 0x100 % 0x20,
-        position: style / 0x10000 % 0x100,
-        bit: style / 0x1000000 % 0x20,
-    }
-}
-
-fn style_of(p: Phase) -> u32
-    requires { Fields p }
-    ensures { result ≡ word_of p }
-{
-    p.repeat + p.size * 0x100 + p.position * 0x10000 + p.bit * 0x1000000
-}
-
-// After a point.
-fn phase_after(pen: Pen, p: Phase) -> Phase
-    requires { Fields p }
-    ensures { Fields result × (word_of result ≡ after pen (word_of p)) }
-{
-    if !pen.stippled {
-        p
-    } else if p.position < p.repeat {
-        Phase {
-            position: p.position + 1,
-            ..p
-        }
-    } else if p.bit < p.size {
-        Phase {
-            position: 0,
-            bit: p.bit + 1,
-            ..p
-        }
-    } else {
-        Phase {
-            position: 0,
-            bit: 0,
-            ..p
-        }
-    }
-}
-
-fn phase_bit(pen: Pen, p: Phase) -> u32
-    requires { Fields p }
-    ensures { result ≡ stipple_bit pen (word_of p) }
-{
-    if pen.stippled {
-        (pen.stipple >> p.bit) % 2
-    } else {
-        1
-    }
+    Phase::of(style).word() == style
 }
 
 // The line drawn by address, where each point, of N bytes, gets its source.
@@ -176,17 +191,17 @@ fn stipple_points<const N: u32>(mem: &mut [u8], ink: Ink, l: Line, pen: Pen, sty
         at: surface::close_byte(s, l.x0 - 16384, l.y0 - 16384, 0),
         rest: line::long_side(l),
     };
-    let mut p = phase_of(style);
+    let mut p = Phase::of(style);
     let mut tally = NONE;
     for _i in 0..line::point_count(l) {
-        let on = phase_bit(pen, p) == 1;
+        let on = p.stipple_bit(pen) == 1;
         let v = if on { ink.fore } else { ink.back };
         tally = paint::put_value_at(mem, w.at, N, ink.clear & !on, v, tally);
         w = walk_on(t, w);
-        p = phase_after(pen, p);
+        p = p.after(pen);
     }
     LineDone {
-        style: style_of(p),
+        style: p.word(),
         tally,
     }
 }

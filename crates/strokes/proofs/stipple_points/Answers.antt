@@ -1,6 +1,6 @@
 -- `strokes::stipple_points` meets its contract: what the points that are left do from now on is what all of them do from the start, and the walk is at the next of them.
 -- Assumes nothing.
-use Rattle.std.proofs.Common.{◌≡◌, ℕ, ◌-◌, ◌<◌, ◌≤◌, cond, eqb, List, [], ◌∷◌, sym, refl, ap, ◌∙◌, ap₂, arith}
+use Rattle.std.proofs.Common.{◌≡◌, ℕ, ◌-◌, ◌<◌, ◌≤◌, cond, eqb, eqb-true, List, [], ◌∷◌, sym, refl, ap, ◌∙◌, ap₂, arith}
 use borrow.Author.Tests.{eq-eqb, ne_eqb}
 use mathlib.Core.Option.{Option}
 use Rattle.paint.specs.Paint.{tallied, dab_at, paint}
@@ -10,7 +10,7 @@ use Rattle.surface.proofs.Run.{in-rows, pixel-held}
 use Rattle.line.specs.declared.Point.{Point}
 use Rattle.line.specs.Line.{point_at, point_count}
 use Rattle.line.specs.Stipple.{stipple_bit, style_after}
-use Rattle.strokes.specs.Walk.{walk_touches, word_of}
+use Rattle.strokes.specs.Walk.{walk_touches}
 use Rattle.line.proofs.Sides.{count-le, longer-lt}
 use Rattle.line.proofs.PointLaws.{from_start}
 use Rattle.line.proofs.StippleLaws.{style-start, style-turn, style-done}
@@ -36,25 +36,18 @@ close_byte-requires g c =
     let p = c.requires.0 in
     (p.surface, p.surface.some, omega (arith, p.ahead.line.x0), omega (arith, p.ahead.line.y0))
 
-pub phase_of-p-requires : goal.phase_of-p-requires
-phase_of-p-requires g c = c.requires.0.fields
-
 pub loop-i-init : goal.loop-i-init
 loop-i-init g c =
     let a = c.args in
-    let e = c.phase_of-p.ensures.1 in
+    let e = c.of-p.ensures ∙ eqb-true _ _ c.requires.0.fields in
     let n = point_count a.l in (
       left-begins (ap₂ (λ (u : ℕ) (ps : List Point). walk_touches a.ink a.pen u ps) e (from_start a.l n refl)),
       ap (style_after a.pen (n - 0)) e ∙ style-start a.pen n n a.style refl,
       (λ h. walk_start a.ink.target a.l _ _ c.close_byte.ensures c.long_side.ensures),
-      c.phase_of-p.ensures.0,
     )
 
 pub point_count-i-end-requires : goal.point_count-i-end-requires
 point_count-i-end-requires g c = c.requires.0.ahead.line
-
-pub phase_bit-on-requires : goal.phase_bit-on-requires
-phase_bit-on-requires g c = c.loop-i.invariant.3
 
 pub put_value_at-tally-requires : goal.put_value_at-tally-requires
 put_value_at-tally-requires g c =
@@ -69,9 +62,6 @@ put_value_at-tally-requires g c =
 pub walk_on-w-requires : goal.walk_on-w-requires
 walk_on-w-requires g c = rw c.steps_of-t.ensures (steps-small _ _ c.args.l c.requires.0.ahead.line)
 
-pub phase_after-p-requires : goal.phase_after-p-requires
-phase_after-p-requires g c = c.loop-i.invariant.3
-
 pub loop-i-preserved : goal.loop-i-preserved
 unfolding paint walk_touches
 loop-i-preserved g c =
@@ -82,25 +72,21 @@ loop-i-preserved g c =
     let h : k._i < point_count a.l = omega arith in
     let at = k.invariant.2 h in
     let q = point_at a.l k._i in
-    let picked : c.if-on.v ≡ cond (eqb c.phase_bit-on.result 1) a.ink.fore a.ink.back = elim c.if-on.branch [ then-on w ↦ rw (eq-eqb _ _ w.if-on.true) w.v-is | else-on w ↦ rw (ne_eqb _ _ w.if-on.false) w.v-is ] in
+    let picked : c.if-on.v ≡ cond (eqb c.stipple_bit-on.result 1) a.ink.fore a.ink.back = elim c.if-on.branch [ then-on w ↦ rw (eq-eqb _ _ w.if-on.true) w.v-is | else-on w ↦ rw (ne_eqb _ _ w.if-on.false) w.v-is ] in
     let put = c.put_value_at-tally.ensures
-    ∙ ap₂ (λ (n : ℕ) (o : Option ℕ). dab_at k.w.at n o (tallied k.mem k.tally)) c.requires.1 (stipple-given a.ink a.pen (word_of k.p) c.phase_bit-on.ensures picked)
-    ∙ dab-at s (in-rows p.flat) (pixel_at q.x q.y) _ (sourced (bit_source a.ink (stipple_bit a.pen (word_of k.p)))) (tallied k.mem k.tally) at.at in (
-      left-takes k.invariant.0 (walk_touches a.ink a.pen (word_of k.p) (q ∷ [])) (walk-left a.ink a.pen a.l k._i (point_count a.l) (word_of k.p) h c.phase_after-p.ensures.1)
+    ∙ ap₂ (λ (n : ℕ) (o : Option ℕ). dab_at k.w.at n o (tallied k.mem k.tally)) c.requires.1 (stipple-given a.ink a.pen k.p c.stipple_bit-on.ensures picked)
+    ∙ dab-at s (in-rows p.flat) (pixel_at q.x q.y) _ (sourced (bit_source a.ink (stipple_bit a.pen k.p))) (tallied k.mem k.tally) at.at in (
+      left-takes k.invariant.0 (walk_touches a.ink a.pen k.p (q ∷ [])) (walk-left a.ink a.pen a.l k._i (point_count a.l) k.p h c.after-p.ensures)
           (omega arith) put,
-      style-turn a.pen k._i (point_count a.l) (word_of k.p) _ h c.phase_after-p.ensures.1 ∙ k.invariant.1,
+      style-turn a.pen k._i (point_count a.l) k.p _ h c.after-p.ensures ∙ k.invariant.1,
       (λ g. rw (c.walk_on-w.ensures, c.steps_of-t.ensures) (walk-next s p.flat (small_low p.surface.small) a.l p.ahead k._i (omega (arith, count-le a.l)) k.w at)),
-      c.phase_after-p.ensures.0,
     )
-
-pub style_of-requires : goal.style_of-requires
-style_of-requires g c = c.loop-i.invariant.3
 
 pub returns : goal.returns
 returns g c =
     let a = c.args in
     let k = c.loop-i in
     let h : point_count a.l ≤ k._i = omega arith in (
-      left_ended k.invariant.0 (walk_none a.ink a.pen a.l k._i (point_count a.l) (word_of k.p) h),
-      c.style_of.ensures ∙ sym (style-done a.pen k._i (point_count a.l) (word_of k.p) h) ∙ k.invariant.1,
+      left_ended k.invariant.0 (walk_none a.ink a.pen a.l k._i (point_count a.l) k.p h),
+      c.word.ensures ∙ sym (style-done a.pen k._i (point_count a.l) k.p h) ∙ k.invariant.1,
     )
