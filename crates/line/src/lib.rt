@@ -20,6 +20,7 @@ pub struct Point {
 }
 
 // From (x0, y0) to (x1, y1); poly: a part of a polyline, without its last point.
+// Four numbers, not two Points: the definitions that the contracts of paint_line, line_off and command::line_of rest on name them.
 #[derive(Clone, Copy)]
 pub struct Line {
     pub x0: u32,
@@ -185,6 +186,7 @@ pub fn line_off(len: usize, s: Surface, c: Clip, l: Line) -> bool
     }
     let n = long_side(l);
     let m = short_side(l);
+    // A step for each point, and no iterator of points: one would take more lines than it saves here and in the two crates that walk so.
     let mut t = Tread { aside: 0, rest: n };
     for i in 0..point_count(l) {
         if point_off(len, s, c, place_point(l, i, t.aside)) {

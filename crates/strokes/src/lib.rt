@@ -383,8 +383,7 @@ fn leave(c: Clip, l: Line, from: Spot) -> u32
             return total.min(from.at + room(l.y0 <= l.y1, c.top, c.bottom, p.y));
         }
     }
-    let out = seek::<false>(c, l, from);
-    out.at
+    seek::<false>(c, l, from).at
 }
 
 // The points of a line from a spot up to, and without, one of number `past`.
