@@ -37,7 +37,7 @@ pub struct Pen {
 }
 
 // k steps from a towards b.
-#[tactic(auto, using(std::proofs::lemmas::Bool::Decides::nat_tests), unfolding(crate::specs::Line::towards, crate::specs::Line::far))]
+#[tactic(auto, unfolding(crate::specs::Line::towards, crate::specs::Line::far))]
 fn moved(a: u32, b: u32, k: u32) -> u32
     requires { k ≤ far a b }
     ensures { result ≡ towards a b k }
@@ -52,14 +52,14 @@ pub fn x_major(l: Line) -> bool
     l.y0.abs_diff(l.y1) <= l.x0.abs_diff(l.x1)
 }
 
-#[tactic(auto, using(std::proofs::lemmas::Bool::Decides::nat_tests), unfolding(crate::specs::Line::longer, crate::specs::Line::x_major, crate::specs::Line::far))]
+#[tactic(auto, unfolding(crate::specs::Line::longer, crate::specs::Line::x_major, crate::specs::Line::far))]
 pub fn long_side(l: Line) -> u32
     ensures { result ≡ longer l }
 {
     l.x0.abs_diff(l.x1).max(l.y0.abs_diff(l.y1))
 }
 
-#[tactic(auto, using(std::proofs::lemmas::Bool::Decides::nat_tests), unfolding(crate::specs::Line::shorter, crate::specs::Line::x_major, crate::specs::Line::far))]
+#[tactic(auto, unfolding(crate::specs::Line::shorter, crate::specs::Line::x_major, crate::specs::Line::far))]
 pub fn short_side(l: Line) -> u32
     ensures { result ≡ shorter l }
 {
@@ -96,7 +96,7 @@ pub struct Tread {
 }
 
 // From a point to the next, of a line of sides n and m: what is left over grows, or a step aside takes it up.
-#[tactic(auto, using(std::proofs::lemmas::Bool::Decides::nat_tests), unfolding(crate::specs::Tread::trodden))]
+#[tactic(auto, unfolding(crate::specs::Tread::trodden))]
 pub fn tread_on(n: u32, m: u32, t: Tread) -> Tread
     requires { (m ≤ n) × (n < 2 ^ 13) × (t.aside ≤ n) }
     ensures { result ≡ trodden n m t }
@@ -117,7 +117,7 @@ pub fn tread_on(n: u32, m: u32, t: Tread) -> Tread
 }
 
 // The word lineStyle after a point of a stippled line.
-#[tactic(auto, using(std::proofs::lemmas::Bool::Decides::nat_tests), unfolding(crate::specs::Stipple::stepped))]
+#[tactic(auto, unfolding(crate::specs::Stipple::stepped))]
 fn style_step(style: u32) -> u32
     ensures { result ≡ stepped style }
 {

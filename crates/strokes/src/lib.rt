@@ -71,7 +71,7 @@ impl Model for Phase {
 }
 
 impl Phase {
-    // Of a word, without its other bits.
+    // Of a word, whose other bits go.
     fn of(style: u32) -> Phase
         ensures { result ≡ style_of (repeat_count style) (size style) (position style) (bit_number style) }
     {
@@ -90,7 +90,7 @@ impl Phase {
     }
 
     // After a point.
-    #[tactic(auto, using(std::proofs::lemmas::Bool::Decides::nat_tests), unfolding(line::specs::Stipple::after, line::specs::Stipple::stepped))]
+    #[tactic(auto, unfolding(line::specs::Stipple::after, line::specs::Stipple::stepped))]
     fn after(self, pen: Pen) -> Phase
         ensures { result ≡ after pen self }
     {
@@ -138,7 +138,7 @@ fn shifted(up: bool, u: usize) -> usize
 }
 
 // Where pixels are so many bytes apart, and rows so many.
-#[tactic(auto, using(std::proofs::lemmas::Bool::Decides::nat_tests), unfolding(crate::specs::Walk::steps_of, line::specs::Line::longer, line::specs::Line::shorter, line::specs::Line::x_major, line::specs::Line::far))]
+#[tactic(auto, unfolding(crate::specs::Walk::steps_of, line::specs::Line::longer, line::specs::Line::shorter, line::specs::Line::x_major, line::specs::Line::far))]
 fn steps_of(bytes: usize, stride: usize, l: Line) -> Steps
     requires { Placed l }
     ensures { result ≡ steps_of bytes stride l }
@@ -155,7 +155,7 @@ fn steps_of(bytes: usize, stride: usize, l: Line) -> Steps
 }
 
 // The next point.
-#[tactic(auto, using(std::proofs::lemmas::Bool::Decides::nat_tests), unfolding(crate::specs::Walk::walked_on))]
+#[tactic(auto, unfolding(crate::specs::Walk::walked_on))]
 fn walk_on(t: Steps, w: Walk) -> Walk
     requires { t.limit + t.more < 2 ^ 32 }
     ensures { result ≡ walked_on t w }
@@ -173,7 +173,7 @@ fn walk_on(t: Steps, w: Walk) -> Walk
     }
 }
 
-// Whether a word has no other bits.
+// Whether the word lineStyle has no bits but those of its fields.
 fn is_whole(style: u32) -> bool
     ensures { result ≡ whole style }
 {
@@ -206,7 +206,7 @@ fn stipple_points<const N: u32>(mem: &mut [u8], ink: Ink, l: Line, pen: Pen, sty
     }
 }
 
-// By the number of bytes, so that each has a loop of its own.
+// By the number of bytes: a switch, since a const parameter is chosen by one, so that each has a loop of its own.
 fn walk_line(mem: &mut [u8], ink: Ink, l: Line, pen: Pen, style: u32) -> LineDone
     requires { Walkable ink.target (length mem.old) l style }
     ensures { (tallied mem.new result.tally ≡ paint ink.target (walk_touches ink pen style (points l)) (state mem.old 0 0)) × (result.style ≡ style_after pen (point_count l) style) }
@@ -302,7 +302,7 @@ fn mix_points<const N: u32, const FLIP: bool>(
     tally
 }
 
-// By the number of bytes, so that each has a loop of its own.
+// By the number of bytes too.
 fn mix_line<const FLIP: bool>(mem: &mut [u8], pattern: &[u8; 256], track: Track) -> Tally
     requires { Mixing (length mem.old) track.ink.target.bytes FLIP track }
     ensures { tallied mem.new result ≡ paint track.ink.target (mix_touches track.ink pattern.now (points track.line)) (state mem.old 0 0) }
@@ -394,8 +394,8 @@ pub struct Part {
     pub past: u32,
 }
 
-// They are drawn by address, and each gets colorFore: a loop with less to keep than that of a stipple. WHOLE: of a whole line, and else of a part, so that the compiler has
-// one for each place where it is called, and puts it there.
+// They are drawn by address, and each gets colorFore: a loop with less to keep than that of a stipple. WHOLE, or a part inside the clip: the compiler has
+// one for each caller, and puts it there, which a single one for both is not.
 fn walk_part<const WHOLE: bool>(mem: &mut [u8], ink: Ink, part: Part) -> Tally
     requires { PartOn ink.target (length mem.old) part }
     ensures { tallied mem.new result ≡ paint ink.target (plain_touches ink.fore (points_from part.line part.from.at (part.past - part.from.at))) (state mem.old 0 0) }
