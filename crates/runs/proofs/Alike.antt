@@ -13,38 +13,21 @@ use Rattle.surface.specs.Place.{byte_of, read_bytes, read_px, one}
 use Rattle.surface.specs.Pixels.{across}
 use Rattle.surface.proofs.Bytes.{read_as}
 use Rattle.surface.proofs.OnLaws.{one-most}
-use Rattle.surface.proofs.Run.{get-one}
 use Rattle.paint.specs.Paint.{changing, summed}
 use Rattle.runs.specs.Runs.{unlike_at, unlikes}
 use Rattle.runs.specs.Asked.{PixelsOn, Run}
 
 -- ---- pixels from an address on
 module _ {at b w len : ℕ} (on : PixelsOn at b w len) where
-  pub pixels-part : (i k : ℕ) → i + k ≤ w → PixelsOn (at + i * b) b k len
-  pixels-part i k h = record {
-    some = on.some;
-    few = on.few;
-    wide = omega (arith, on.wide);
-    held = λ j l. let p : at + i * b + j * b ≡ at + (i + j) * b = omega (arith, add-mul i j b) in rw p (on.held (i + j) (omega arith));
-  }
-
-  pub bytes-part : (i k : ℕ) → b ≡ 1 → i + k ≤ w → PixelsOn (at + i) b k len
-  bytes-part i k by h = let p : i * b ≡ i = rw by (mul-one i) in subst (λ (n : ℕ). PixelsOn (at + n) b k len) p (pixels-part i k h)
-
-  -- by the number of bytes that it is
-  pub pixels-as : (b' w' : ℕ) → b ≡ b' → w' ≡ w → PixelsOn at b' w' len
-  pixels-as b' w' e f = subst (λ (k : ℕ). PixelsOn at k w' len) e (subst (λ (n : ℕ). PixelsOn at b n len) (sym f) on)
-
   -- each byte is in memory
   pixels-byte : (i : ℕ) → i < w * b → at + i < len
   pixels-byte i l =
       let q = (on.held (i / b) ((div-lt_iff_lt-mul on.some).1 l)).inside in
       omega (arith, q, div-add-mod' i b, mod-lt i on.some)
 
-  -- no address wraps
-  pub pixels-place : (bound : ℕ) → at < bound → len < bound → (i : ℕ) → i ≤ w → (i * b < bound) × (at + i * b < bound)
-  pixels-place bound low long zero h = omega arith
-  pixels-place bound low long (suc i) h = let q = (on.held i (omega arith)).inside in omega (arith, add-mul i 1 b, q)
+  -- and so they end within it
+  pub pixels-end : 0 < w * b → at + w * b ≤ len
+  pixels-end more = omega (arith, pixels-byte (w * b - 1) (omega arith))
 
 -- two of them, byte by byte
 pub pixels-run : {d s b w len : ℕ} → PixelsOn d b w len → PixelsOn s b w len → Run d s (w * b) len
@@ -74,13 +57,6 @@ pub record Counted (m m' : List ℕ) (b d s w i r : ℕ) : Type 0 where
   pub within : i ≤ w
 
 module _ {m m' : List ℕ} {b d s w : ℕ} where
-  pub counted_none : Counted m m' b d s w 0 0
-  counted_none =
-      let p : d + 0 * b ≡ d = omega arith in
-      let q : s + 0 * b ≡ s = omega arith in
-      let z : w - 0 ≡ w = omega arith in
-      record { sum = rw (p, q, z) (omega arith); few = omega arith; within = omega arith }
-
   module _ {i r : ℕ} (now : Counted m m' b d s w i r) where
     pub counted-part : {c : ℕ} (k : ℕ) → i + k ≤ w → c ≡ unlikes m m' b (d + i * b) (s + i * b) k → Counted m m' b d s w (i + k) (r + c)
     counted-part {c} k fits e =
@@ -96,14 +72,6 @@ module _ {m m' : List ℕ} {b d s w : ℕ} where
     pub counted-turn : {c : ℕ} → i < w → c ≡ one (unlike_at m m' b (d + i * b) (s + i * b)) → Counted m m' b d s w (i + 1) (r + c)
     unfolding unlikes
     counted-turn more e = counted-part 1 (omega arith) (e ∙ omega arith)
-
-    -- a byte
-    pub counted-byte : {c : ℕ} → b ≡ 1 → i < w → c ≡ one (not (eqb (get_or m (d + i) 0) (get_or m' (s + i) 0))) → Counted m m' b d s w (i + 1) (r + c)
-    counted-byte by more e =
-        let p : i * b ≡ i = rw by (mul-one i) in
-        let first : get_or m (d + i) 0 ≡ read_bytes m (λ k. d + i * b + k) 0 b = rw (p, by) (get-one (d + i) 1 m refl) in
-        let second : get_or m' (s + i) 0 ≡ read_bytes m' (λ k. s + i * b + k) 0 b = rw (p, by) (get-one (s + i) 1 m' refl) in
-        counted-turn more (e ∙ ap₂ (λ (v w : ℕ). one (not (eqb v w))) first second)
 
     -- bytes
     pub counted-bytes : {c : ℕ} (k : ℕ) → b ≡ 1 → i + k ≤ w → c ≡ unlikes m m' b (d + i) (s + i) k → Counted m m' b d s w (i + k) (r + c)

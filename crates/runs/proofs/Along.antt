@@ -58,12 +58,6 @@ pub record EvenLeft (b v at w : ℕ) (m₀ : List ℕ) (i : ℕ) (m : List ℕ) 
   pub within : i ≤ w
 
 module _ {b v at w : ℕ} {m₀ : List ℕ} where
-  pub even-begins : EvenLeft b v at w m₀ 0 m₀ 0
-  even-begins =
-      let p : at + 0 * b ≡ at = omega arith in
-      let q : w - 0 ≡ w = omega arith in
-      record { painted = rw (p, q); long = refl; few = omega arith; within = omega arith }
-
   module _ {i r : ℕ} {m : List ℕ} (now : EvenLeft b v at w m₀ i m r) where
     pub even-part : {m' : List ℕ} {c : ℕ} (k : ℕ) → i + k ≤ w → state m' k c ≡ even_at b v (at + i * b) k (state m 0 0)
         → EvenLeft b v at w m₀ (i + k) m' (r + c)
@@ -90,13 +84,6 @@ module _ {b v at w : ℕ} {m₀ : List ℕ} where
     unfolding even_at
     even-turn more stored e =
         even-part 1 (omega arith) (dab_at-stored m (tally 0 0) (at + i * b) b v stored e (ap (tally 1) (omega arith)))
-
-    -- a byte
-    pub even_byte : {m' : List ℕ} {d : Bool} {c : ℕ} → b ≡ 1 → i < w → (m' ≡ write_bytes (λ k. at + i + k) 0 b v m) × (d ≡ differ (λ k. at + i + k) b m m') → c ≡ one d
-        → EvenLeft b v at w m₀ (i + 1) m' (r + c)
-    even_byte {m'} {d} by more stored e =
-        let p : i * b ≡ i = rw by (mul-one i) in
-        even-turn more (subst (λ (n : ℕ). (m' ≡ write_bytes (λ k. at + n + k) 0 b v m) × (d ≡ differ (λ k. at + n + k) b m m')) (sym p) stored) e
 
     -- bytes
     pub even-bytes : {m' : List ℕ} {c : ℕ} (k : ℕ) → b ≡ 1 → i + k ≤ w → state m' k c ≡ even_at b v (at + i) k (state m 0 0) → EvenLeft b v at w m₀ (i + k) m' (r + c)

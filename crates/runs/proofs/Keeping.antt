@@ -1,15 +1,18 @@
 -- Bytes put into a buffer, one after the other, a row of them in pieces, and the pixels of a row.
 -- Assumes nothing.
-use mathlib.Core.Path.{◌≡◌, refl, sym, ap, subst, ◌∙◌}
+use mathlib.Core.Path.{◌≡◌, sym, ap, subst, ◌∙◌}
 use mathlib.Core.Bool.{true}
 use mathlib.Core.List.{List}
 use Prim.Native.Nat.{ℕ, ◌+◌, ◌-◌, ◌*◌, ◌/◌, ◌%◌, ◌^◌, ◌<◌, ◌≤◌}
 use native.Mathlib.Nat.{add-mul, mul-le-mul, mod-lt, div-add-mod', div-lt_iff_lt-mul}
 use native.Mathlib.Omega.{arith}
-use native.Mathlib.Decide.{ℕ_discrete, dec_lt}
+use native.Mathlib.Decide.{dec_lt}
 use lib.Arith.{digits_lt}
-use lib.ListN.{length, get_or, set, length-set}
-use lib.Seq.{get_or-set_same, get_or-set_other, ext_get_or}
+use lib.ListN.{length, get_or, take, drop}
+use borrow.Rule.Slice.PartMut.{put_mid}
+use borrow.Author.Rules.{rules}
+use Rattle.std.proofs.lemmas.List.{places}
+use lib.Seq.{ext_get_or}
 use Rattle.surface.specs.declared.Surface.{Surface}
 use Rattle.surface.specs.Place.{byte_at, byte_of}
 use Rattle.surface.specs.Asked.{Small, OnColour}
@@ -21,23 +24,25 @@ use Rattle.surface.proofs.Lists.{by_cases}
 use Rattle.runs.specs.Runs.{Kept, RowKept}
 use Rattle.runs.specs.Asked.{RowOn, RowHeld, PixelsOn}
 
-pub none_kept : (m : List ℕ) (to at : ℕ) (out : List ℕ) → Kept m to at 0 out out
-none_kept m to at out = record { came = λ i l. absurd (omega arith); before = λ a l. refl; after = λ a l. refl; long = refl }
-
-pub kept_next : {m : List ℕ} {to at i : ℕ} {out₀ out : List ℕ} → Kept m to at i out₀ out → to + i < length out → Kept m to at (i + 1) out₀ (set out (to + i) (get_or m (at + i) 0))
-kept_next {m} {to} {at} {i} {out₀} {out} now room = record {
-  came = λ j l. by_cases (ℕ_discrete j i)
-      (λ e. subst (λ (n : ℕ). get_or (set out (to + i) (get_or m (at + i) 0)) (to + n) 0 ≡ get_or m (at + n) 0) (sym e) (get_or-set_same out (to + i) (get_or m (at + i) 0) 0 room))
-      (λ e. get_or-set_other out (to + i) (to + j) (get_or m (at + i) 0) 0 (λ q. e (omega arith)) ∙ now.came j (omega arith));
-  before = λ a l. get_or-set_other out (to + i) a (get_or m (at + i) 0) 0 (λ q. omega arith) ∙ now.before a l;
-  after = λ a l. get_or-set_other out (to + i) a (get_or m (at + i) 0) 0 (λ q. omega arith) ∙ now.after a (omega arith);
-  long = length-set out (to + i) (get_or m (at + i) 0) ∙ now.long;
-}
+-- k bytes put in from byte `to` on
+pub kept-put : (m out put : List ℕ) (to at k : ℕ) → put ≡ take k (drop at m) → to + k ≤ length out → at + k ≤ length m → Kept m to at k out (put_mid to k out put)
+kept-put m out put to at k e room inside = rw e (record {
+  came = λ i l. search (rules, places);
+  before = λ a l. search (rules, places);
+  after = λ a l. search (rules, places);
+  long = search (rules, places);
+})
 
 -- bytes of a row that reach over no edge of a tile follow each other
 pub piece-follows : (s : Surface) (c y k j : ℕ) → (s.tiled ≡ true → c % 128 + k ≤ 128) → j < k → byte_at s c y + j ≡ byte_at s (c + j) y
 piece-follows s c y k j edge l =
     by_layout s (λ e. sym (byte_at-run s e c j y)) (λ e. omega (arith, byte_at-tiled s c y e, byte_at-tiled s (c + j) y e, tile-run s.stride c j y (omega (arith, edge e))))
+
+-- and are in memory
+pub piece-held : {s : Surface} {x y n len : ℕ} (i k : ℕ) → RowHeld s x y n len → (s.tiled ≡ true → (x + i) % 128 + k ≤ 128) → 0 < k → i + k ≤ n → byte_at s (x + i) y + k ≤ len
+piece-held {s} {x} {y} i k row edge some fits =
+    let last : x + (i + (k - 1)) ≡ x + i + (k - 1) = omega arith in
+    let h = rw (last, ← piece-follows s (x + i) y k (k - 1) edge (omega arith)) at (row.held (i + (k - 1)) (omega arith)) in omega (arith, h)
 
 -- a piece more of a row
 pub row_kept : {s : Surface} {m : List ℕ} {x y i : ℕ} {out₀ out out' : List ℕ} (at k : ℕ) → RowKept s m x y i out₀ out → Kept m i at k out out'

@@ -1,42 +1,10 @@
 -- `runs::run_up` meets its contract: a byte is read before it is overwritten.
 -- Assumes nothing.
 use native.Mathlib.Omega.{arith}
-use mathlib.Core.Path.{◌≡◌, refl, subst}
-use Prim.Native.Nat.{ℕ, ◌-◌}
-use Rattle.runs.specs.Runs.{Shifted}
-use Rattle.runs.proofs.Runs.{not-shifted, up_next}
+use Rattle.runs.proofs.Runs.{up_next}
 use Rattle.runs.proofs.run_up.Goals as goal
-
-pub loop-i-init : goal.loop-i-init
-loop-i-init c = (not-shifted c.args.d c.args.s c.args.mem.now, omega arith)
-
-pub overflow_add-mem : goal.overflow_add-mem
-overflow_add-mem c = omega (arith, c.requires.0.from c.loop-i.i c.loop-i-test.true, c.ranges)
-
-pub bounds-mem-s : goal.bounds-mem-s
-bounds-mem-s c = omega (arith, c.requires.0.from c.loop-i.i c.loop-i-test.true, c.loop-i.invariant.0.long)
-
-pub overflow_add-mem-in-loop-i : goal.overflow_add-mem-in-loop-i
-overflow_add-mem-in-loop-i c = omega (arith, c.requires.0.to c.loop-i.i c.loop-i-test.true)
-
-pub bounds-mem-d : goal.bounds-mem-d
-bounds-mem-d c = omega (arith, c.requires.0.to c.loop-i.i c.loop-i-test.true, c.loop-i.invariant.0.long)
 
 pub loop-i-preserved : goal.loop-i-preserved
 loop-i-preserved c =
-    let a = c.args in
     let p = c.requires in
-    let k = c.loop-i in (
-      up_next a.d a.s 0 k.i k.i k.invariant.0 (omega (arith, p.0.to k.i c.loop-i-test.true, k.invariant.0.long)) (λ j l h e. p.1.unread k.i j h c.loop-i-test.true e) refl (omega arith),
-      omega arith,
-    )
-
-pub shape_of-mem : goal.shape_of-mem
-shape_of-mem c = c.loop-i.invariant.0.long
-
-pub returns : goal.returns
-returns c =
-    let a = c.args in
-    let k = c.loop-i in
-    let end : k.i ≡ a.n = omega (arith, c.loop-i-test.false) in
-    subst (λ (i : ℕ). Shifted a.d a.s 0 i a.mem.now k.mem) end k.invariant.0
+    up_next c.loop-i.invariant (omega (arith, p.0.to c.loop-i.i c.loop-i-test.true, c.loop-i.invariant.long)) (λ j l. p.1.unread c.loop-i.i j l c.loop-i-test.true)

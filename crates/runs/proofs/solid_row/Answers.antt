@@ -8,9 +8,6 @@ use Rattle.paint.specs.Paint.{state}
 use Rattle.runs.proofs.Along.{row_at}
 use Rattle.runs.proofs.solid_row.Goals as goal
 
-pub place_in_rows-at-requires : goal.place_in_rows-at-requires
-place_in_rows-at-requires c = let p = c.requires in (p.1.0, p.0)
-
 pub solid_run-requires : goal.solid_run-requires
 solid_run-requires c =
     let a = c.args in
