@@ -143,15 +143,7 @@ numbers_more {numbers} {k = k} {v = v} {f = f} t inside e = record {
   long = length-set numbers k v ∙ t.long;
 }
 
--- the three tables, at the start and with one more
-pub made_none : (ink : Ink) (pattern : List ℕ) (x y : ℕ) (old : Tables) → MadeOf ink pattern x y 0 old old
-made_none ink pattern x y old =
-    record {
-      keep = record { made = λ k l. absurd (omega (arith, l)); rest = λ a l. refl; long = refl; bytes = λ b. b };
-      flip = record { made = λ k l. absurd (omega (arith, l)); rest = λ a l. refl; long = refl; bytes = λ b. b };
-      adds = record { made = λ k l. absurd (omega (arith, l)); rest = λ a l. refl; long = refl };
-    }
-
+-- the three tables, with one more
 pub made_more : {ink : Ink} {pattern : List ℕ} {x y k : ℕ} {old t : Tables} {m : Mask} → let n = ink.target.bytes in
     MadeOf ink pattern x y k old t → k * n + n ≤ length t.keep → k * n + n ≤ length t.flip → k < length t.adds → m ≡ mask_here ink pattern x y k
     → MadeOf ink pattern x y (k + 1) old (tables (write_bytes (λ i. k * n + i) 0 n m.keep t.keep) (write_bytes (λ i. k * n + i) 0 n m.flip t.flip) (set t.adds k m.adds))

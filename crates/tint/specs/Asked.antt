@@ -3,8 +3,11 @@
 use Rattle.std.specs.Prelude.{◌≡◌, false, List, ℕ, ◌+◌, ◌*◌, ◌%◌, ◌^◌, ◌<◌, ◌≤◌, length, get_or}
 use Rattle.surface.specs.declared.Surface.{Surface}
 use Rattle.surface.specs.Asked.{Colour}
+use Rattle.surface.specs.Pixels.{Px}
 use Rattle.runs.specs.Asked.{RowOn}
-use Rattle.tint.specs.Masking.{ones, mask_in, Tables}
+use Rattle.paint.specs.Paint.{Touch}
+use Rattle.tint.specs.declared.Masks.{Masks}
+use Rattle.tint.specs.Masking.{ones, mask_in, tintings, Tables}
 
 -- as long as 64 masks want, of four bytes at most
 pub record Whole (t : Tables) : Type 0 where
@@ -31,3 +34,12 @@ pub record CanTint (s : Surface) (keep flip adds : List ℕ) (first len x w y : 
   pub keeps : length keep ≡ 256
   pub flips : length flip ≡ 256
   pub sound : (i : ℕ) → i < 8 → Sound s.bytes (mask_in s.bytes keep (first + i)) (mask_in s.bytes flip (first + i)) (get_or adds (first + i) 0)
+
+-- the same by the eight masks of a row, whose bytes are bytes; and what becomes of pixels by them
+abbrev pub CanBy : Surface → Masks → ℕ → ℕ → ℕ → ℕ → Type 0
+CanBy s masks len x w y =
+    CanTint s masks.keep.now masks.flip.now masks.adds.now masks.first len x w y
+    × (((i : ℕ) → get_or masks.keep.now i 0 < 256) × ((i : ℕ) → get_or masks.flip.now i 0 < 256))
+
+abbrev pub tinted : Surface → Masks → ℕ → List Px → List Touch
+tinted s masks x ps = tintings s masks.keep.now masks.flip.now masks.adds.now masks.first x ps

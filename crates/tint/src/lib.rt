@@ -7,8 +7,8 @@ ghost use Rattle.surface.specs.Pixels.{across, rect};
 ghost use Rattle.paint.specs.Paint.{state, tallied, paint};
 ghost use Rattle.paint.specs.Asked.{Room};
 ghost use Rattle.runs.specs.Asked.{RectOn};
-ghost use Rattle.tint.specs.Masking.{blended, mask_for, mask_rows, tintings, down_tints, tables, MasksOf, Painted};
-ghost use Rattle.tint.specs.Asked.{Whole, RowsSound, CanTint};
+ghost use Rattle.tint.specs.Masking.{blended, mask_for, mask_rows, down_tints, tables, MasksOf, Painted};
+ghost use Rattle.tint.specs.Asked.{Whole, RowsSound, CanBy, tinted};
 
 use ink::Ink;
 use paint::Tally;
@@ -22,10 +22,13 @@ pub struct Mask {
     pub adds: u32,
 }
 
-fn wide(x: u8) -> u32
-    ensures { result ≡ x }
-{
-    x as u32
+// The eight masks of a row: those of three tables from number `first` on.
+#[derive(Clone, Copy)]
+struct Masks<'a> {
+    keep: &'a [u8; 256],
+    flip: &'a [u8; 256],
+    adds: &'a [u32; 64],
+    first: u32,
 }
 
 // The mask of a fill where the pattern has this value, and this bit if it is mono.
@@ -42,7 +45,7 @@ fn mask_of(ink: Ink, value: u32, bit: u32) -> Mask
     let flip = raster::raster(ink.rop0, value, ink.fore, 0);
     Mask {
         keep: raster::raster(ink.rop0, value, ink.fore, 0xffff_ffff) ^ flip,
-        flip: flip,
+        flip,
         adds: 1,
     }
 }
@@ -63,12 +66,10 @@ pub fn masks_at(
 {
     let n = ink.target.bytes;
     let values = ink::values_at(ink, pattern, x, y, rows);
-    let mut j = 0;
-    while j < rows {
+    for j in 0..rows {
         let row = ink::pattern_row(ink, y + j);
-        let byte = wide(pattern[row as usize]);
-        let mut i = 0;
-        while i < 8 {
+        let byte = pattern[row as usize] as u32;
+        for i in 0..8 {
             let bit = ink::bit_of(byte, ink::pattern_column(ink, x + i));
             let k = j * 8 + i;
             let m = mask_of(ink, values[k as usize], bit);
@@ -76,20 +77,16 @@ pub fn masks_at(
             surface::put_bytes(keep, at, n, m.keep);
             surface::put_bytes(flip, at, n, m.flip);
             adds[k as usize] = m.adds;
-            i += 1;
         }
-        j += 1;
     }
 }
 
 // How many rows of masks h rows of pixels want.
+#[tactic(auto, unfolding(crate::specs::Masking::mask_rows))]
 pub fn mask_rows(h: u32) -> u32
     ensures { result ≡ mask_rows h }
 {
-    if h < 8 {
-        return h;
-    }
-    8
+    h.min(8)
 }
 
 // The n bytes from an address on, by the masks' bytes from number `from` on.
@@ -97,102 +94,63 @@ pub fn tint_bytes(mem: &mut [u8], at: usize, n: usize, keep: &[u8], flip: &[u8],
     requires { ((i : ℕ) → i < n → at + i < length mem.old) × (from + n ≤ length keep.now) × (from + n ≤ length flip.now) }
     ensures { mem.new ≡ blended keep.now flip.now from at n mem.old }
 {
-    let mut i = 0;
-    while i < n {
+    for i in 0..n {
         mem[at + i] = (mem[at + i] & keep[from + i]) ^ flip[from + i];
-        i += 1;
     }
 }
 
-// The w pixels, at most eight, of row y from x on, each of so many bytes, by the masks from number `first` on; how many are written.
-fn tint_across(
+// The w pixels, at most eight, of row y from x on, each of B bytes, by their masks; how many are written.
+fn tint_across<const B: u32>(
     mem: &mut [u8],
     s: Surface,
-    bytes: u32,
-    keep: &[u8],
-    flip: &[u8],
-    adds: &[u32; 64],
-    first: u32,
+    masks: Masks,
     x: u32,
     w: u32,
     y: u32,
 ) -> u32
-    requires { CanTint s keep.now flip.now adds.now first (length mem.old) x w y × (bytes ≡ s.bytes) × (w ≤ 8) }
-    ensures { Painted s (tintings s keep.now flip.now adds.now first x (across false x w y)) mem.old mem.new result }
+    requires { CanBy s masks (length mem.old) x w y × (B ≡ s.bytes) × (w ≤ 8) }
+    ensures { Painted s (tinted s masks.entry x (across false x w y)) mem.old mem.new result }
 {
-    let at = surface::place_in_rows(s, x, y);
-    let many = (w * bytes) as usize;
-    let from = (first * bytes) as usize;
-    tint_bytes(mem, at, many, keep, flip, from);
-    let mut more = 0;
-    let mut i = 0;
-    while i < w {
-        more += adds[(first + i) as usize];
-        i += 1;
-    }
-    more
-}
-
-// Eight times so many pixels of row y from x on, eight at a time, by the same eight masks each time.
-fn tint_eights(
-    mem: &mut [u8],
-    s: Surface,
-    bytes: u32,
-    keep: &[u8],
-    flip: &[u8],
-    adds: &[u32; 64],
-    first: u32,
-    x: u32,
-    eights: u32,
-    y: u32,
-) -> u32
-    requires { CanTint s keep.now flip.now adds.now first (length mem.old) x (8 * eights) y × (bytes ≡ s.bytes) }
-    ensures { Painted s (tintings s keep.now flip.now adds.now first x (across false x (8 * eights) y)) mem.old mem.new result }
-{
-    let mut r = 0;
-    let mut i = 0;
-    while i < eights {
-        r += tint_across(mem, s, bytes, keep, flip, adds, first, x + 8 * i, 8, y);
-        i += 1;
-    }
-    r
-}
-
-// A row of any width: the eights by the number of bytes, so that each number has a loop of its own, and then the pixels that are left.
-fn tint_run(
-    mem: &mut [u8],
-    s: Surface,
-    keep: &[u8],
-    flip: &[u8],
-    adds: &[u32; 64],
-    first: u32,
-    x: u32,
-    w: u32,
-    y: u32,
-) -> u32
-    requires { CanTint s keep.now flip.now adds.now first (length mem.old) x w y }
-    ensures { Painted s (tintings s keep.now flip.now adds.now first x (across false x w y)) mem.old mem.new result }
-{
-    let bytes = s.bytes;
-    let eights = w / 8;
-    let r = match bytes {
-        1 => tint_eights(mem, s, 1, keep, flip, adds, first, x, eights, y),
-        2 => tint_eights(mem, s, 2, keep, flip, adds, first, x, eights, y),
-        3 => tint_eights(mem, s, 3, keep, flip, adds, first, x, eights, y),
-        _ => tint_eights(mem, s, 4, keep, flip, adds, first, x, eights, y),
-    };
-    r + tint_across(
-        mem,
-        s,
-        bytes,
+    let Masks {
         keep,
         flip,
         adds,
         first,
-        x + 8 * eights,
-        w % 8,
-        y,
-    )
+    } = masks;
+    let at = surface::place_in_rows(s, x, y);
+    let many = (w * B) as usize;
+    tint_bytes(mem, at, many, keep, flip, (first * B) as usize);
+    let mut more = 0;
+    // A loop: `iter().sum()` of their part of the table takes 1.6 times as long in wide rows of one byte a pixel.
+    for i in 0..w {
+        more += adds[(first + i) as usize];
+    }
+    more
+}
+
+// A row of any width: eight pixels at a time, by the same eight masks each time, and then those that are left.
+fn tint_run<const B: u32>(mem: &mut [u8], s: Surface, masks: Masks, x: u32, w: u32, y: u32) -> u32
+    requires { CanBy s masks (length mem.old) x w y × (B ≡ s.bytes) }
+    ensures { Painted s (tinted s masks.entry x (across false x w y)) mem.old mem.new result }
+{
+    let mut r = 0;
+    for i in 0..w / 8 {
+        r += tint_across::<B>(mem, s, masks, x + i * 8, 8, y);
+    }
+    r + tint_across::<B>(mem, s, masks, x + w / 8 * 8, w % 8, y)
+}
+
+// The same of pixels of any format, with a loop for each number of bytes.
+fn tint_pixels(mem: &mut [u8], s: Surface, masks: Masks, x: u32, w: u32, y: u32) -> u32
+    requires { CanBy s masks (length mem.old) x w y }
+    ensures { Painted s (tinted s masks.entry x (across false x w y)) mem.old mem.new result }
+{
+    match s.bytes {
+        1 => tint_run::<1>(mem, s, masks, x, w, y),
+        2 => tint_run::<2>(mem, s, masks, x, w, y),
+        3 => tint_run::<3>(mem, s, masks, x, w, y),
+        _ => tint_run::<4>(mem, s, masks, x, w, y),
+    }
 }
 
 // At most 256 of them, after those that n tells of. What stood there is kept in a buffer, so that those that change can be counted.
@@ -200,29 +158,25 @@ fn tint_part(
     mem: &mut [u8],
     old: &mut [u8],
     s: Surface,
-    keep: &[u8],
-    flip: &[u8],
-    adds: &[u32; 64],
-    first: u32,
+    masks: Masks,
     x: u32,
     w: u32,
     y: u32,
     n: Tally,
 ) -> Tally
-    requires { (CanTint s keep.now flip.now adds.now first (length mem.old) x w y × ((w ≤ 256) × (1024 ≤ length old.old))) × Room n w }
-    ensures { tallied mem.new result ≡ paint s (tintings s keep.now flip.now adds.now first x (across false x w y)) (tallied mem.old n) }
+    requires { (CanBy s masks (length mem.old) x w y × ((w ≤ 256) × (1024 ≤ length old.old))) × Room n w }
+    ensures { tallied mem.new result ≡ paint s (tinted s masks.entry x (across false x w y)) (tallied mem.old n) }
 {
     let bytes = s.bytes;
-    let many = surface::wide(w) * surface::wide(bytes);
     runs::keep_row(
         old,
         mem,
         s,
-        surface::wide(x) * surface::wide(bytes),
-        surface::wide(y),
-        many,
+        (x * bytes) as usize,
+        y as usize,
+        (w * bytes) as usize,
     );
-    let count = tint_run(mem, s, keep, flip, adds, first, x, w, y);
+    let count = tint_pixels(mem, s, masks, x, w, y);
     let at = surface::place_in_rows(s, x, y);
     paint::note(n, count, runs::unlike(old, 0, mem, at, bytes, w))
 }
@@ -232,26 +186,20 @@ fn tint_row(
     mem: &mut [u8],
     old: &mut [u8],
     s: Surface,
-    keep: &[u8],
-    flip: &[u8],
-    adds: &[u32; 64],
-    first: u32,
+    masks: Masks,
     x: u32,
     w: u32,
     y: u32,
     n: Tally,
 ) -> Tally
-    requires { CanTint s keep.now flip.now adds.now first (length mem.old) x w y × ((1024 ≤ length old.old) × Room n w) }
-    ensures { tallied mem.new result ≡ paint s (tintings s keep.now flip.now adds.now first x (across false x w y)) (tallied mem.old n) }
+    requires { CanBy s masks (length mem.old) x w y × ((1024 ≤ length old.old) × Room n w) }
+    ensures { tallied mem.new result ≡ paint s (tinted s masks.entry x (across false x w y)) (tallied mem.old n) }
 {
     let mut r = n;
-    let mut i = 0;
-    while i < w {
-        let k = surface::least(256, w - i);
-        r = tint_part(mem, old, s, keep, flip, adds, first, x + i, k, y, r);
-        i += k;
+    for i in 0..w / 256 {
+        r = tint_part(mem, old, s, masks, x + i * 256, 256, y, r);
     }
-    r
+    tint_part(mem, old, s, masks, x + w / 256 * 256, w % 256, y, r)
 }
 
 // A rectangle by tables of masks, its surface in rows, row by row from the upper left corner; the tally of the pixels written.
@@ -274,22 +222,14 @@ pub fn tint_rows(
         count: 0,
         changed: 0,
     };
-    let mut j = 0;
-    while j < h {
-        n = tint_row(
-            mem,
-            &mut old,
-            s,
+    for j in 0..h {
+        let masks = Masks {
             keep,
             flip,
             adds,
-            j % 8 * 8,
-            x,
-            w,
-            y + j,
-            n,
-        );
-        j += 1;
+            first: j % 8 * 8,
+        };
+        n = tint_row(mem, &mut old, s, masks, x, w, y + j, n);
     }
     n
 }
