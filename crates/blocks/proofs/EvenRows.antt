@@ -1,12 +1,13 @@
 -- A rectangle of one value: the loop over its first row, that row's bytes, the later rows counted against it, and the whole once all rows have them.
 -- Assumes nothing.
 use mathlib.Core.Path.{◌≡◌, refl, sym, ap, ap₂, subst, ◌∙◌}
-use mathlib.Core.Bool.{Bool, false, not}
+use mathlib.Core.Bool.{Bool, true, false, not}
 use mathlib.Core.List.{List, ◌++◌, append-nil}
 use mathlib.Core.Option.{some}
 use Prim.Native.Nat.{ℕ, ◌+◌, ◌-◌, ◌*◌, ◌<◌, ◌≤◌}
 use native.Mathlib.Nat.{mul-add, mul-le-mul}
 use native.Mathlib.Omega.{arith}
+use mir.Val.{bool_byte}
 use lib.Dec.{eqb}
 use lib.ListN.{length, get_or}
 use Rattle.surface.specs.declared.Surface.{Surface}
@@ -36,15 +37,19 @@ use Rattle.blocks.proofs.Others.{others-most, others-sum}
 abbrev pub LineTo : Surface → ℕ → ℕ → ℕ → ℕ → List ℕ → ℕ → List ℕ → ℕ → Type 0
 LineTo s v x0 w y m₀ x m r = (x0 ≤ x) × RowLeft s (λ p now. some v) false x0 w y m₀ (tally 0 0) (x - x0) m (tally (x - x0) r)
 
+as-one : (d : Bool) → bool_byte d ≡ one d
+as-one false = refl
+as-one true = refl
+
 module _ {s : Surface} {v x0 w y : ℕ} {m₀ : List ℕ} where
   pub line-start : LineTo s v x0 w y m₀ x0 m₀ 0
   line-start = let z : x0 - x0 ≡ 0 = omega arith in (omega arith, rw z row-begins)
 
   module _ {x r : ℕ} {m : List ℕ} (to : LineTo s v x0 w y m₀ x m r) where
-    pub line-again : {m' : List ℕ} {d : Bool} {c : ℕ} → x < x0 + w → (m' ≡ write_px m s x y v) × (d ≡ differs s x y m m') → c ≡ one d → LineTo s v x0 w y m₀ (x + 1) m' (r + c)
-    line-again more stored e =
+    pub line-again : {m' : List ℕ} {d : Bool} {c : ℕ} → x < x0 + w → (m' ≡ write_px m s x y v) × (d ≡ differs s x y m m') → c ≡ bool_byte d → LineTo s v x0 w y m₀ (x + 1) m' (r + c)
+    line-again {m'} {d} more stored e =
         let next : x + 1 - x0 ≡ x - x0 + 1 = omega arith in
-        (omega arith, rw next (row-goes-on to.1 x (omega arith) (omega arith) (dab-stored m (tally (x - x0) r) s (px x y) v stored e refl) refl))
+        (omega arith, rw next (row-goes-on to.1 x (omega arith) (omega arith) (dab-stored m (tally (x - x0) r) s (px x y) v stored (e ∙ as-one d) refl) refl))
 
     pub line-ends : x0 + w ≤ x → state m w r ≡ paint s (evenly v (across false x0 w y)) (state m₀ 0 0)
     line-ends all = row-full to.1 (omega arith)

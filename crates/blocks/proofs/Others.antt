@@ -3,7 +3,7 @@
 use mathlib.Core.Path.{◌≡◌, refl, sym, ap, ap₂, subst, ◌∙◌}
 use mathlib.Core.Bool.{false, not}
 use mathlib.Core.List.{List}
-use Prim.Native.Nat.{ℕ, zero, suc, ◌+◌, ◌-◌, ◌*◌, ◌^◌, ◌<◌, ◌≤◌}
+use Prim.Native.Nat.{ℕ, zero, suc, ◌+◌, ◌*◌, ◌^◌, ◌<◌, ◌≤◌}
 use native.Mathlib.Nat.{add-mul, mul-le-mul}
 use native.Mathlib.Omega.{arith}
 use lib.Dec.{eqb}
@@ -88,14 +88,14 @@ module _ (to from : Surface) (format : from.bytes ≡ to.bytes) (y sy : ℕ) (m 
 
 -- ---- part by part
 module _ (to from : Surface) (m : List ℕ) (y sy : ℕ) where
-  split : (x sx k w : ℕ) → others to from m x y sx sy (k + w) ≡ others to from m x y sx sy k + others to from m (x + k) y (sx + k) sy w
+  pub others-split : (x sx k w : ℕ) → others to from m x y sx sy (k + w) ≡ others to from m x y sx sy k + others to from m (x + k) y (sx + k) sy w
   unfolding others
-  split x sx zero w = let p : x + 0 ≡ x = omega arith in let q : sx + 0 ≡ sx = omega arith in let z : 0 + w ≡ w = omega arith in rw (p, q, z) (omega arith)
-  split x sx (suc k) w =
+  others-split x sx zero w = let p : x + 0 ≡ x = omega arith in let q : sx + 0 ≡ sx = omega arith in let z : 0 + w ≡ w = omega arith in rw (p, q, z) (omega arith)
+  others-split x sx (suc k) w =
       let p : x + suc k ≡ x + 1 + k = omega arith in
       let q : sx + suc k ≡ sx + 1 + k = omega arith in
       let z : suc k + w ≡ suc (k + w) = omega arith in
-      rw (p, q, z) (omega (arith, split (x + 1) (sx + 1) k w))
+      rw (p, q, z) (omega (arith, others-split (x + 1) (sx + 1) k w))
 
   pub others-most : (x sx w : ℕ) → others to from m x y sx sy w ≤ w
   unfolding others
@@ -116,58 +116,58 @@ module _ (to from : Surface) (m : List ℕ) (y sy : ℕ) where
 
 -- a loop that counts: r of the first i pixels are not alike
 pub record Told (to from : Surface) (m : List ℕ) (x y sx sy w i r : ℕ) : Type 0 where
-  pub sum : r + others to from m (x + i) y (sx + i) sy (w - i) ≡ others to from m x y sx sy w
-  pub few : r ≤ i
+  pub sum : r ≡ others to from m x y sx sy i
   pub within : i ≤ w
 
 module _ {to from : Surface} {m : List ℕ} {x y sx sy w : ℕ} where
   pub told_none : Told to from m x y sx sy w 0 0
-  told_none =
-      let p : x + 0 ≡ x = omega arith in
-      let q : sx + 0 ≡ sx = omega arith in
-      let z : w - 0 ≡ w = omega arith in
-      record { sum = rw (p, q, z) (omega arith); few = omega arith; within = omega arith }
+  unfolding others
+  told_none = record { sum = refl; within = omega arith }
 
   module _ {i r : ℕ} (now : Told to from m x y sx sy w i r) where
-    pub told_part : {c : ℕ} (k : ℕ) → i + k ≤ w → c ≡ others to from m (x + i) y (sx + i) sy k → Told to from m x y sx sy w (i + k) (r + c)
-    told_part k fits e =
-        let p : x + (i + k) ≡ x + i + k = omega arith in
-        let q : sx + (i + k) ≡ sx + i + k = omega arith in
-        let z : w - i ≡ k + (w - (i + k)) = omega arith in
-        let h = split to from m y sy (x + i) (sx + i) k (w - (i + k)) in
-        let before = rw z at now.sum in
-        record { sum = rw (p, q) (omega (arith, h, before, e)); few = omega (arith, now.few, e, others-most to from m y sy (x + i) (sx + i) k); within = fits }
+    pub told_part : {c n : ℕ} (k : ℕ) → c ≡ others to from m (x + i) y (sx + i) sy k → i + k ≡ n → n ≤ w → Told to from m x y sx sy w n (r + c)
+    told_part k e f fits = record { sum = rw (← f) (omega (arith, now.sum, e, others-split to from m y sy x sx i k)); within = fits }
+
+    pub told-few : r ≤ i
+    told-few = omega (arith, now.sum, others-most to from m y sy x sx i)
 
     pub told-all : w ≤ i → r ≡ others to from m x y sx sy w
-    unfolding others
-    told-all all = let z : w - i ≡ 0 = omega arith in let h = rw z at now.sum in omega (arith, h)
+    told-all all = let e : i ≡ w = omega (arith, now.within) in rw e at now.sum
 
 -- ---- a loop over rows that counts: r of the pixels of the first j rows are others
-pub record ToldDown (to from : Surface) (m : List ℕ) (x y sx sy w h j r : ℕ) : Type 0 where
-  pub sum : r + others_down to from m x y sx sy w j (h - j) ≡ others_down to from m x y sx sy w 0 h
-  pub few : r ≤ j * w
-  pub within : j ≤ h
+module _ (to from : Surface) (m : List ℕ) (x y sx sy w : ℕ) where
+  down-more : (j h : ℕ) → others_down to from m x y sx sy w j (h + 1) ≡ others_down to from m x y sx sy w j h + others to from m x (y + (j + h)) sx (sy + (j + h)) w
+  unfolding others_down
+  down-more j zero = let e : j + 0 ≡ j = omega arith in rw e (omega arith)
+  down-more j (suc h) =
+      let more : suc h + 1 ≡ suc (h + 1) = omega arith in
+      let row : j + 1 + h ≡ j + suc h = omega arith in
+      let next = rw row at (down-more (j + 1) h) in
+      rw more (omega (arith, next))
 
-module _ {to from : Surface} {m : List ℕ} {x y sx sy w h : ℕ} where
-  pub down-none : ToldDown to from m x y sx sy w h 0 0
-  down-none = let z : h - 0 ≡ h = omega arith in record { sum = rw z (omega arith); few = omega arith; within = omega arith }
+  down-most : (j h : ℕ) → others_down to from m x y sx sy w j h ≤ h * w
+  unfolding others_down
+  down-most j zero = omega arith
+  down-most j (suc h) = omega (arith, others-most to from m (y + j) (sy + j) x sx w, down-most (j + 1) h, add-mul h 1 w)
 
-  module _ {j r : ℕ} (now : ToldDown to from m x y sx sy w h j r) where
-    pub down-row : {c : ℕ} → j < h → c ≡ others to from m x (y + j) sx (sy + j) w → ToldDown to from m x y sx sy w h (j + 1) (r + c)
-    unfolding others_down
-    down-row {c} more e =
-        let z : h - j ≡ suc (h - (j + 1)) = omega arith in
-        let before = rw z at now.sum in
-        record {
-          sum = omega (arith, before, e);
-          few = omega (arith, now.few, e, others-most to from m (y + j) (sy + j) x sx w, add-mul j 1 w);
-          within = omega arith;
-        }
+pub record ToldDown (to from : Surface) (m : List ℕ) (x y sx sy w j r : ℕ) : Type 0 where
+  pub sum : r ≡ others_down to from m x y sx sy w 0 j
+
+module _ {to from : Surface} {m : List ℕ} {x y sx sy w : ℕ} where
+  pub down-none : ToldDown to from m x y sx sy w 0 0
+  unfolding others_down
+  down-none = record { sum = refl }
+
+  module _ {j r : ℕ} (now : ToldDown to from m x y sx sy w j r) where
+    pub down-row : {c : ℕ} → c ≡ others to from m x (y + j) sx (sy + j) w → ToldDown to from m x y sx sy w (j + 1) (r + c)
+    down-row e =
+        let z : 0 + j ≡ j = omega arith in
+        let more = rw z at (down-more to from m x y sx sy w 0 j) in
+        record { sum = omega (arith, now.sum, e, more) }
 
     -- what was counted is few enough
-    pub down-few : w ≤ 2 ^ 13 → h ≤ 2 ^ 13 → r < 2 ^ 32
-    down-few wide high = omega (arith, now.few, mul-le-mul {n₁ = j} {m₁ = w} {n₂ = 2 ^ 13} {m₂ = 2 ^ 13} (omega (arith, now.within)) wide)
+    pub down-few : w ≤ 2 ^ 13 → j ≤ 2 ^ 13 → r < 2 ^ 32
+    down-few wide high = omega (arith, now.sum, down-most to from m x y sx sy w 0 j, mul-le-mul {n₁ = j} {m₁ = w} {n₂ = 2 ^ 13} {m₂ = 2 ^ 13} high wide)
 
-    pub down-all : h ≤ j → r ≡ others_down to from m x y sx sy w 0 h
-    unfolding others_down
-    down-all all = let z : h - j ≡ 0 = omega arith in let done = rw z at now.sum in omega (arith, done)
+    pub down-all : {h : ℕ} → j ≡ h → r ≡ others_down to from m x y sx sy w 0 h
+    down-all e = rw e at now.sum

@@ -23,23 +23,11 @@ pub struct Way {
     pub sy: usize,
 }
 
-fn least(a: usize, b: usize) -> usize
-    ensures { (result ≤ a) × ((result ≤ b) × (0 < a → 0 < b → 0 < result)) }
-{
-    if a < b {
-        return a;
-    }
-    b
-}
-
 // How far apart the rows of a block are.
 fn pitch_of(s: Surface) -> usize
     ensures { result ≡ pitch s }
 {
-    if s.tiled {
-        return 128;
-    }
-    surface::wide(s.stride)
+    if s.tiled { 128 } else { s.stride as usize }
 }
 
 // h lines of n bytes, p bytes apart, from others r bytes apart; one run where nothing lies between them.
@@ -51,10 +39,8 @@ fn move_lines(mem: &mut [u8], d: usize, p: usize, s: usize, r: usize, n: usize, 
         runs::run_up(mem, d, s, h * n);
         return;
     }
-    let mut q = 0;
-    while q < h {
+    for q in 0..h {
         runs::run_up(mem, d + q * p, s + q * r, n);
-        q += 1;
     }
 }
 
@@ -73,22 +59,13 @@ fn move_band(mem: &mut [u8], b: Way, n: usize, h: usize)
     requires { Goes b n h (length mem.old) × (Rows b.to b.y h × Rows b.from b.sy h) }
     ensures { Put b.to (origin_byte b mem.old) b.x b.y n h mem.old mem.new }
 {
-    let to = b.to;
-    let from = b.from;
     let mut i = 0;
+    // while: the step is what to_edge answers.
     while i < n {
         let x = b.x + i;
         let sx = b.sx + i;
-        let k = runs::to_edge(from, sx, 128, runs::to_edge(to, x, 128, n - i));
-        let part = Way {
-            to: to,
-            from: from,
-            x: x,
-            y: b.y,
-            sx: sx,
-            sy: b.sy,
-        };
-        move_block(mem, part, k, h);
+        let k = runs::to_edge(b.from, sx, 128, runs::to_edge(b.to, x, 128, n - i));
+        move_block(mem, Way { x, sx, ..b }, k, h);
         i += k;
     }
 }
@@ -98,61 +75,27 @@ pub fn move_blocks(mem: &mut [u8], b: Way, n: usize, h: usize)
     requires { Goes b n h (length mem.old) }
     ensures { Put b.to (origin_byte b mem.old) b.x b.y n h mem.old mem.new }
 {
-    let to = b.to;
-    let from = b.from;
     let mut j = 0;
+    // while: the step is what to_edge answers.
     while j < h {
         let y = b.y + j;
         let sy = b.sy + j;
-        let k = runs::to_edge(from, sy, 32, runs::to_edge(to, y, 32, h - j));
-        let part = Way {
-            to: to,
-            from: from,
-            x: b.x,
-            y: y,
-            sx: b.sx,
-            sy: sy,
-        };
-        move_band(mem, part, n, k);
+        let k = runs::to_edge(b.from, sy, 32, runs::to_edge(b.to, y, 32, h - j));
+        move_band(mem, Way { y, sy, ..b }, n, k);
         j += k;
     }
 }
 
-// How many of the w pixels, at most 256, of row y from x on are not those of row sy from sx on; both rows are put into buffers first.
-fn unlike_part(
-    old: &mut [u8],
-    new: &mut [u8],
-    mem: &[u8],
-    to: Surface,
-    from: Surface,
-    x: u32,
-    y: u32,
-    sx: u32,
-    sy: u32,
-    w: u32,
-) -> u32
-    requires { PartOn to from x y sx sy w (length mem.now) × ((w ≤ 256) × ((1024 ≤ length old.old) × (1024 ≤ length new.old))) }
-    ensures { result ≡ others to from mem.now x y sx sy w }
-{
-    let bytes = surface::wide(to.bytes);
-    let n = surface::wide(w) * bytes;
-    runs::keep_row(old, mem, to, surface::wide(x) * bytes, surface::wide(y), n);
-    runs::keep_row(
-        new,
-        mem,
-        from,
-        surface::wide(sx) * bytes,
-        surface::wide(sy),
-        n,
-    );
-    runs::unlike(old, 0, new, 0, to.bytes, w)
+// The bytes of two rows of at most 256 pixels, kept to be held to each other.
+#[derive(Drop)]
+pub struct Buffers {
+    pub old: [u8; 1024],
+    pub new: [u8; 1024],
 }
 
-// Of any number of them, 256 at a time.
-fn unlike_row(
-    old: &mut [u8],
-    new: &mut [u8],
-    mem: &[u8],
+// The w pixels of row y from x on of one surface, and those of row sy from sx on of another.
+#[derive(Clone, Copy)]
+struct Pair {
     to: Surface,
     from: Surface,
     x: u32,
@@ -160,18 +103,47 @@ fn unlike_row(
     sx: u32,
     sy: u32,
     w: u32,
-) -> u32
-    requires { PartOn to from x y sx sy w (length mem.now) × ((1024 ≤ length old.old) × (1024 ≤ length new.old)) }
-    ensures { result ≡ others to from mem.now x y sx sy w }
-{
-    let mut r = 0;
-    let mut i = 0;
-    while i < w {
-        let k = surface::least(256, w - i);
-        r += unlike_part(old, new, mem, to, from, x + i, y, sx + i, sy, k);
-        i += k;
+}
+
+impl Buffers {
+    pub fn empty() -> Buffers {
+        Buffers {
+            old: [0; 1024],
+            new: [0; 1024],
+        }
     }
-    r
+
+    // How many pixels of a row, at most 256, are not those of another; both rows are put into the buffers first.
+    fn unlike_part(&mut self, mem: &[u8], p: Pair) -> u32
+        requires { PartOn p.to p.from p.x p.y p.sx p.sy p.w (length mem.now) × (p.w ≤ 256) }
+        ensures { result ≡ others p.to p.from mem.now p.x p.y p.sx p.sy p.w }
+    {
+        let bytes = p.to.bytes as usize;
+        let n = p.w as usize * bytes;
+        let column = p.x as usize * bytes;
+        let source_column = p.sx as usize * bytes;
+        runs::keep_row(&mut self.old, mem, p.to, column, p.y as usize, n);
+        runs::keep_row(&mut self.new, mem, p.from, source_column, p.sy as usize, n);
+        runs::unlike(&self.old, 0, &self.new, 0, p.to.bytes, p.w)
+    }
+
+    // Of any number of them, 256 at a time.
+    fn unlike_row(&mut self, mem: &[u8], p: Pair) -> u32
+        requires { PartOn p.to p.from p.x p.y p.sx p.sy p.w (length mem.now) }
+        ensures { result ≡ others p.to p.from mem.now p.x p.y p.sx p.sy p.w }
+    {
+        let mut r = 0;
+        for i in (0..p.w).step_by(256) {
+            let part = Pair {
+                x: p.x + i,
+                sx: p.sx + i,
+                w: 256.min(p.w - i),
+                ..p
+            };
+            r += self.unlike_part(mem, part);
+        }
+        r
+    }
 }
 
 // Of h rows, each against a row of its own.
@@ -189,13 +161,19 @@ pub fn unlike_rows(
     requires { RowsOn to from x y sx sy w h (length mem.now) }
     ensures { result ≡ others_down to from mem.now x y sx sy w 0 h }
 {
-    let mut old = [0u8; 1024];
-    let mut new = [0u8; 1024];
+    let mut buffers = Buffers::empty();
     let mut r = 0;
-    let mut j = 0;
-    while j < h {
-        r += unlike_row(&mut old, &mut new, mem, to, from, x, y + j, sx, sy + j, w);
-        j += 1;
+    for j in 0..h {
+        let row = Pair {
+            to,
+            from,
+            x,
+            y: y + j,
+            sx,
+            sy: sy + j,
+            w,
+        };
+        r += buffers.unlike_row(mem, row);
     }
     r
 }
@@ -205,12 +183,9 @@ fn solid_line(mem: &mut [u8], s: Surface, v: u32, x0: u32, w: u32, y: u32) -> u3
     requires { RowOn s (length mem.old) x0 w y }
     ensures { state mem.new w result ≡ paint s (evenly v (across false x0 w y)) (state mem.old 0 0) }
 {
-    let end = x0 + w;
     let mut r = 0;
-    let mut x = x0;
-    while x < end {
-        r += surface::one(surface::put_pixel(mem, s, x, y, v));
-        x += 1;
+    for x in x0..x0 + w {
+        r += u32::from(surface::put_pixel(mem, s, x, y, v));
     }
     r
 }
@@ -220,36 +195,42 @@ pub fn solid_blocks(mem: &mut [u8], s: Surface, v: u32, x0: u32, y0: u32, w: u32
     requires { RectOn s (length mem.old) x0 y0 w h × ((0 < w) × (0 < h)) }
     ensures { tallied mem.new result ≡ paint s (evenly v (rect false false x0 y0 w h)) (state mem.old 0 0) }
 {
-    let bytes = surface::wide(s.bytes);
-    let x = surface::wide(x0) * bytes;
-    let y = surface::wide(y0);
-    let n = surface::wide(w) * bytes;
-    let end = surface::wide(h);
+    let bytes = s.bytes as usize;
+    let x = x0 as usize * bytes;
+    let y = y0 as usize;
+    let n = w as usize * bytes;
+    let end = h as usize;
     let mut changed = solid_line(mem, s, v, x0, w, y0);
-    let mut old = [0u8; 1024];
-    let mut new = [0u8; 1024];
-    let mut row = 1;
-    while row < h {
-        changed += unlike_row(&mut old, &mut new, mem, s, s, x0, y0 + row, x0, y0, w);
-        row += 1;
+    let mut buffers = Buffers::empty();
+    let row = Pair {
+        to: s,
+        from: s,
+        x: x0,
+        y: y0,
+        sx: x0,
+        sy: y0,
+        w,
+    };
+    for j in 1..h {
+        changed += buffers.unlike_row(mem, Pair { y: y0 + j, ..row });
     }
-    let mut j = 1;
-    while j < end {
-        let k = least(j, end - j);
-        let b = Way {
-            to: s,
-            from: s,
-            x: x,
-            y: y + j,
-            sx: x,
-            sy: y,
-        };
-        move_blocks(mem, b, n, k);
-        j += k;
+    let b = Way {
+        to: s,
+        from: s,
+        x,
+        y,
+        sx: x,
+        sy: y,
+    };
+    let mut there = 1;
+    // while: as many rows go on as are there already, so that the step grows.
+    while there < end {
+        let k = there.min(end - there);
+        move_blocks(mem, Way { y: y + there, ..b }, n, k);
+        there += k;
     }
-    let count = w * h;
     Tally {
-        count: count,
-        changed: changed,
+        count: w * h,
+        changed,
     }
 }

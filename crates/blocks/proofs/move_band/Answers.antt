@@ -1,7 +1,7 @@
 -- `blocks::move_band` meets its contract: the columns so far have come.
 -- Assumes nothing.
 use mathlib.Core.Path.{◌≡◌, refl, subst}
-use Prim.Native.Nat.{ℕ, ◌+◌, ◌-◌, ◌≤◌}
+use Prim.Native.Nat.{ℕ, ◌+◌, ◌≤◌}
 use native.Mathlib.Omega.{arith}
 use Rattle.blocks.specs.Blocks.{Put, origin_byte}
 use Rattle.blocks.proofs.Blocks.{row_small, put-none, put-beside, Part, part-goes, part-put}

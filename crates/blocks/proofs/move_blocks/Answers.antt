@@ -1,7 +1,7 @@
 -- `blocks::move_blocks` meets its contract: the rows so far have come.
 -- Assumes nothing.
 use mathlib.Core.Path.{◌≡◌, refl, subst}
-use Prim.Native.Nat.{ℕ, ◌+◌, ◌-◌, ◌≤◌}
+use Prim.Native.Nat.{ℕ, ◌+◌, ◌≤◌}
 use native.Mathlib.Omega.{arith}
 use Rattle.blocks.specs.Blocks.{Put, origin_byte}
 use Rattle.blocks.proofs.Blocks.{put-none, put-below, Part, part-goes, part-put}

@@ -2,7 +2,7 @@
 -- Assumes nothing.
 use mathlib.Core.Path.{◌≡◌, sym, ap, subst, ◌∙◌}
 use mathlib.Core.Bool.{true, ◌&&◌}
-use Prim.Native.Nat.{ℕ, ◌+◌, ◌-◌, ◌*◌, ◌<◌}
+use Prim.Native.Nat.{ℕ, ◌+◌, ◌*◌, ◌<◌}
 use native.Mathlib.Omega.{arith}
 use borrow.Author.Tests.{eqb-true}
 use lib.Dec.{eqb}
@@ -55,7 +55,7 @@ returns-then-n-p c =
 
 -- ---- line by line
 pub loop-q-init : goal.loop-q-init
-loop-q-init c = let a = c.args in (laid_none a.d a.p a.s a.r a.n a.mem.now, omega arith)
+loop-q-init c = let a = c.args in laid_none a.d a.p a.s a.r a.n a.mem.now
 
 product : {a b : ℕ} → a < 4294967296 → b < 131072 → a * b < 562949953421312
 product {a} {b} l u = product_lt 32 17 {a = a} {b = b} l u
@@ -81,20 +81,20 @@ line-run lines q lq = (
 pub run_up-requires-in-loop-q : goal.run_up-requires-in-loop-q
 run_up-requires-in-loop-q c =
     let k = c.loop-q in
-    rw k.invariant.0.long (line-run c.requires k.q c.loop-q-test.true)
+    rw k.invariant.long (line-run c.requires k.q c.loop-q-test.true)
 
 pub loop-q-preserved : goal.loop-q-preserved
 loop-q-preserved c =
     let k = c.loop-q in
     let taken = c.loop-q-test.true in
-    (laid_next c.requires k.q taken k.invariant.0 c.run_up-in-loop-q.ensures, omega arith)
+    laid_next c.requires k.q taken k.invariant c.run_up-in-loop-q.ensures
 
 pub shape_of-mem : goal.shape_of-mem
-shape_of-mem c = c.loop-q.invariant.0.long
+shape_of-mem c = c.loop-q.invariant.long
 
 pub returns : goal.returns
 returns c =
     let a = c.args in
     let k = c.loop-q in
     let end : k.q ≡ a.h = omega (arith, c.loop-q-test.false) in
-    subst (λ (q : ℕ). Laid a.d a.p a.s a.r a.n q a.mem.now k.mem) end k.invariant.0
+    subst (λ (q : ℕ). Laid a.d a.p a.s a.r a.n q a.mem.now k.mem) end k.invariant
