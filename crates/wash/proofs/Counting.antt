@@ -6,21 +6,35 @@ use mathlib.Core.List.{List}
 use Prim.Native.Nat.{ℕ, zero, suc, ◌+◌, ◌-◌, ◌*◌, ◌/◌, ◌%◌, ◌<◌, ◌≤◌}
 use native.Mathlib.Nat.{suc-mul, div-add-mod'}
 use native.Mathlib.Omega.{arith}
-use lib.ListN.{get_or}
+use lib.ListN.{length, get_or, take, drop}
+use Rattle.std.proofs.Common.{sum}
+use Rattle.std.proofs.lemmas.List.Sums.{sum_by-cons}
+use Rattle.std.proofs.Math.Seq.{drop-cons}
 use Rattle.surface.specs.Pixels.{Px, across, rect}
 use Rattle.paint.specs.Paint.{summed}
 use Rattle.paint.proofs.Changes.{summed-append}
+use Rattle.wash.specs.Asked.{Ones}
 use Rattle.wash.specs.Count.{counting, countings}
 
--- ---- a turn of the loop over pixels, or over rows
+-- ---- a few of eight masks
 module _ (adds : List ℕ) (first : ℕ) where
-  pub count_turn : (n i r : ℕ) → i < n → r + get_or adds (first + i % 8) 0 + counting adds first (i + 1) (n - (i + 1)) ≡ r + counting adds first i (n - i)
+  -- a run of them
+  run-sum : (n i : ℕ) → i + n ≤ 8 → first + i + n ≤ length adds → sum (take n (drop (first + i) adds)) ≡ counting adds first i n
   unfolding counting
-  count_turn n i r l = let q : n - i ≡ suc (n - (i + 1)) = omega arith in rw q (omega arith)
+  run-sum zero i l u = refl
+  run-sum (suc n) i l u =
+      let e : i % 8 ≡ i = omega arith in
+      let f : suc (first + i) ≡ first + (i + 1) = omega arith in
+      rw (drop-cons adds (first + i) 0 (omega arith), f, e)
+      (sum_by-cons (λ (x : ℕ). x) (get_or adds (first + i) 0) (take n (drop (first + (i + 1)) adds)) ∙ ap (λ (k : ℕ). get_or adds (first + i) 0 + k) (run-sum n (i + 1) (omega arith) (omega arith)))
 
-  pub count-done : (n i r : ℕ) → n ≤ i → r + counting adds first i (n - i) ≡ r
+  pub few-sum : (n : ℕ) → n ≤ 8 → first + n ≤ length adds → sum (take n (drop first adds)) ≡ counting adds first 0 n
+  few-sum n l u = let e : first + 0 ≡ first = omega arith in rw e at (run-sum n 0 (omega arith) (omega arith))
+
+  pub few-most : Ones adds first → (n i : ℕ) → counting adds first i n ≤ n
   unfolding counting
-  count-done n i r l = let q : n - i ≡ 0 = omega arith in rw q (omega arith)
+  few-most ones zero i = omega arith
+  few-most ones (suc n) i = omega (arith, ones.one (i % 8) (omega arith), few-most ones n (i + 1))
 
   -- ---- a row by eights
   split : (i a b : ℕ) → counting adds first i (a + b) ≡ counting adds first i a + counting adds first (i + a) b

@@ -1,44 +1,55 @@
--- Masks repeated: one byte more of a row, and one row more.
+-- Masks repeated: one period more of a row, and one row more.
 -- Assumes nothing.
 use mathlib.Core.Path.{◌≡◌, refl, sym, ap, subst, ◌∙◌}
 use mathlib.Core.List.{List}
-use Prim.Native.Nat.{ℕ, suc, ◌+◌, ◌*◌, ◌%◌, ◌<◌, ◌≤◌}
-use native.Mathlib.Nat.{mod-lt, mod_self, mod-eq_of_lt, suc-mod}
-use native.Mathlib.Numerals.{add-one}
+use Prim.Native.Nat.{ℕ, ◌+◌, ◌-◌, ◌*◌, ◌%◌, ◌<◌, ◌≤◌}
+use native.Mathlib.Nat.{zero-add, mod_self, mod-eq_of_lt, mod-add-mod}
 use native.Mathlib.Omega.{arith}
-use native.Mathlib.Decide.{ℕ_discrete}
-use lib.ListN.{length, get_or, set}
-use lib.Seq.{get_or-set_same, get_or-set_other}
+use native.Mathlib.Decide.{ℕ_discrete, dec_lt}
+use borrow.Author.Rules.{rules}
+use borrow.Rule.Slice.PartMut.{put_mid}
+use lib.ListN.{length, get_or, take, drop}
+use Rattle.std.proofs.lemmas.List.{places, length-take, length-drop}
 use Rattle.surface.proofs.Lists.{by_cases}
 use Rattle.wash.specs.Wash.{Spread, Widened}
 use Rattle.wash.specs.Asked.{Period}
 
--- ---- the place in a period, one byte on
-module _ (i p period : ℕ) (here : p ≡ i % period) where
-  next : (i + 1) % period ≡ suc p % period
-  next = ap (λ (n : ℕ). n % period) (add-one i) ∙ suc-mod i period ∙ ap (λ (n : ℕ). suc n % period) (sym here)
+-- ---- where the masks begin again
+pub again_none : (period : ℕ) → Period period → 0 % period ≡ 0
+again_none period steps = mod-eq_of_lt steps.some
 
-  pub begins-again : p + 1 ≡ period → 0 ≡ (i + 1) % period
-  begins-again e = let f : suc p ≡ period = omega arith in sym (next ∙ ap (λ (n : ℕ). n % period) f ∙ mod_self period)
+pub again_next : (i period : ℕ) → i % period ≡ 0 → (i + period) % period ≡ 0
+again_next i period e = sym (mod-add-mod i period period) ∙ ap (λ (n : ℕ). (n + period) % period) e ∙ rw zero-add (mod_self period)
 
-  pub goes_on : Period period → (p + 1 ≡ period → ⊥) → p + 1 ≡ (i + 1) % period
-  goes_on steps u = add-one p ∙ sym (next ∙ mod-eq_of_lt (omega (arith, mod-lt i steps.some)))
+-- ---- one period more, or what there is room for
+part-below : (a k j : ℕ) (xs ys : List ℕ) → j < a → a ≤ length xs → get_or (put_mid a k xs ys) j 0 ≡ get_or xs j 0
+part-below a k j xs ys l u = search (rules, places)
 
--- ---- one byte more
+part-inside : (a k j : ℕ) (xs ys : List ℕ) → j < length ys → a ≤ length xs → get_or (put_mid a k xs ys) (a + j) 0 ≡ get_or ys j 0
+part-inside a k j xs ys l u = search (rules, places)
+
 pub spread_none : (table : List ℕ) (at first period : ℕ) (m : List ℕ) → Spread table at first period 0 m m
 spread_none table at first period m = record { bytes = λ i l. absurd (omega arith); before = λ a l. refl }
 
-pub spread-more : (table : List ℕ) (at first period i p : ℕ) {m₀ m : List ℕ} → p ≡ i % period → at + i < length m → Spread table at first period i m₀ m
-    → Spread table at first period (i + 1) m₀ (set m (at + i) (get_or table (first + p) 0))
-spread-more table at first period i p {m₀} {m} here room spread =
-    let v = get_or table (first + p) 0 in
+of-table : (table : List ℕ) (first d q : ℕ) → q < d → get_or (take d (drop first table)) q 0 ≡ get_or table (first + q) 0
+of-table table first d q l = search (rules, places)
+
+pub spread-more : {table m₀ m ys : List ℕ} {at first period i n d' : ℕ} (k d : ℕ) → Spread table at first period i m₀ m → ys ≡ take d' (drop first table) → i % period ≡ 0
+    → k ≤ period → i + k ≡ n → d' ≡ k → at + n ≤ length m → first + k ≤ length table → Spread table at first period n m₀ (put_mid (at + i) d m ys)
+spread-more {table} {m₀} {m} {ys} {at} {first} {period} {i} {n} {d'} k d spread e whole short end same room held =
+    let long = simp (length-take, length-drop) at (ap length e) in
     record {
-      bytes = λ k l.
-          by_cases (ℕ_discrete k i)
-          (λ e. subst (λ (n : ℕ). get_or (set m (at + i) v) (at + n) 0 ≡ get_or table (first + n % period) 0) (sym e)
-          (get_or-set_same m (at + i) v 0 room ∙ ap (λ (n : ℕ). get_or table (first + n) 0) here))
-          (λ e. get_or-set_other m (at + i) (at + k) v 0 (λ q. omega arith) ∙ spread.bytes k (omega arith));
-      before = λ a l. get_or-set_other m (at + i) a v 0 (λ q. omega arith) ∙ spread.before a l;
+      bytes = λ j l.
+          by_cases (dec_lt j i)
+          (λ low. part-below (at + i) d (at + j) m ys (omega arith) (omega arith) ∙ spread.bytes j low)
+          (λ high.
+          let q = j - i in
+          let there : at + j ≡ at + i + q = omega arith in
+          let on : j ≡ i + q = omega arith in
+          let place : j % period ≡ q =
+          ap (λ (x : ℕ). x % period) on ∙ sym (mod-add-mod i period q) ∙ ap (λ (x : ℕ). (x + q) % period) whole ∙ rw zero-add (mod-eq_of_lt (omega arith)) in
+          rw (there, place) (part-inside (at + i) d q m ys (omega (arith, long)) (omega arith) ∙ ap (λ (x : List ℕ). get_or x q 0) e ∙ of-table table first d' q (omega arith)));
+      before = λ a l. part-below (at + i) d a m ys (omega arith) (omega arith) ∙ spread.before a l;
     }
 
 -- ---- one row more

@@ -15,8 +15,12 @@ use Rattle.runs.specs.Asked.{RectOn}
 use Rattle.tint.specs.Masking.{masked}
 use Rattle.blocks.specs.Blocks.{Put}
 use Rattle.blocks.proofs.Pixels.{byte-held, bytes-wide}
-use Rattle.wash.specs.Wash.{washed, in_rows, Widened}
+use Rattle.wash.specs.declared.Washing.{Washing}
+use Rattle.wash.specs.Wash.{washed, in_rows, by_rows, Widened}
 use Rattle.wash.specs.Asked.{Again, Period, CanWash}
+
+abbrev pub washing : Surface → List ℕ → List ℕ → Washing
+washing s keep flip = record { s = s; keep = keep; flip = flip }
 
 pub period-of : {s : Surface} → Colour s → Period (8 * s.bytes)
 period-of colour = record { some = omega (arith, colour.some); few = omega (arith, colour.small.bytes) }
@@ -34,7 +38,7 @@ module _ {rows period n wide : ℕ} (steps : Period period) (enough : (i : ℕ) 
 module _ (s : Surface) {x y w h rows wide : ℕ} {keep flip keep' flip' : List ℕ} (enough : (i : ℕ) → i < 160 → i < w * s.bytes → i < wide)
     (lines : (j : ℕ) → j < h → j % 8 < rows) (keeps : Widened keep rows (8 * s.bytes) wide keep') (flips : Widened flip rows (8 * s.bytes) wide flip') {len : ℕ}
     (on : RectOn s len x y w h) where
-  pub rows-can : s.tiled ≡ true → 0 < w → 0 < h → (j : ℕ) → j < h → CanWash s keep' flip' (j % 8 * 160) (8 * s.bytes) (x * s.bytes) (y + j) (w * s.bytes) len
+  pub rows-can : s.tiled ≡ true → 0 < w → 0 < h → (j : ℕ) → j < h → CanWash (washing s keep' flip') (j % 8 * 160) (x * s.bytes) (y + j) (w * s.bytes) len
   rows-can tiled pw ph j l =
       let steps = period-of on.colour in
       record {
@@ -49,7 +53,7 @@ module _ (s : Surface) {x y w h rows wide : ℕ} {keep flip keep' flip' : List �
         flips = again steps enough flips (j % 8) (lines j l);
       }
 
-  pub as-tables : {m m' : List ℕ} → Put s (washed s keep' flip' (in_rows 160 (8 * s.bytes) (x * s.bytes) y) m) (x * s.bytes) y (w * s.bytes) h m m'
+  pub as-tables : {m m' : List ℕ} → Put s (by_rows (washing s keep' flip') (x * s.bytes) y m) (x * s.bytes) y (w * s.bytes) h m m'
       → Put s (washed s keep flip (in_rows (8 * s.bytes) (8 * s.bytes) (x * s.bytes) y) m) (x * s.bytes) y (w * s.bytes) h m m'
   as-tables {m} put =
       let steps = period-of on.colour in
@@ -63,10 +67,10 @@ module _ (s : Surface) {x y w h rows wide : ℕ} {keep flip keep' flip' : List �
       }
 
 -- ---- some pixels of a row that can be changed
-pub can-part : {s : Surface} {keep flip : List ℕ} {first y len : ℕ} (x w : ℕ) → CanWash s keep flip first (8 * s.bytes) (x * s.bytes) y (w * s.bytes) len → (i k : ℕ) → i + k ≤ w
-    → CanWash s keep flip first (8 * s.bytes) ((x + i) * s.bytes) y (k * s.bytes) len
-can-part {s} x w can i k fits =
-    let b = s.bytes in
+pub can-part : {t : Washing} {first y len : ℕ} (x w : ℕ) → CanWash t first (x * t.s.bytes) y (w * t.s.bytes) len → (i k : ℕ) → i + k ≤ w
+    → CanWash t first ((x + i) * t.s.bytes) y (k * t.s.bytes) len
+can-part {t} x w can i k fits =
+    let b = t.s.bytes in
     let inside : i * b + k * b ≤ w * b = omega (arith, mul-le-mul_right {m = i + k} {n = w} b fits, add-mul i k b) in
     rw (add-mul x i b)
     (record {

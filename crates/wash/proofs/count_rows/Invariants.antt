@@ -6,7 +6,4 @@ use Rattle.wash.specs.Count.{countings}
 use Rattle.wash.proofs.count_rows.Given as goal
 
 abbrev pub invariant-loop-j : goal.invariant-loop-j
-invariant-loop-j l = (l.r + countings l.adds l.w l.j (l.h - l.j) ≡ countings l.adds l.w 0 l.h) × (l.j ≤ l.h) × (l.r ≤ 8192 * l.j)
-
-abbrev pub decreases-loop-j : goal.decreases-loop-j
-decreases-loop-j l = l.h - l.j
+invariant-loop-j l = (l.r + countings l.adds l.w l.j (l.h - l.j) ≡ countings l.adds l.w 0 l.h) × (l.r ≤ 8192 * l.j)

@@ -1,6 +1,7 @@
 -- `wash::wash_masks` meets its contract: the tables made wide change the bytes as the tables do.
 -- Assumes nothing.
-use Prim.Native.Nat.{ℕ, ◌*◌, ◌^◌, ◌<◌}
+use mathlib.Core.Path.{◌≡◌}
+use Prim.Native.Nat.{ℕ, ◌*◌, ◌^◌, ◌<◌, min}
 use native.Mathlib.Omega.{arith}
 use Rattle.surface.specs.declared.Surface.{Surface}
 use Rattle.surface.proofs.Bytes.{product_lt}
@@ -15,13 +16,17 @@ few {s} {w = w} on = product_lt 14 3 {a = w} {b = s.bytes} (omega (arith, on.wid
 pub overflow_mul-w : goal.overflow_mul-w
 overflow_mul-w c = omega (arith, few c.requires.0)
 
+-- how many of them are made
+enough : {n many : ℕ} → many ≡ min n 160 → (i : ℕ) → i < 160 → i < n → i < many
+enough e i u l = omega arith
+
 pub wash_lines-requires : goal.wash_lines-requires
 wash_lines-requires c =
     let p = c.requires in
-    (p.0, rows-can c.args.s c.wide_row-many.ensures.1 p.1.1.1.1 c.widen-keep.ensures c.widen-flip.ensures p.0 p.1.0 p.1.1.0.0 p.1.1.0.1)
+    (p.0, rows-can c.args.s (enough c.min-many.ensures) p.1.1.1.1 c.widen.ensures c.widen-2.ensures p.0 p.1.0 p.1.1.0.0 p.1.1.0.1)
 
 pub returns : goal.returns
 returns c =
     let p = c.requires in
     let done = c.wash_lines.ensures in
-    (as-tables c.args.s c.wide_row-many.ensures.1 p.1.1.1.1 c.widen-keep.ensures c.widen-flip.ensures p.0 done.0, done.1)
+    (as-tables c.args.s (enough c.min-many.ensures) p.1.1.1.1 c.widen.ensures c.widen-2.ensures p.0 done.put, done.changes)

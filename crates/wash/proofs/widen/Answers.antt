@@ -10,7 +10,7 @@ use Rattle.wash.proofs.Spreading.{widened_none, widened_more}
 use Rattle.wash.proofs.widen.Goals as goal
 
 pub loop-r-init : goal.loop-r-init
-loop-r-init c = (widened_none c.args.table.now c.args.period c.args.n _, omega arith, refl)
+loop-r-init c = (widened_none c.args.table.now c.args.period c.args.n _, refl)
 
 -- a row of masks is in its table
 room : {period r : ℕ} → Period period → r < 8 → r * period + period ≤ 256
@@ -28,19 +28,18 @@ overflow_mul-r-in-loop-r c =
 pub spread_row-requires : goal.spread_row-requires
 spread_row-requires c =
     let p = c.requires in
-    (p.0, omega (arith, p.1, p.2, c.loop-r.invariant.2, c.loop-r-test.true), room p.0 (omega (arith, p.1, c.loop-r-test.true)))
+    (p.0, omega (arith, p.1, p.2, c.loop-r.invariant.1, c.loop-r-test.true), room p.0 (omega (arith, p.1, c.loop-r-test.true)))
 
 pub loop-r-preserved : goal.loop-r-preserved
 loop-r-preserved c =
     let l = c.loop-r in (
       widened_more c.requires.2 l.invariant.0 c.spread_row.ensures,
-      omega (arith, c.loop-r-test.true),
-      c.spread_row.auto.out ∙ l.invariant.2,
+      c.spread_row.auto.out ∙ l.invariant.1,
     )
 
 pub returns : goal.returns
 returns c =
     let a = c.args in
     let l = c.loop-r in
-    let end : l.r ≡ a.rows = omega (arith, c.loop-r-test.false, l.invariant.1) in
+    let end : l.r ≡ a.rows = omega (arith, c.loop-r-test.false) in
     subst (λ (r : ℕ). Widened a.table.now r a.period a.n l.out) end l.invariant.0

@@ -1,21 +1,21 @@
--- `wash::wash_row` meets its contract: the pieces so far are changed.
+-- `wash::Washing::wash_row` meets its contract: the pieces so far are changed.
 -- Assumes nothing.
 use mathlib.Core.Path.{◌≡◌, sym, ap, subst, ◌∙◌}
-use Prim.Native.Nat.{ℕ, ◌+◌, ◌-◌, ◌%◌, ◌<◌}
+use Prim.Native.Nat.{ℕ, ◌+◌, ◌-◌, ◌*◌, ◌%◌, ◌<◌}
 use native.Mathlib.Nat.{mod-lt}
 use native.Mathlib.Omega.{arith}
 use Rattle.surface.specs.Place.{byte_at}
 use Rattle.tint.specs.Masking.{blended}
 use Rattle.blocks.specs.Blocks.{Put}
 use Rattle.blocks.proofs.Blocks.{row_small, put-none}
-use Rattle.wash.specs.Wash.{washed, in_row}
+use Rattle.wash.specs.Wash.{washed, by_row}
 use Rattle.wash.proofs.Pieces.{piece-at, piece-put, piece-more}
-use Rattle.wash.proofs.wash_row.Goals as goal
+use Rattle.wash.proofs.Washing.wash_row.Goals as goal
 
 pub loop-i-init : goal.loop-i-init
 loop-i-init c =
     let a = c.args in
-    (put-none a.s (washed a.s a.keep.now a.flip.now (in_row a.first a.period a.x) a.mem.now) a.x a.y 0 1 a.mem.now (λ p i. omega arith), omega arith)
+    (put-none a.self.now.s (by_row a.self.now a.first a.x a.mem.now) a.x a.y 0 1 a.mem.now (λ p i. omega arith), omega arith)
 
 pub overflow_add-x : goal.overflow_add-x
 overflow_add-x c = let p = c.requires in omega (arith, p.wide, row_small _ p.small)
@@ -43,7 +43,7 @@ tint_bytes-requires c =
     let a = c.args in
     let p = c.requires in
     let low = mod-lt l.i p.steps.some in (
-      λ i h. rw (c.byte_at-at.ensures, ← piece-at a.s a.keep.now a.flip.now (a.x + l.i) a.y _ (e.2 p.tiled) i h, l.invariant.0.long)
+      λ i h. rw (c.byte_at-at.ensures, ← piece-at a.self.now.s a.self.now.keep a.self.now.flip (a.x + l.i) a.y _ (e.2 p.tiled) i h, l.invariant.0.long)
           (p.held (a.x + l.i + i) (omega arith) (omega (arith, e.0))),
       omega (arith, p.room, p.steps.few, e.2 p.tiled),
       omega (arith, p.room, p.steps.few, e.2 p.tiled),
@@ -65,13 +65,13 @@ loop-i-preserved c =
     let l = c.loop-i in
     let a = c.args in
     let p = c.requires in
-    let from = a.first + l.i % a.period in
-    let piece = piece-put a.s a.keep.now a.flip.now (a.x + l.i) a.y k (e.2 p.tiled) from l.mem
-    (λ i h u. subst (λ (n : ℕ). byte_at a.s i a.y < n) (sym l.invariant.0.long) (p.held i (omega arith) (omega (arith, e.0)))) in
-    let made = c.tint_bytes.ensures ∙ ap (λ (at : ℕ). blended a.keep.now a.flip.now from at k l.mem) c.byte_at-at.ensures in (
-      piece-more a.s a.keep.now a.flip.now a.first a.period a.x a.y a.n l.i k p.steps p.wide (omega (arith, e.0)) (omega (arith, e.2 p.tiled))
+    let from = a.first + l.i % (8 * a.self.now.s.bytes) in
+    let piece = piece-put a.self.now.s a.self.now.keep a.self.now.flip (a.x + l.i) a.y k (e.2 p.tiled) from l.mem
+    (λ i h u. subst (λ (n : ℕ). byte_at a.self.now.s i a.y < n) (sym l.invariant.0.long) (p.held i (omega arith) (omega (arith, e.0)))) in
+    let made = c.tint_bytes.ensures ∙ ap (λ (at : ℕ). blended a.self.now.keep a.self.now.flip from at k l.mem) c.byte_at-at.ensures in (
+      piece-more a.self.now.s a.self.now.keep a.self.now.flip a.first (8 * a.self.now.s.bytes) a.x a.y a.n l.i k p.steps p.wide (omega (arith, e.0)) (omega (arith, e.2 p.tiled))
           p.keeps p.flips l.invariant.0
-          (subst (Put a.s (washed a.s a.keep.now a.flip.now (λ q. from + (q.x - (a.x + l.i))) l.mem) (a.x + l.i) a.y k 1 l.mem) (sym made) piece),
+          (subst (Put a.self.now.s (washed a.self.now.s a.self.now.keep a.self.now.flip (λ q. from + (q.x - (a.x + l.i))) l.mem) (a.x + l.i) a.y k 1 l.mem) (sym made) piece),
       omega (arith, e.0),
     )
 
@@ -83,4 +83,4 @@ returns c =
     let a = c.args in
     let l = c.loop-i in
     let end : l.i ≡ a.n = omega (arith, c.loop-i-test.false, l.invariant.1) in
-    subst (λ (i : ℕ). Put a.s (washed a.s a.keep.now a.flip.now (in_row a.first a.period a.x) a.mem.now) a.x a.y i 1 a.mem.now l.mem) end l.invariant.0
+    subst (λ (i : ℕ). Put a.self.now.s (by_row a.self.now a.first a.x a.mem.now) a.x a.y i 1 a.mem.now l.mem) end l.invariant.0
