@@ -137,7 +137,7 @@ impl Buffers {
             let part = Pair {
                 x: p.x + i,
                 sx: p.sx + i,
-                w: 256.min(p.w - i),
+                w: (p.w - i).min(256),
                 ..p
             };
             r += self.unlike_part(mem, part);
@@ -225,7 +225,7 @@ pub fn solid_blocks(mem: &mut [u8], s: Surface, v: u32, x0: u32, y0: u32, w: u32
     let mut there = 1;
     // while: as many rows go on as are there already, so that the step grows.
     while there < end {
-        let k = there.min(end - there);
+        let k = (end - there).min(there);
         move_blocks(mem, Way { y: y + there, ..b }, n, k);
         there += k;
     }

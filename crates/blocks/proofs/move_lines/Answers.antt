@@ -6,12 +6,11 @@ use Prim.Native.Nat.{ℕ, ◌+◌, ◌*◌, ◌<◌}
 use native.Mathlib.Omega.{arith}
 use borrow.Author.Tests.{eqb-true}
 use lib.Dec.{eqb}
-use Rattle.surface.proofs.Bytes.{product_lt}
 use Rattle.surface.proofs.OnLaws.{and_left, and_right}
 use Rattle.runs.specs.Asked.{Run, Up}
 use Rattle.blocks.specs.Blocks.{Laid}
 use Rattle.blocks.specs.Asked.{Lines}
-use Rattle.blocks.proofs.Laying.{line_of, laid-run, laid_none, laid_next}
+use Rattle.blocks.proofs.Laying.{line_of, laid-run, laid_next}
 use Rattle.blocks.proofs.move_lines.Goals as goal
 
 -- ---- one run
@@ -35,12 +34,6 @@ run_of {d} {s} {n} {h} {len} lines = (
   },
 )
 
-pub overflow_mul-h : goal.overflow_mul-h
-overflow_mul-h c =
-    let a = c.args in
-    let l = c.requires in
-    omega (arith, product_lt 32 17 {a = a.h} {b = a.n} l.few (omega (arith, l.slim, l.short)))
-
 pub run_up-requires : goal.run_up-requires
 run_up-requires c =
     let a = c.args in
@@ -54,24 +47,6 @@ returns-then-n-p c =
     rw (e.0, e.1) (laid-run a.d a.s a.n a.h c.run_up.ensures)
 
 -- ---- line by line
-pub loop-q-init : goal.loop-q-init
-loop-q-init c = let a = c.args in laid_none a.d a.p a.s a.r a.n a.mem.now
-
-product : {a b : ℕ} → a < 4294967296 → b < 131072 → a * b < 562949953421312
-product {a} {b} l u = product_lt 32 17 {a = a} {b = b} l u
-
-pub overflow_mul-q : goal.overflow_mul-q
-overflow_mul-q c = let l = c.requires in omega (arith, product {a = c.loop-q.q} (omega (arith, l.few, c.loop-q-test.true)) l.short)
-
-pub overflow_add-d : goal.overflow_add-d
-overflow_add-d c = let l = c.requires in omega (arith, product {a = c.loop-q.q} (omega (arith, l.few, c.loop-q-test.true)) l.short, l.low)
-
-pub overflow_mul-q-in-loop-q : goal.overflow_mul-q-in-loop-q
-overflow_mul-q-in-loop-q c = let l = c.requires in omega (arith, product {a = c.loop-q.q} (omega (arith, l.few, c.loop-q-test.true)) l.short')
-
-pub overflow_add-s : goal.overflow_add-s
-overflow_add-s c = let l = c.requires in omega (arith, product {a = c.loop-q.q} (omega (arith, l.few, c.loop-q-test.true)) l.short', l.low')
-
 line-run : {d p s r n h len : ℕ} → Lines d p s r n h len → (q : ℕ) → q < h → Run (d + q * p) (s + q * r) n len × Up (d + q * p) (s + q * r) n
 line-run lines q lq = (
   record { to = λ i l. omega (arith, lines.to q i lq l); from = λ i l. omega (arith, lines.from q i lq l) },
@@ -88,9 +63,6 @@ loop-q-preserved c =
     let k = c.loop-q in
     let taken = c.loop-q-test.true in
     laid_next c.requires k.q taken k.invariant c.run_up-in-loop-q.ensures
-
-pub shape_of-mem : goal.shape_of-mem
-shape_of-mem c = c.loop-q.invariant.long
 
 pub returns : goal.returns
 returns c =
