@@ -1,22 +1,21 @@
 -- Masks repeated: one period more of a row, and one row more.
 -- Assumes nothing.
-use mathlib.Core.Path.{◌≡◌, refl, sym, ap, subst, ◌∙◌}
+use mathlib.Core.Path.{◌≡◌, sym, ap, subst, ◌∙◌}
 use mathlib.Core.List.{List}
 use Prim.Native.Nat.{ℕ, ◌+◌, ◌-◌, ◌*◌, ◌%◌, ◌<◌, ◌≤◌}
-use native.Mathlib.Nat.{zero-add, mod_self, mod-eq_of_lt, mod-add-mod}
+use native.Mathlib.Nat.{zero-add, mod-lt, mod_self, mod-eq_of_lt, mod-add-mod}
 use native.Mathlib.Omega.{arith}
 use native.Mathlib.Decide.{ℕ_discrete, dec_lt}
 use borrow.Author.Rules.{rules}
 use borrow.Rule.Slice.PartMut.{put_mid}
 use lib.ListN.{length, get_or, take, drop}
-use Rattle.std.proofs.lemmas.List.{places, length-take, length-drop}
+use Rattle.std.proofs.lemmas.List.{places, length-take, length-drop, get_or-take}
 use Rattle.surface.proofs.Lists.{by_cases}
-use Rattle.wash.specs.Wash.{Spread, Widened}
-use Rattle.wash.specs.Asked.{Period}
+use Rattle.wash.specs.Wash.{Repeated, Widened}
 
 -- ---- where the masks begin again
-pub again_none : (period : ℕ) → Period period → 0 % period ≡ 0
-again_none period steps = mod-eq_of_lt steps.some
+pub again_none : (period : ℕ) → 0 < period → 0 % period ≡ 0
+again_none period some = mod-eq_of_lt some
 
 pub again_next : (i period : ℕ) → i % period ≡ 0 → (i + period) % period ≡ 0
 again_next i period e = sym (mod-add-mod i period period) ∙ ap (λ (n : ℕ). (n + period) % period) e ∙ rw zero-add (mod_self period)
@@ -28,39 +27,41 @@ part-below a k j xs ys l u = search (rules, places)
 part-inside : (a k j : ℕ) (xs ys : List ℕ) → j < length ys → a ≤ length xs → get_or (put_mid a k xs ys) (a + j) 0 ≡ get_or ys j 0
 part-inside a k j xs ys l u = search (rules, places)
 
-pub spread_none : (table : List ℕ) (at first period : ℕ) (m : List ℕ) → Spread table at first period 0 m m
-spread_none table at first period m = record { bytes = λ i l. absurd (omega arith); before = λ a l. refl }
+pub repeated_none : (masks m : List ℕ) → Repeated masks 0 m
+repeated_none masks m = record { bytes = λ i l. absurd (omega arith) }
 
-of-table : (table : List ℕ) (first d q : ℕ) → q < d → get_or (take d (drop first table)) q 0 ≡ get_or table (first + q) 0
-of-table table first d q l = search (rules, places)
-
-pub spread-more : {table m₀ m ys : List ℕ} {at first period i n d' : ℕ} (k d : ℕ) → Spread table at first period i m₀ m → ys ≡ take d' (drop first table) → i % period ≡ 0
-    → k ≤ period → i + k ≡ n → d' ≡ k → at + n ≤ length m → first + k ≤ length table → Spread table at first period n m₀ (put_mid (at + i) d m ys)
-spread-more {table} {m₀} {m} {ys} {at} {first} {period} {i} {n} {d'} k d spread e whole short end same room held =
-    let long = simp (length-take, length-drop) at (ap length e) in
+pub repeated_more : {masks m ys : List ℕ} {i n d' : ℕ} (k d : ℕ) → Repeated masks i m → ys ≡ take d' masks → i % length masks ≡ 0 → k ≤ length masks → i + k ≡ n → d' ≡ k
+    → n ≤ length m → Repeated masks n (put_mid i d m ys)
+repeated_more {masks} {m} {ys} {i} {n} {d'} k d before e whole short end same room =
+    let long = simp length-take at (ap length e) in
     record {
       bytes = λ j l.
           by_cases (dec_lt j i)
-          (λ low. part-below (at + i) d (at + j) m ys (omega arith) (omega arith) ∙ spread.bytes j low)
+          (λ low. part-below i d j m ys low (omega arith) ∙ before.bytes j low)
           (λ high.
           let q = j - i in
-          let there : at + j ≡ at + i + q = omega arith in
           let on : j ≡ i + q = omega arith in
-          let place : j % period ≡ q =
-          ap (λ (x : ℕ). x % period) on ∙ sym (mod-add-mod i period q) ∙ ap (λ (x : ℕ). (x + q) % period) whole ∙ rw zero-add (mod-eq_of_lt (omega arith)) in
-          rw (there, place) (part-inside (at + i) d q m ys (omega (arith, long)) (omega arith) ∙ ap (λ (x : List ℕ). get_or x q 0) e ∙ of-table table first d' q (omega arith)));
-      before = λ a l. part-below (at + i) d a m ys (omega arith) (omega arith) ∙ spread.before a l;
+          let place : j % length masks ≡ q =
+          ap (λ (x : ℕ). x % length masks) on ∙ sym (mod-add-mod i (length masks) q) ∙ ap (λ (x : ℕ). (x + q) % length masks) whole ∙ rw zero-add (mod-eq_of_lt (omega arith)) in
+          rw place (ap (λ (x : ℕ). get_or (put_mid i d m ys) x 0) on ∙ part-inside i d q m ys (omega (arith, long)) (omega arith) ∙ ap (λ (x : List ℕ). get_or x q 0) e ∙ get_or-take d' masks q 0 (omega arith)));
     }
 
 -- ---- one row more
+of-table : (table : List ℕ) (first d q : ℕ) → q < d → get_or (take d (drop first table)) q 0 ≡ get_or table (first + q) 0
+of-table table first d q l = search (rules, places)
+
 pub widened_none : (table : List ℕ) (period n : ℕ) (m : List ℕ) → Widened table 0 period n m
 widened_none table period n m = record { bytes = λ r i l. absurd (omega arith) }
 
-pub widened_more : {table m m' : List ℕ} {r period n : ℕ} → n ≤ 160 → Widened table r period n m → Spread table (r * 160) (r * period) period n m m'
-    → Widened table (r + 1) period n m'
-widened_more {table} {m} {m'} {r} {period} {n} few rows row = record {
-  bytes = λ k i l u.
-      by_cases (ℕ_discrete k r)
-      (λ e. subst (λ (q : ℕ). get_or m' (q * 160 + i) 0 ≡ get_or table (q * period + i % period) 0) (sym e) (row.bytes i u))
-      (λ e. row.before (k * 160 + i) (omega arith) ∙ rows.bytes k i (omega arith) u);
-}
+pub widened_more : {table masks m ys : List ℕ} {r period n e : ℕ} (d : ℕ) → n ≤ 160 → Widened table r period n m → Repeated masks e ys → masks ≡ take period (drop (r * period) table)
+    → 0 < period → r * period + period ≤ length table → e ≡ n → length ys ≡ n → r * 160 + n ≤ length m → Widened table (r + 1) period n (put_mid (r * 160) d m ys)
+widened_more {table} {masks} {m} {ys} {r} {period} {n} d few rows row of some held all long room =
+    let size : length masks ≡ period = omega (arith, simp (length-take, length-drop) at (ap length of)) in
+    record {
+      bytes = λ k i l u.
+          by_cases (ℕ_discrete k r)
+          (λ e. subst (λ (q : ℕ). get_or (put_mid (r * 160) d m ys) (q * 160 + i) 0 ≡ get_or table (q * period + i % period) 0) (sym e)
+          (part-inside (r * 160) d i m ys (omega arith) (omega arith) ∙ row.bytes i (omega arith) ∙ ap (λ (x : ℕ). get_or masks (i % x) 0) size
+          ∙ ap (λ (x : List ℕ). get_or x (i % period) 0) of ∙ of-table table (r * period) period (i % period) (mod-lt i some)))
+          (λ e. part-below (r * 160) d (k * 160 + i) m ys (omega arith) (omega arith) ∙ rows.bytes k i (omega arith) u);
+    }

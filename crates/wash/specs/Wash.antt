@@ -1,6 +1,6 @@
 -- Masks over bytes: what each byte of a rectangle becomes, and tables of masks whose rows repeat. Columns count bytes, so that a pixel here is a byte of a row.
 -- Assumes nothing.
-use Rattle.std.specs.Prelude.{◌≡◌, false, List, ℕ, ◌+◌, ◌-◌, ◌*◌, ◌%◌, ◌<◌, get_or}
+use Rattle.std.specs.Prelude.{◌≡◌, false, List, ℕ, ◌+◌, ◌-◌, ◌*◌, ◌%◌, ◌<◌, length, get_or}
 use Rattle.surface.specs.declared.Surface.{Surface}
 use Rattle.surface.specs.Place.{byte_at}
 use Rattle.surface.specs.Pixels.{Px, across, rect}
@@ -40,10 +40,9 @@ pub record RowsWashed (t : Washing) (x y w h r : ℕ) (m m' : List ℕ) : Type 0
 
 -- ---- tables whose rows are wide: 160 bytes, so that 128 of them can begin anywhere in a period
 
--- n bytes from `at` on have become a table's `period` bytes from number `first` on, again and again; those before them are left
-pub record Spread (table : List ℕ) (at first period n : ℕ) (old new : List ℕ) : Type 0 where
-  pub bytes : (i : ℕ) → i < n → get_or new (at + i) 0 ≡ get_or table (first + i % period) 0
-  pub before : (a : ℕ) → a < at → get_or new a 0 ≡ get_or old a 0
+-- the first n bytes are some masks, again and again
+pub record Repeated (masks : List ℕ) (n : ℕ) (new : List ℕ) : Type 0 where
+  pub bytes : (i : ℕ) → i < n → get_or new i 0 ≡ get_or masks (i % length masks) 0
 
 -- the first rows of a table of bytes, made n bytes wide
 pub record Widened (table : List ℕ) (rows period n : ℕ) (new : List ℕ) : Type 0 where

@@ -7,7 +7,7 @@ ghost use Rattle.paint.specs.Paint.{state, tallied, paint, changing, summed};
 ghost use Rattle.runs.specs.Asked.{RowOn, RectOn};
 ghost use Rattle.blocks.specs.Blocks.{Put};
 ghost use Rattle.tint.specs.Tint.{fillings};
-ghost use Rattle.wash.specs.Wash.{washed, in_rows, by_row, RowWashed, RowsWashed, Spread, Widened};
+ghost use Rattle.wash.specs.Wash.{washed, in_rows, by_row, RowWashed, RowsWashed, Repeated, Widened};
 ghost use Rattle.wash.specs.Asked.{Period, CanWash, Ones};
 ghost use Rattle.wash.specs.Count.{counting, countings};
 
@@ -16,14 +16,15 @@ use ink::Ink;
 use paint::Tally;
 use surface::Surface;
 
-// The `period` bytes of masks from number `first` on, repeated to n bytes from `at` on.
-fn spread_row(out: &mut [u8], table: &[u8; 256], at: usize, first: usize, period: usize, n: usize)
-    requires { Period period × (at + n ≤ length out.old) × (first + period ≤ 256) }
-    ensures { Spread table.now at first period n out.old out.new }
+// Masks, repeated.
+fn spread_row(out: &mut [u8], masks: &[u8])
+    requires { 0 < length masks.now }
+    ensures { Repeated masks.now (length out.old) out.new }
 {
-    for i in (0..n).step_by(period) {
-        let k = (n - i).min(period);
-        out[at + i..at + i + k].copy_from_slice(&table[first..first + k]);
+    let n = out.len();
+    for i in (0..n).step_by(masks.len()) {
+        let k = (n - i).min(masks.len());
+        out[i..i + k].copy_from_slice(&masks[..k]);
     }
 }
 
@@ -34,7 +35,8 @@ fn widen(table: &[u8; 256], rows: usize, period: usize, n: usize) -> [u8; 1280]
 {
     let mut out = [0u8; 1280];
     for r in 0..rows {
-        spread_row(&mut out, table, r * 160, r * period, period, n);
+        let masks = &table[r * period..r * period + period];
+        spread_row(&mut out[r * 160..r * 160 + n], masks);
     }
     out
 }

@@ -2,8 +2,9 @@
 -- Assumes nothing.
 use mathlib.Core.Path.{◌≡◌}
 use Prim.Native.Nat.{◌%◌, ◌≤◌}
-use Rattle.wash.specs.Wash.{Spread}
+use lib.ListN.{length}
+use Rattle.wash.specs.Wash.{Repeated}
 use Rattle.wash.proofs.spread_row.Given as goal
 
 abbrev pub invariant-loop-i : goal.invariant-loop-i
-invariant-loop-i l = Spread l.table l.at l.first l.period l.i l.initial.out l.out × (l.i ≤ l.n) × (l.i % l.period ≡ 0)
+invariant-loop-i l = Repeated l.masks l.i l.out × (l.i ≤ length l.initial.out) × (l.i % length l.masks ≡ 0)
