@@ -197,11 +197,10 @@ pub fn wash_rows(
     let mut flip = [0u8; 256];
     let mut adds = [0u32; 64];
     tint::masks_at(&mut keep, &mut flip, &mut adds, ink, pattern, x, y, rows);
-    let s = ink.target;
-    if !s.tiled {
-        return tint::tint_rows(mem, s, &keep, &flip, &adds, x, y, w, h);
+    if !ink.target.tiled {
+        return tint::tint_rows(mem, ink.target, &keep, &flip, &adds, x, y, w, h);
     }
-    let changed = wash_masks(mem, s, &keep, &flip, rows, x, y, w, h);
+    let changed = wash_masks(mem, ink.target, &keep, &flip, rows, x, y, w, h);
     Tally {
         count: count_rows(&adds, w, h),
         changed,

@@ -31,10 +31,10 @@ module _ {ink : Ink} {pattern : List ℕ} {x y h rows : ℕ} {t m : Tables} (mas
   sound e = record { sound = λ j l. row-sound ink pattern x y rows m masks j ((fit e).1 j l) }
 
 pub tint_rows-requires : goal.tint_rows-requires
-tint_rows-requires c = (not-true _ c.if-not-s.true, (c.requires.0, sound c.masks_at.ensures c.mask_rows-rows.ensures))
+tint_rows-requires c = (not-true _ c.if-not-ink.true, (c.requires.0, sound c.masks_at.ensures c.mask_rows-rows.ensures))
 
-pub returns-then-not-s : goal.returns-then-not-s
-returns-then-not-s c =
+pub returns-then-not-ink : goal.returns-then-not-ink
+returns-then-not-ink c =
     let a = c.args in
     let made = c.masks_at in
     c.tint_rows.ensures
@@ -44,7 +44,7 @@ returns-then-not-s c =
 pub wash_masks-changed-requires : goal.wash_masks-changed-requires
 wash_masks-changed-requires c =
     let p = c.requires in
-    let tiled = not-false _ c.if-not-s.false in
+    let tiled = not-false _ c.if-not-ink.false in
     (p.0, (tiled, (p.1.0 tiled, fit c.mask_rows-rows.ensures)))
 
 pub count_rows-requires : goal.count_rows-requires
