@@ -30,7 +30,6 @@ use Rattle.runs.specs.Asked.{RectOn}
 use Rattle.runs.proofs.Even.{byte_number, even-given, even-counts, even-changes}
 use Rattle.runs.proofs.Runs.{given-once}
 use Rattle.blocks.specs.Blocks.{others}
-use Rattle.blocks.specs.Asked.{PartOn}
 use Rattle.blocks.proofs.Others.{others-most, others-sum}
 
 -- ---- the loop over a row, by its column: as many pixels are written as columns were passed, and r of them changed
@@ -91,21 +90,6 @@ module _ {s : Surface} {m : List ℕ} {x y w h c : ℕ} where
 module _ (s : Surface) (v x y w h : ℕ) (m : List ℕ) (on : RectOn s (length m) x y w h) (some : 0 < h) where
   abbrev colour : 0 < s.bytes
   colour = on.colour.some
-
-  -- a later row and the first can be held to each other
-  pub row-parts : (j : ℕ) → j < h → PartOn s s x (y + j) x y w (length m)
-  row-parts j l = record {
-    format = refl;
-    wide = omega (arith, on.wide);
-    right = on.wide;
-    source_right = omega (arith, on.wide);
-    down = omega (arith, on.high);
-    source_down = omega (arith, on.high);
-    target = on.colour;
-    source = on.colour;
-    on = λ i u. (on.on (x + i) (y + j) (omega arith) (omega arith) (omega arith) (omega arith)).on;
-    source_on = λ i u. (on.on (x + i) y (omega arith) (omega arith) (omega arith) (omega arith)).on;
-  }
 
   one-row : RectOn s (length m) x y w 1
   one-row = record { colour = on.colour; wide = on.wide; high = omega (arith, on.high); on = λ i j a b c d. on.on i j a b c (omega arith) }

@@ -1,6 +1,6 @@
 -- Lines of bytes laid one by one, or as one run where nothing lies between them.
 -- Assumes nothing.
-use mathlib.Core.Path.{◌≡◌, refl, sym, ap, subst, ◌∙◌}
+use mathlib.Core.Path.{◌≡◌, sym, ap, subst, ◌∙◌}
 use mathlib.Core.List.{List}
 use Prim.Native.Nat.{ℕ, ◌+◌, ◌*◌, ◌/◌, ◌%◌, ◌<◌}
 use native.Mathlib.Nat.{mod-lt, add-mul, mul-le-mul_right, div-add-mod', div-lt_iff_lt-mul}
@@ -28,9 +28,6 @@ laid-run d s n h run = record {
   others = λ a out. untouched run a (λ j _ r e. let k = line_of n h j r in out (j / n) (j % n) k.0 k.1 (sym e ∙ ap (λ (i : ℕ). d + i) (sym k.2)));
   long = run.long;
 }
-
-pub laid_none : (d p s r n : ℕ) (m : List ℕ) → Laid d p s r n 0 m m
-laid_none d p s r n m = record { came = λ q i l. absurd (omega arith); others = λ a out. refl; long = refl }
 
 -- ---- one line more
 module _ {d p s r n h len : ℕ} (lines : Lines d p s r n h len) where

@@ -15,9 +15,9 @@ use Rattle.surface.proofs.Bytes.{read_as}
 use Rattle.surface.proofs.OnLaws.{one-most}
 use Rattle.paint.specs.Paint.{summed}
 use Rattle.runs.specs.Runs.{unlikes, RowKept}
-use Rattle.runs.specs.Asked.{PixelsOn, RowHeld}
+use Rattle.runs.specs.Asked.{RowHeld}
 use Rattle.runs.proofs.Runs.{run_inside}
-use Rattle.runs.proofs.Keeping.{row-held, buffer-on}
+use Rattle.runs.proofs.Keeping.{row-held}
 use Rattle.blocks.specs.Blocks.{others, others_down}
 use Rattle.blocks.specs.Asked.{PartOn}
 
@@ -34,9 +34,6 @@ module _ {to from : Surface} {x y sx sy w len : ℕ} (on : PartOn to from x y sx
   -- as buffers hold them
   pub part-fits : w ≤ 256 → w * to.bytes ≤ 1024
   part-fits few = mul-le-mul {n₂ = 256} {m₂ = 4} few (omega (arith, on.target.small.bytes))
-
-  pub part-kept : (room : ℕ) → w ≤ 256 → 1024 ≤ room → PixelsOn 0 to.bytes w room
-  part-kept room few long = buffer-on on.target.some on.target.small.bytes few long
 
   -- some columns of them
   pub part-part : (i k : ℕ) → i + k ≤ w → PartOn to from (x + i) y (sx + i) sy k len
@@ -131,9 +128,6 @@ module _ {to from : Surface} {m : List ℕ} {x y sx sy w : ℕ} where
     pub told-few : r ≤ i
     told-few = omega (arith, now.sum, others-most to from m y sy x sx i)
 
-    pub told-all : w ≤ i → r ≡ others to from m x y sx sy w
-    told-all all = let e : i ≡ w = omega (arith, now.within) in rw e at now.sum
-
 -- ---- a loop over rows that counts: r of the pixels of the first j rows are others
 module _ (to from : Surface) (m : List ℕ) (x y sx sy w : ℕ) where
   down-more : (j h : ℕ) → others_down to from m x y sx sy w j (h + 1) ≡ others_down to from m x y sx sy w j h + others to from m x (y + (j + h)) sx (sy + (j + h)) w
@@ -168,6 +162,3 @@ module _ {to from : Surface} {m : List ℕ} {x y sx sy w : ℕ} where
     -- what was counted is few enough
     pub down-few : w ≤ 2 ^ 13 → j ≤ 2 ^ 13 → r < 2 ^ 32
     down-few wide high = omega (arith, now.sum, down-most to from m x y sx sy w 0 j, mul-le-mul {n₁ = j} {m₁ = w} {n₂ = 2 ^ 13} {m₂ = 2 ^ 13} high wide)
-
-    pub down-all : {h : ℕ} → j ≡ h → r ≡ others_down to from m x y sx sy w 0 h
-    down-all e = rw e at now.sum
