@@ -14,9 +14,6 @@ use Rattle.surface.proofs.Lists.{by_cases}
 use Rattle.wash.specs.Wash.{Repeated, Widened}
 
 -- ---- where the masks begin again
-pub again_none : (period : ℕ) → 0 < period → 0 % period ≡ 0
-again_none period some = mod-eq_of_lt some
-
 pub again_next : (i period : ℕ) → i % period ≡ 0 → (i + period) % period ≡ 0
 again_next i period e = sym (mod-add-mod i period period) ∙ ap (λ (n : ℕ). (n + period) % period) e ∙ rw zero-add (mod_self period)
 
@@ -26,9 +23,6 @@ part-below a k j xs ys l u = search (rules, places)
 
 part-inside : (a k j : ℕ) (xs ys : List ℕ) → j < length ys → a ≤ length xs → get_or (put_mid a k xs ys) (a + j) 0 ≡ get_or ys j 0
 part-inside a k j xs ys l u = search (rules, places)
-
-pub repeated_none : (masks m : List ℕ) → Repeated masks 0 m
-repeated_none masks m = record { bytes = λ i l. absurd (omega arith) }
 
 pub repeated_more : {masks m ys : List ℕ} {i n d' : ℕ} (k d : ℕ) → Repeated masks i m → ys ≡ take d' masks → i % length masks ≡ 0 → k ≤ length masks → i + k ≡ n → d' ≡ k
     → n ≤ length m → Repeated masks n (put_mid i d m ys)
@@ -49,9 +43,6 @@ repeated_more {masks} {m} {ys} {i} {n} {d'} k d before e whole short end same ro
 -- ---- one row more
 of-table : (table : List ℕ) (first d q : ℕ) → q < d → get_or (take d (drop first table)) q 0 ≡ get_or table (first + q) 0
 of-table table first d q l = search (rules, places)
-
-pub widened_none : (table : List ℕ) (period n : ℕ) (m : List ℕ) → Widened table 0 period n m
-widened_none table period n m = record { bytes = λ r i l. absurd (omega arith) }
 
 pub widened_more : {table masks m ys : List ℕ} {r period n e : ℕ} (d : ℕ) → n ≤ 160 → Widened table r period n m → Repeated masks e ys → masks ≡ take period (drop (r * period) table)
     → 0 < period → r * period + period ≤ length table → e ≡ n → length ys ≡ n → r * 160 + n ≤ length m → Widened table (r + 1) period n (put_mid (r * 160) d m ys)

@@ -7,12 +7,6 @@ use Prim.Native.Nat.{ℕ, ◌+◌, ◌*◌, ◌/◌}
 use Rattle.wash.proofs.Counting.{by-eights}
 use Rattle.wash.proofs.count_row.Goals as goal
 
-pub overflow_mul-result : goal.overflow_mul-result
-overflow_mul-result c = omega (arith, mul-le-mul_left (c.args.w / 8) c.count_few.ensures.1, c.requires.1)
-
-pub overflow_add-result : goal.overflow_add-result
-overflow_add-result c = omega (arith, mul-le-mul_left (c.args.w / 8) c.count_few.ensures.1, c.requires.1, c.count_few-2.ensures.1)
-
 pub returns : goal.returns
 returns c =
     let a = c.args in (

@@ -1,21 +1,9 @@
 -- `wash::count_rows` meets its contract: what was counted, and what remains, is all.
 -- Assumes nothing.
 use native.Mathlib.Omega.{arith}
-use mathlib.Core.Path.{◌≡◌, sym, ◌∙◌}
-use Prim.Native.Nat.{◌-◌}
+use mathlib.Core.Path.{sym, ◌∙◌}
 use Rattle.wash.proofs.Counting.{rows-turn, rows-done}
 use Rattle.wash.proofs.count_rows.Goals as goal
-
-pub loop-j-init : goal.loop-j-init
-loop-j-init c = let e : c.args.h - 0 ≡ c.args.h = omega arith in (rw e (omega arith), omega arith)
-
-pub count_row-r-requires : goal.count_row-r-requires
-count_row-r-requires c =
-    let p = c.requires in
-    (p.2 c.loop-j.j c.loop-j-test.true, p.0)
-
-pub overflow_add-r : goal.overflow_add-r
-overflow_add-r c = omega (arith, c.count_row-r.ensures.1, c.requires, c.loop-j.invariant.1, c.loop-j-test.true)
 
 pub loop-j-preserved : goal.loop-j-preserved
 loop-j-preserved c =

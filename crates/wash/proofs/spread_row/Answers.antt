@@ -2,11 +2,8 @@
 -- Assumes nothing.
 use native.Mathlib.Omega.{arith}
 use lib.ListN.{length}
-use Rattle.wash.proofs.Spreading.{again_none, again_next, repeated_none, repeated_more}
+use Rattle.wash.proofs.Spreading.{again_next, repeated_more}
 use Rattle.wash.proofs.spread_row.Goals as goal
-
-pub loop-i-init : goal.loop-i-init
-loop-i-init c = let a = c.args in (repeated_none a.masks.now a.out.now, omega arith, again_none (length a.masks.now) c.requires)
 
 pub loop-i-preserved : goal.loop-i-preserved
 loop-i-preserved c =

@@ -1,20 +1,10 @@
 -- `wash::wash_masks` meets its contract: the tables made wide change the bytes as the tables do.
 -- Assumes nothing.
 use mathlib.Core.Path.{◌≡◌}
-use Prim.Native.Nat.{ℕ, ◌*◌, ◌^◌, ◌<◌, min}
+use Prim.Native.Nat.{ℕ, ◌<◌, min}
 use native.Mathlib.Omega.{arith}
-use Rattle.surface.specs.declared.Surface.{Surface}
-use Rattle.surface.proofs.Bytes.{product_lt}
-use Rattle.runs.specs.Asked.{RectOn}
 use Rattle.wash.proofs.Tables.{rows-can, as-tables}
 use Rattle.wash.proofs.wash_masks.Goals as goal
-
--- the bytes of a row
-few : {s : Surface} {len x y w h : ℕ} → RectOn s len x y w h → w * s.bytes < 2 ^ 17
-few {s} {w = w} on = product_lt 14 3 {a = w} {b = s.bytes} (omega (arith, on.wide)) (omega (arith, on.colour.small.bytes))
-
-pub overflow_mul-w : goal.overflow_mul-w
-overflow_mul-w c = omega (arith, few c.requires.0)
 
 -- how many of them are made
 enough : {n many : ℕ} → many ≡ min n 160 → (i : ℕ) → i < 160 → i < n → i < many

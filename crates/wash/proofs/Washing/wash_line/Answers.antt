@@ -40,9 +40,6 @@ more {t} {first} {x} {y} {w} {i} {m₀ = m₀} k can on done part eights e fits 
       changes = omega (arith, sum, done.changes, part.changes);
     })
 
-pub overflow_add-x : goal.overflow_add-x
-overflow_add-x c = omega (arith, c.requires.1.wide)
-
 pub wash_part-r-requires : goal.wash_part-r-requires
 wash_part-r-requires c =
     let a = c.args in
@@ -67,9 +64,6 @@ loop-i-preserved c =
     let p = c.requires in
     let l = c.loop-i in
     (more c.min.result p.0 p.1 l.invariant.0 c.wash_part-r.ensures l.invariant.2 (omega arith) (omega arith), omega arith, omega (arith, l.invariant.2))
-
-pub returns : goal.returns
-returns c = let l = c.loop-i in let end : l.i ≡ c.args.w = omega (arith, l.invariant.1, c.loop-i-test.false) in rw end at l.invariant.0
 
 pub returns-2 : goal.returns-2
 returns-2 c =

@@ -2,7 +2,7 @@
 -- Assumes nothing.
 use native.Mathlib.Nat.{mul-le-mul}
 use native.Mathlib.Omega.{arith}
-use mathlib.Core.Path.{◌≡◌, refl}
+use mathlib.Core.Path.{refl}
 use mathlib.Core.List.{List}
 use Prim.Native.Nat.{ℕ, ◌+◌, ◌*◌, ◌%◌, ◌^◌, ◌<◌, ◌≤◌}
 use lib.ListN.{length}
@@ -25,17 +25,6 @@ loop-j-init c =
     let t = a.self.now in
     let b = t.s.bytes in
     record { put = put-none t.s (by_rows t (a.x * b) a.y a.mem.now) (a.x * b) a.y (a.w * b) 0 a.mem.now (λ p i. omega arith); changes = refl }
-
-pub overflow_add-y : goal.overflow_add-y
-overflow_add-y c = omega (arith, c.requires.0.high)
-
-pub wash_line-r-requires : goal.wash_line-r-requires
-wash_line-r-requires c =
-    let a = c.args in
-    let p = c.requires in
-    let l = c.loop-j in
-    let taken = c.loop-j-test.true in
-    rw l.invariant.put.long (p.1 l.j taken, record { wide = p.0.wide; on = λ i low high. p.0.on i (a.y + l.j) low high (omega arith) (omega (arith, taken)) })
 
 -- one row more
 more : {t : Washing} {x y w h j r d : ℕ} {m₀ m m' : List ℕ} → RectOn t.s (length m₀) x y w h → j < h → x * t.s.bytes + w * t.s.bytes ≤ row_bytes t.s → RowsWashed t x y w j r m₀ m
@@ -69,9 +58,3 @@ loop-j-preserved c =
     let l = c.loop-j in
     let taken = c.loop-j-test.true in
     more p.0 taken (p.1 l.j taken).wide l.invariant c.wash_line-r.ensures
-
-pub shape_of-mem : goal.shape_of-mem
-shape_of-mem c = c.loop-j.invariant.put.long
-
-pub returns : goal.returns
-returns c = let l = c.loop-j in let end : l.j ≡ c.args.h = omega (arith, c.loop-j-test.false) in rw end at l.invariant

@@ -1,21 +1,16 @@
 -- `wash::Washing::wash_row` meets its contract: the pieces so far are changed.
 -- Assumes nothing.
-use mathlib.Core.Path.{◌≡◌, sym, ap, subst, ◌∙◌}
+use mathlib.Core.Path.{sym, ap, subst, ◌∙◌}
 use Prim.Native.Nat.{ℕ, ◌+◌, ◌-◌, ◌*◌, ◌%◌, ◌<◌}
 use native.Mathlib.Nat.{mod-lt}
 use native.Mathlib.Omega.{arith}
 use Rattle.surface.specs.Place.{byte_at}
 use Rattle.tint.specs.Masking.{blended}
 use Rattle.blocks.specs.Blocks.{Put}
-use Rattle.blocks.proofs.Blocks.{row_small, put-none}
-use Rattle.wash.specs.Wash.{washed, by_row}
+use Rattle.blocks.proofs.Blocks.{row_small}
+use Rattle.wash.specs.Wash.{washed}
 use Rattle.wash.proofs.Pieces.{piece-at, piece-put, piece-more}
 use Rattle.wash.proofs.Washing.wash_row.Goals as goal
-
-pub loop-i-init : goal.loop-i-init
-loop-i-init c =
-    let a = c.args in
-    (put-none a.self.now.s (by_row a.self.now a.first a.x a.mem.now) a.x a.y 0 1 a.mem.now (λ p i. omega arith), omega arith)
 
 pub overflow_add-x : goal.overflow_add-x
 overflow_add-x c = let p = c.requires in omega (arith, p.wide, row_small _ p.small)
@@ -27,14 +22,6 @@ pub byte_at-at-requires : goal.byte_at-at-requires
 byte_at-at-requires c =
     let p = c.requires in
     record { small = p.small; across = omega (arith, p.wide, row_small _ p.small, c.loop-i-test.true); down = omega (arith, p.high) }
-
-pub nonzero_rem-i : goal.nonzero_rem-i
-nonzero_rem-i c = omega (arith, c.requires.steps.some)
-
-pub overflow_add-first : goal.overflow_add-first
-overflow_add-first c =
-    let p = c.requires in
-    omega (arith, p.room, p.steps.few, mod-lt c.loop-i.i p.steps.some)
 
 pub tint_bytes-requires : goal.tint_bytes-requires
 tint_bytes-requires c =
@@ -48,15 +35,6 @@ tint_bytes-requires c =
       omega (arith, p.room, p.steps.few, e.2 p.tiled),
       omega (arith, p.room, p.steps.few, e.2 p.tiled),
     )
-
-pub overflow_add-i : goal.overflow_add-i
-overflow_add-i c = omega (arith, c.to_edge-k.ensures.0)
-
-pub loop-i-smaller : goal.loop-i-smaller
-loop-i-smaller c =
-    let e = c.to_edge-k.ensures in
-    let taken = c.loop-i-test.true in
-    omega (arith, e.0, e.1 (omega arith))
 
 pub loop-i-preserved : goal.loop-i-preserved
 loop-i-preserved c =
@@ -74,13 +52,3 @@ loop-i-preserved c =
           (subst (Put a.self.now.s (washed a.self.now.s a.self.now.keep a.self.now.flip (λ q. from + (q.x - (a.x + l.i))) l.mem) (a.x + l.i) a.y k 1 l.mem) (sym made) piece),
       omega (arith, e.0),
     )
-
-pub shape_of-mem : goal.shape_of-mem
-shape_of-mem c = c.loop-i.invariant.0.long
-
-pub returns : goal.returns
-returns c =
-    let a = c.args in
-    let l = c.loop-i in
-    let end : l.i ≡ a.n = omega (arith, c.loop-i-test.false, l.invariant.1) in
-    subst (λ (i : ℕ). Put a.self.now.s (by_row a.self.now a.first a.x a.mem.now) a.x a.y i 1 a.mem.now l.mem) end l.invariant.0
