@@ -106,7 +106,7 @@ struct Pair {
 }
 
 impl Buffers {
-    pub fn empty() -> Buffers {
+    fn empty() -> Buffers {
         Buffers {
             old: [0; 1024],
             new: [0; 1024],

@@ -115,7 +115,10 @@ impl Washing {
         requires { RectOn self.now.s (length mem.old) x y w h × ((j : ℕ) → j < h → CanWash self.now (j % 8 * 160) (x * self.now.s.bytes) (y + j) (w * self.now.s.bytes) (length mem.old)) }
         ensures { RowsWashed self.now x y w h result mem.old mem.new }
     {
-        let mut buffers = Buffers::empty();
+        let mut buffers = Buffers {
+            old: [0; 1024],
+            new: [0; 1024],
+        };
         let mut r = 0;
         for j in 0..h {
             let first = (j % 8 * 160) as usize;
