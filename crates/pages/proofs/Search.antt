@@ -8,13 +8,13 @@ use native.Mathlib.Omega.{arith}
 use native.Mathlib.Decide.{ℕ_discrete}
 use lib.ListN.{get_or}
 use Rattle.surface.proofs.Lists.{by_cases}
-use Rattle.pages.specs.declared.Marked.TheVariants.{At, Nothing}
+use Rattle.std.specs.Prelude.{Some, None}
 use Rattle.pages.specs.Pages.{first_from, count_from}
 use Rattle.pages.proofs.MarkLaws.{either}
 
 -- ---- a turn of the loop
 module _ (marks : List Bool) (k past : ℕ) where
-  pub first-here : k < past → get_or marks k false ≡ true → At k ≡ first_from marks k (past - k)
+  pub first-here : k < past → get_or marks k false ≡ true → Some k ≡ first_from marks k (past - k)
   unfolding first_from
   first-here h e = let q : past - k ≡ suc (past - (k + 1)) = omega arith in rw (q, e)
 
@@ -22,7 +22,7 @@ module _ (marks : List Bool) (k past : ℕ) where
   unfolding first_from
   first-later h e = let q : past - k ≡ suc (past - (k + 1)) = omega arith in rw (q, e)
 
-  pub first-none : past ≤ k → Nothing ≡ first_from marks k (past - k)
+  pub first-none : past ≤ k → None ≡ first_from marks k (past - k)
   unfolding first_from
   first-none h = let q : past - k ≡ 0 = omega arith in rw q
 
@@ -45,7 +45,7 @@ pub record First (marks : List Bool) (page n k : ℕ) : Type 0 where
   pub marked : get_or marks k false ≡ true
   pub before : (j : ℕ) → page ≤ j → j < k → get_or marks j false ≡ false
 
-at_same : {a b : ℕ} → At a ≡ At b → a ≡ b
+at_same : {a b : ℕ} → Some a ≡ Some b → a ≡ b
 at_same e = cc
 
 module _ (marks : List Bool) where
@@ -55,7 +55,7 @@ module _ (marks : List Bool) where
   from-here page k e f j g h =
       by_cases (ℕ_discrete j page) (λ q. ap (λ (i : ℕ). get_or marks i false) q ∙ e) (λ q. f j (omega arith) h)
 
-  pub first_found : (page n k : ℕ) → first_from marks page n ≡ At k → First marks page n k
+  pub first_found : (page n k : ℕ) → first_from marks page n ≡ Some k → First marks page n k
   unfolding first_from
   first_found page zero k e = absurd (let z : ◌≡◌ {A = ℕ} 0 1 = cc in omega arith)
   first_found page (suc n) k e =
@@ -67,7 +67,7 @@ module _ (marks : List Bool) where
       let r = first_found (page + 1) n k (rw t at e) in
       record { low = omega (arith, r.low); high = omega (arith, r.high); marked = r.marked; before = from-here page k t r.before })
 
-  pub first-nothing : (page n : ℕ) → first_from marks page n ≡ Nothing → (j : ℕ) → page ≤ j → j < page + n → get_or marks j false ≡ false
+  pub first-nothing : (page n : ℕ) → first_from marks page n ≡ None → (j : ℕ) → page ≤ j → j < page + n → get_or marks j false ≡ false
   unfolding first_from
   first-nothing page zero e = λ j g h. absurd (omega arith)
   first-nothing page (suc n) e =

@@ -1,11 +1,9 @@
 -- Pages of 4,096 bytes, the marks of those in which a pixel was written, the first marked one and how many there are.
 -- Assumes nothing.
-use Rattle.std.specs.Prelude.{Bool, true, false, cond, List, [], ◌∷◌, ℕ, zero, suc, ◌+◌, ◌-◌, ◌/◌, get_or, set, replicate}
+use Rattle.std.specs.Prelude.{Bool, true, false, cond, List, [], ◌∷◌, ℕ, zero, suc, ◌+◌, ◌-◌, ◌/◌, get_or, set, replicate, Option, Some, None}
 use Rattle.surface.specs.declared.Surface.{Surface}
 use Rattle.surface.specs.Pixels.{Px}
 use Rattle.spans.specs.Span.{addresses}
-use Rattle.pages.specs.declared.Marked.{Marked}
-use Rattle.pages.specs.declared.Marked.TheVariants.{At, Nothing}
 
 -- the page of an address
 abbrev pub page_of : ℕ → ℕ
@@ -25,12 +23,12 @@ abbrev pub marking : Surface → List Px → List Bool → List Bool
 marking s ps marks = marked_at (addresses s ps) marks
 
 -- the first marked one of n pages from number k on
-unfoldable pub first_from : List Bool → ℕ → ℕ → Marked
-first_from marks k zero = Nothing
-first_from marks k (suc n) = cond (get_or marks k false) (At k) (first_from marks (k + 1) n)
+unfoldable pub first_from : List Bool → ℕ → ℕ → Option ℕ
+first_from marks k zero = None
+first_from marks k (suc n) = cond (get_or marks k false) (Some k) (first_from marks (k + 1) n)
 
 -- of all, at or after a number
-abbrev pub first_marked : List Bool → ℕ → Marked
+abbrev pub first_marked : List Bool → ℕ → Option ℕ
 first_marked marks page = first_from marks page (4096 - page)
 
 -- how many of n pages from number k on are marked

@@ -10,12 +10,6 @@ ghost use Rattle.pages.specs.Asked.{MarkablePixel, Markable, InBand, Sized};
 
 use surface::Surface;
 
-#[derive(Clone, Copy)]
-pub enum Marked {
-    At(u32),
-    Nothing,
-}
-
 // The pages from first up to, and without, past; and whether each of them has a byte of a written pixel for sure.
 #[derive(Clone, Copy)]
 pub struct Extent {
@@ -35,10 +29,8 @@ pub fn mark_pages(marks: &mut [bool; 4096], first: usize, past: usize)
     requires { past ≤ 4096 }
     ensures { marks.new ≡ marked_at (starts first (past - first)) marks.old }
 {
-    let mut page = first;
-    while page < past {
+    for page in first..past {
         marks[page] = true;
-        page += 1;
     }
 }
 
@@ -47,12 +39,9 @@ pub fn mark_pixel(marks: &mut [bool; 4096], s: Surface, x: u32, y: u32)
     requires { MarkablePixel s x y }
     ensures { marks.new ≡ marking s (px x y ∷ []) marks.old }
 {
-    let n = s.bytes;
-    let mut k: u32 = 0;
-    while k < n {
+    for k in 0..s.bytes {
         let at = surface::byte_of(s, x, y, k);
         marks[at / 4096] = true;
-        k += 1;
     }
 }
 
@@ -61,12 +50,12 @@ fn band(s: Surface, y: u32, h: u32) -> u32
     ensures { (result ≡ band_of s y h) × (result ≤ h) × (0 < h → 0 < result) }
 {
     if s.tiled {
-        return surface::least(h, 32 - y % 32);
+        return h.min(32 - y % 32);
     }
     if s.stride <= 4096 {
         return h;
     }
-    surface::least(h, 1)
+    h.min(1)
 }
 
 // The page of a rectangle's first byte, and that of its last.
@@ -74,15 +63,15 @@ fn first_page(s: Surface, x: u32, y: u32) -> usize
     requires { Small s × (x ≤ 2 ^ 13) }
     ensures { result ≡ first_page s x y }
 {
-    surface::byte_at(s, surface::wide(x * s.bytes), surface::wide(y)) / 4096
+    surface::byte_at(s, (x * s.bytes) as usize, y as usize) / 4096
 }
 
 fn last_page(s: Surface, x: u32, y: u32, w: u32, h: u32) -> usize
     requires { Sized s x y w h × (0 < w) × (0 < h) }
     ensures { result ≡ last_page s x y w h }
 {
-    let column = surface::wide((x + w) * s.bytes - 1);
-    surface::byte_at(s, column, surface::wide(y + (h - 1))) / 4096
+    let column = ((x + w) * s.bytes - 1) as usize;
+    surface::byte_at(s, column, (y + (h - 1)) as usize) / 4096
 }
 
 // The pages of a rectangle in one band: those from its first byte to its last.
@@ -103,6 +92,7 @@ pub fn mark_rect(marks: &mut [bool; 4096], s: Surface, x: u32, y: u32, w: u32, h
         return;
     }
     let mut j: u32 = 0;
+    // while: the step is what `band` answers
     while j < h {
         let n = band(s, y + j, h - j);
         mark_band(marks, s, x, y + j, w, n);
@@ -127,7 +117,7 @@ pub fn extent_of(s: Surface, x: u32, y: u32, w: u32, h: u32, count: u32) -> Exte
         let last = last_page(s, x, y, w, h);
         if last < 4096 {
             return Extent {
-                first: first,
+                first,
                 past: last + 1,
                 whole: (first == last) | ((count == w * h) & (band(s, y, h) == h)),
             };
@@ -141,17 +131,15 @@ pub fn extent_of(s: Surface, x: u32, y: u32, w: u32, h: u32, count: u32) -> Exte
 }
 
 // The first marked page at or after a number.
-pub fn first_marked(marks: &[bool; 4096], page: u32) -> Marked
+pub fn first_marked(marks: &[bool; 4096], page: u32) -> Option<u32>
     ensures { result ≡ first_marked marks.now page }
 {
-    let mut k = page;
-    while k < 4096 {
+    for k in page..4096 {
         if marks[k as usize] {
-            return Marked::At(k);
+            return Some(k);
         }
-        k += 1;
     }
-    Marked::Nothing
+    None
 }
 
 // How many pages are marked.
@@ -159,12 +147,10 @@ pub fn count_marked(marks: &[bool; 4096]) -> u32
     ensures { result ≡ count_marked marks.now }
 {
     let mut n: u32 = 0;
-    let mut k: usize = 0;
-    while k < 4096 {
-        if marks[k] {
+    for &marked in marks {
+        if marked {
             n += 1;
         }
-        k += 1;
     }
     n
 }

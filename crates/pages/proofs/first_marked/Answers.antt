@@ -1,7 +1,6 @@
 -- `pages::first_marked` meets its contract: the search from here on finds what that from the start does.
 -- Assumes nothing.
 use mathlib.Core.Path.{◌∙◌}
-use Prim.Native.Nat.{◌-◌}
 use Rattle.pages.proofs.Search.{first-here, first-later, first-none}
 use Rattle.pages.proofs.first_marked.Goals as goal
 

@@ -7,6 +7,3 @@ use Rattle.pages.proofs.first_marked.Given as goal
 
 abbrev pub invariant-loop-k : goal.invariant-loop-k
 invariant-loop-k l = first_from l.marks l.k (4096 - l.k) ≡ first_from l.marks l.page (4096 - l.page)
-
-abbrev pub decreases-loop-k : goal.decreases-loop-k
-decreases-loop-k l = 4096 - l.k

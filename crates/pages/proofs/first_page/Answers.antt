@@ -1,8 +1,7 @@
 -- `pages::first_page` meets its contract.
 -- Assumes nothing.
-use mathlib.Core.Path.{ap, ap₂, ◌∙◌}
+use mathlib.Core.Path.{ap}
 use native.Mathlib.Omega.{arith}
-use Rattle.surface.specs.Place.{byte_at}
 use Rattle.pages.specs.Pages.{page_of}
 use Rattle.pages.proofs.RectLaws.{column-small}
 use Rattle.pages.proofs.first_page.Goals as goal
@@ -16,5 +15,4 @@ byte_at-requires c =
 
 pub returns : goal.returns
 returns c =
-    let a = c.args in
-    ap page_of (c.byte_at.ensures ∙ ap₂ (byte_at a.s) c.wide.ensures c.wide-2.ensures)
+    ap page_of c.byte_at.ensures

@@ -1,7 +1,6 @@
 -- `pages::mark_pages` meets its contract: the pages left to mark, marked now, are all of them, marked at the start.
 -- Assumes nothing.
 use mathlib.Core.Path.{refl, sym, ◌∙◌}
-use Prim.Native.Nat.{◌-◌}
 use Rattle.pages.proofs.MarkLaws.{starts-cons, starts_none}
 use Rattle.pages.proofs.mark_pages.Goals as goal
 

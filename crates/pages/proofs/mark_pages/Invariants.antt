@@ -8,6 +8,3 @@ use Rattle.pages.proofs.mark_pages.Given as goal
 
 abbrev pub invariant-loop-page : goal.invariant-loop-page
 invariant-loop-page l = marked_at (starts l.page (l.past - l.page)) l.marks ≡ marked_at (starts l.first (l.past - l.first)) l.initial.marks
-
-abbrev pub decreases-loop-page : goal.decreases-loop-page
-decreases-loop-page l = l.past - l.page

@@ -9,7 +9,4 @@ use Rattle.pages.specs.Pages.{marked_at, marking}
 use Rattle.pages.proofs.mark_pixel.Given as goal
 
 abbrev pub invariant-loop-k : goal.invariant-loop-k
-invariant-loop-k l = marked_at (addresses_of l.s (l.x * l.s.bytes + l.k) (l.n - l.k) l.y) l.marks ≡ marking l.s (px l.x l.y ∷ []) l.initial.marks
-
-abbrev pub decreases-loop-k : goal.decreases-loop-k
-decreases-loop-k l = l.n - l.k
+invariant-loop-k l = marked_at (addresses_of l.s (l.x * l.s.bytes + l.k) (l.s.bytes - l.k) l.y) l.marks ≡ marking l.s (px l.x l.y ∷ []) l.initial.marks
