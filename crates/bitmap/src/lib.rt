@@ -5,20 +5,12 @@ ghost use Rattle.std.specs.Prelude.{◌≡◌, ◌+◌, ◌-◌, ◌/◌, ◌%�
 ghost use Rattle.pages.specs.Pages.{first_marked, count_marked};
 ghost use Rattle.bitmap.specs.Bits.{bits_in, with_bit, with_bits, with_marks, cleared};
 
-use pages::Marked;
-
-fn wide(x: u8) -> u32
-    ensures { (result ≡ x) × (result < 256) }
-{
-    x as u32
-}
-
 // Bit k and those above it in its byte.
 fn rest_of(s: &[u8], at: usize, k: usize) -> u32
     requires { (at + 512 ≤ length s.now) × (k < 4096) }
     ensures { result ≡ get_or s.now (at + k / 8) 0 / 2 ^ (k % 8) }
 {
-    wide(s[at + k / 8]) >> ((k % 8) as u32)
+    s[at + k / 8] as u32 >> (k % 8) as u32
 }
 
 fn set_bit(s: &mut [u8], at: usize, k: usize)
@@ -27,7 +19,7 @@ fn set_bit(s: &mut [u8], at: usize, k: usize)
 {
     let i = at + k / 8;
     let j = (k % 8) as u32;
-    let byte = wide(s[i]);
+    let byte = s[i] as u32;
     if (byte >> j) % 2 == 0 {
         s[i] = (byte + (1u32 << j)) as u8;
     }
@@ -38,10 +30,8 @@ pub fn set_bits(s: &mut [u8], at: usize, first: usize, past: usize)
     requires { (at + 512 ≤ length s.old) × (past ≤ 4096) }
     ensures { s.new ≡ with_bits s.old at first (past - first) }
 {
-    let mut k = first;
-    while k < past {
+    for k in first..past {
         set_bit(s, at, k);
-        k += 1;
     }
 }
 
@@ -50,12 +40,10 @@ pub fn add_marks(s: &mut [u8], at: usize, marks: &[bool; 4096], first: usize, pa
     requires { (at + 512 ≤ length s.old) × (past ≤ 4096) }
     ensures { s.new ≡ with_marks s.old at marks.now first (past - first) }
 {
-    let mut k = first;
-    while k < past {
+    for k in first..past {
         if marks[k] {
             set_bit(s, at, k);
         }
-        k += 1;
     }
 }
 
@@ -63,24 +51,22 @@ pub fn clear_bits(s: &mut [u8], at: usize)
     requires { at + 512 ≤ length s.old }
     ensures { s.new ≡ cleared s.old at 512 }
 {
-    let past = at + 512;
-    let mut i = at;
-    while i < past {
+    for i in at..at + 512 {
         s[i] = 0;
-        i += 1;
     }
 }
 
 // The first page at or after a number whose bit is set. Where no more bits of a byte are, the search goes on at the next byte.
-pub fn first_bit(s: &[u8], at: usize, page: u32) -> Marked
+pub fn first_bit(s: &[u8], at: usize, page: u32) -> Option<u32>
     requires { at + 512 ≤ length s.now }
     ensures { result ≡ first_marked (bits_in s.now at) page }
 {
     let mut k = page as usize;
+    // while: eight pages at a time where no bit of their byte is set
     while k < 4096 {
         let rest = rest_of(s, at, k);
         if rest % 2 == 1 {
-            return Marked::At(k as u32);
+            return Some(k as u32);
         }
         if rest == 0 {
             k = k / 8 * 8 + 8;
@@ -88,7 +74,7 @@ pub fn first_bit(s: &[u8], at: usize, page: u32) -> Marked
             k += 1;
         }
     }
-    Marked::Nothing
+    None
 }
 
 // How many bits are set.
@@ -98,6 +84,7 @@ pub fn count_bits(s: &[u8], at: usize) -> u32
 {
     let mut n: u32 = 0;
     let mut k: usize = 0;
+    // while: as in `first_bit`
     while k < 4096 {
         let rest = rest_of(s, at, k);
         if rest == 0 {

@@ -2,12 +2,8 @@
 -- Assumes nothing.
 use mathlib.Core.Path.{◌≡◌}
 use Prim.Native.Nat.{◌-◌}
-use lib.ListN.{length}
 use Rattle.bitmap.specs.Bits.{with_marks}
 use Rattle.bitmap.proofs.add_marks.Given as goal
 
 abbrev pub invariant-loop-k : goal.invariant-loop-k
-invariant-loop-k l = (with_marks l.s l.at l.marks l.k (l.past - l.k) ≡ with_marks l.initial.s l.at l.marks l.first (l.past - l.first)) × (length l.s ≡ length l.initial.s)
-
-abbrev pub decreases-loop-k : goal.decreases-loop-k
-decreases-loop-k l = l.past - l.k
+invariant-loop-k l = with_marks l.s l.at l.marks l.k (l.past - l.k) ≡ with_marks l.initial.s l.at l.marks l.first (l.past - l.first)

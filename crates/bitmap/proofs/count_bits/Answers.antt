@@ -1,6 +1,5 @@
 -- `count_bits` meets its contract: those counted and those left are all.
 -- Assumes nothing.
-use Prim.Native.Nat.{◌-◌}
 use native.Mathlib.Omega.{arith}
 use Rattle.pages.proofs.Search.{count_none}
 use Rattle.bitmap.specs.Bits.{bits_in}

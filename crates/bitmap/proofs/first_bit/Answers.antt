@@ -1,7 +1,6 @@
 -- `first_bit` meets its contract: the search from here on finds what that from the start does.
 -- Assumes nothing.
 use mathlib.Core.Path.{◌∙◌}
-use Prim.Native.Nat.{◌-◌}
 use borrow.Author.Tests.{eq-eqb, ne_eqb}
 use Rattle.pages.proofs.Search.{first-here, first-later, first-none}
 use Rattle.bitmap.proofs.Turns.{rest-bit, first-skip}

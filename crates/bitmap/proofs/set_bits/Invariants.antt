@@ -2,12 +2,8 @@
 -- Assumes nothing.
 use mathlib.Core.Path.{◌≡◌}
 use Prim.Native.Nat.{◌-◌}
-use lib.ListN.{length}
 use Rattle.bitmap.specs.Bits.{with_bits}
 use Rattle.bitmap.proofs.set_bits.Given as goal
 
 abbrev pub invariant-loop-k : goal.invariant-loop-k
-invariant-loop-k l = (with_bits l.s l.at l.k (l.past - l.k) ≡ with_bits l.initial.s l.at l.first (l.past - l.first)) × (length l.s ≡ length l.initial.s)
-
-abbrev pub decreases-loop-k : goal.decreases-loop-k
-decreases-loop-k l = l.past - l.k
+invariant-loop-k l = with_bits l.s l.at l.k (l.past - l.k) ≡ with_bits l.initial.s l.at l.first (l.past - l.first)
