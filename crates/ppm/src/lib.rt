@@ -27,10 +27,8 @@ pub fn say(out: &mut [u8], at: usize, text: &[u8]) -> usize
     ensures { page out.new result ≡ said text.now (page out.old at) }
 {
     let mut to = at;
-    let mut i = 0;
-    while i < text.len() {
-        to = put(out, to, text[i]);
-        i += 1;
+    for &b in text {
+        to = put(out, to, b);
     }
     to
 }
@@ -51,11 +49,9 @@ pub fn say_number(out: &mut [u8], at: usize, n: u64, after: u8) -> usize
 {
     let mut to = at;
     let mut power: u64 = 10_000_000_000_000_000_000;
-    let mut k: u32 = 20;
-    while 0 < k {
+    for k in (0..20u32).rev() {
         to = say_digit(out, to, n, power);
-        power = power / 10;
-        k -= 1;
+        power /= 10;
     }
     put(out, to, after)
 }
@@ -97,12 +93,8 @@ fn say_row(out: &mut [u8], at: usize, mem: &[u8], s: Surface, x: u32, w: u32, y:
     ensures { page out.new result ≡ said (lines s mem.now (across false x w y)) (page out.old at) }
 {
     let mut to = at;
-    let mut column = x;
-    let mut left = w;
-    while 0 < left {
+    for column in x..x + w {
         to = say_pixel(out, to, mem, s, column, y);
-        column += 1;
-        left -= 1;
     }
     to
 }
@@ -121,12 +113,8 @@ fn say_rows(
     ensures { page out.new result ≡ said (lines s mem.now (rect false false x y w h)) (page out.old at) }
 {
     let mut to = at;
-    let mut row = y;
-    let mut left = h;
-    while 0 < left {
+    for row in y..y + h {
         to = say_row(out, to, mem, s, x, w, row);
-        row += 1;
-        left -= 1;
     }
     to
 }

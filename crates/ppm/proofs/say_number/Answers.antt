@@ -10,23 +10,18 @@ use Rattle.ppm.proofs.say_number.Goals as goal
 
 pub loop-k-init : goal.loop-k-init
 unfolding decimal
-loop-k-init c = (refl, refl, refl)
+loop-k-init c = (refl, refl)
 
 pub say_digit-to-requires : goal.say_digit-to-requires
-say_digit-to-requires c = let k = c.loop-k in power-some k.power k.k c.loop-k-test.true k.invariant.2
+say_digit-to-requires c = let k = c.loop-k in power-some k.power k.k c.loop-k-test.true k.invariant.1
 
 pub loop-k-preserved : goal.loop-k-preserved
 loop-k-preserved c =
-    let a = c.args in
     let k = c.loop-k in
     let some = c.loop-k-test.true in (
-      digits-again k.power a.n k.k (page k.out k.to) _ some k.invariant.2 c.say_digit-to.ensures ∙ k.invariant.0,
-      c.say_digit-to.auto.out ∙ k.invariant.1,
-      power-again k.power k.k some k.invariant.2,
+      digits-again k.power c.args.n k.k (page k.out k.to) _ some k.invariant.1 c.say_digit-to.ensures ∙ k.invariant.0,
+      power-again k.power k.k some k.invariant.1,
     )
-
-pub shape_of-out : goal.shape_of-out
-shape_of-out c = c.put.auto.out ∙ c.loop-k.invariant.1
 
 pub returns : goal.returns
 unfolding each numeral

@@ -2,13 +2,8 @@
 -- Assumes nothing.
 use mathlib.Core.Path.{◌≡◌}
 use Prim.Native.Nat.{◌/◌, ◌^◌}
-use lib.ListN.{length}
 use Rattle.ppm.specs.Text.{page, said, digits, decimal}
 use Rattle.ppm.proofs.say_number.Given as goal
 
 abbrev pub invariant-loop-k : goal.invariant-loop-k
-invariant-loop-k l =
-    (said (digits l.k l.n) (page l.out l.to) ≡ said (decimal l.n) (page l.initial.out l.at)) × (length l.out ≡ length l.initial.out) × (l.power ≡ 10 ^ l.k / 10)
-
-abbrev pub decreases-loop-k : goal.decreases-loop-k
-decreases-loop-k l = l.k
+invariant-loop-k l = (said (digits l.k l.n) (page l.out l.to) ≡ said (decimal l.n) (page l.initial.out l.at)) × (l.power ≡ 10 ^ l.k / 10)

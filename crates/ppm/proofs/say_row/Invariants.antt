@@ -2,7 +2,7 @@
 -- Assumes nothing.
 use mathlib.Core.Path.{◌≡◌}
 use mathlib.Core.Bool.{false}
-use Prim.Native.Nat.{◌+◌, ◌^◌, ◌<◌}
+use Prim.Native.Nat.{◌+◌, ◌-◌}
 use lib.ListN.{length}
 use Rattle.surface.specs.Pixels.{across}
 use Rattle.ppm.specs.Text.{page, said}
@@ -10,10 +10,8 @@ use Rattle.ppm.specs.Picture.{lines}
 use Rattle.ppm.specs.Asked.{RowOn}
 use Rattle.ppm.proofs.say_row.Given as goal
 
-abbrev pub invariant-loop-left : goal.invariant-loop-left
-invariant-loop-left l =
-    (said (lines l.s l.mem (across false l.column l.left l.y)) (page l.out l.to) ≡ said (lines l.s l.mem (across false l.x l.w l.y)) (page l.initial.out l.at))
-    × (length l.out ≡ length l.initial.out) × RowOn l.s (length l.mem) l.column l.left l.y × (l.column + l.left < 2 ^ 13)
-
-abbrev pub decreases-loop-left : goal.decreases-loop-left
-decreases-loop-left l = l.left
+abbrev pub invariant-loop-column : goal.invariant-loop-column
+invariant-loop-column l =
+    let left = l.x + l.w - l.column in
+    (said (lines l.s l.mem (across false l.column left l.y)) (page l.out l.to) ≡ said (lines l.s l.mem (across false l.x l.w l.y)) (page l.initial.out l.at))
+    × RowOn l.s (length l.mem) l.column left l.y
