@@ -53,11 +53,9 @@ fn mark_byte(marks: &mut [bool; 4096], ink: Ink, c: Clip, feed: Feed, last: u32,
     let column = o % step;
     let start = host::whole_pixels(feed, column);
     let end = host::whole_pixels(feed, column + 1);
-    let mut i = start;
-    while i < end {
+    for i in start..end {
         let v = host::value_of(feed, last, word, o % 4, i);
         mark_one(marks, ink, c, feed, i, j, v);
-        i += 1;
     }
 }
 
@@ -74,10 +72,8 @@ fn mark_word(
     requires { Drippable ink c feed taken 1 }
     ensures { marks.new ≡ marking ink.target (dripped ink c feed (by_word feed last word taken)) marks.old }
 {
-    let mut t: u32 = 0;
-    while t < 4 {
+    for t in 0..4 {
         mark_byte(marks, ink, c, feed, last, word, 4 * taken + t);
-        t += 1;
     }
 }
 
@@ -188,10 +184,8 @@ fn mark_rows(marks: &mut [bool; 4096], ink: Ink, c: Clip, feed: Feed, taken: u32
     let from = 4 * taken;
     let past = 4 * (taken + n);
     let end = surface::least(feed.height, past_row(feed, taken, n));
-    let mut j = first_row(feed, taken);
-    while j < end {
+    for j in first_row(feed, taken)..end {
         mark_row(marks, ink, c, feed, from, past, j);
-        j += 1;
     }
 }
 

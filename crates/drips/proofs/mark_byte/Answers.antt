@@ -48,12 +48,6 @@ mark_one-requires c =
     let u = c.loop-i-test.true in
     (c.requires, (omega arith, c.if-feed-j.false))
 
-pub overflow_add-i : goal.overflow_add-i
-overflow_add-i c = omega arith
-
-pub loop-i-smaller : goal.loop-i-smaller
-loop-i-smaller c = omega arith
-
 pub loop-i-preserved : goal.loop-i-preserved
 loop-i-preserved c =
     let a = c.args in

@@ -9,6 +9,3 @@ use Rattle.drips.proofs.mark_byte.Given as goal
 abbrev pub invariant-loop-i : goal.invariant-loop-i
 invariant-loop-i l =
     dripping l.ink l.c l.feed (run l.feed l.last l.word l.o l.i (l.end - l.i)) l.marks ≡ dripping l.ink l.c l.feed (by_byte l.feed l.last l.word l.o) l.initial.marks
-
-abbrev pub decreases-loop-i : goal.decreases-loop-i
-decreases-loop-i l = l.end - l.i

@@ -33,12 +33,6 @@ mark_row-requires c =
     let e = c.least-end.ensures in
     (record { len = p.len; limit = p.limit; opened = p.waits.opened }, omega (arith, c.loop-j-test.true))
 
-pub overflow_add-j : goal.overflow_add-j
-overflow_add-j c = omega arith
-
-pub loop-j-smaller : goal.loop-j-smaller
-loop-j-smaller c = omega arith
-
 pub loop-j-preserved : goal.loop-j-preserved
 loop-j-preserved c =
     let a = c.args in

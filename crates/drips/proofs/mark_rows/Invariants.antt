@@ -11,6 +11,3 @@ abbrev pub invariant-loop-j : goal.invariant-loop-j
 invariant-loop-j l =
     marking l.ink.target (rows_drips l.c l.feed (4 * l.taken) (4 * (l.taken + l.n)) l.j (l.end - l.j)) l.marks
     ≡ marking l.ink.target (rows_drips l.c l.feed (4 * l.taken) (4 * (l.taken + l.n)) (first_row l.feed l.taken) (min l.feed.height (past_row l.feed l.taken l.n) - first_row l.feed l.taken)) l.initial.marks
-
-abbrev pub decreases-loop-j : goal.decreases-loop-j
-decreases-loop-j l = l.end - l.j

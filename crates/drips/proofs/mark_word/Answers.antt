@@ -22,12 +22,6 @@ overflow_add-taken c = omega (arith, c.requires.waits.few)
 pub mark_byte-requires : goal.mark_byte-requires
 mark_byte-requires c = let p = c.requires in record { len = p.len; limit = p.limit; opened = p.waits.opened }
 
-pub overflow_add-t : goal.overflow_add-t
-overflow_add-t c = omega arith
-
-pub loop-t-smaller : goal.loop-t-smaller
-loop-t-smaller c = omega arith
-
 pub loop-t-preserved : goal.loop-t-preserved
 loop-t-preserved c =
     let a = c.args in

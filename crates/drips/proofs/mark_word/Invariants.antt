@@ -9,6 +9,3 @@ use Rattle.drips.proofs.mark_word.Given as goal
 abbrev pub invariant-loop-t : goal.invariant-loop-t
 invariant-loop-t l =
     dripping l.ink l.c l.feed (by_bytes l.feed l.last l.word (4 * l.taken + l.t) (4 - l.t)) l.marks ≡ dripping l.ink l.c l.feed (by_word l.feed l.last l.word l.taken) l.initial.marks
-
-abbrev pub decreases-loop-t : goal.decreases-loop-t
-decreases-loop-t l = 4 - l.t
