@@ -42,19 +42,11 @@ pub fn mark_dots(marks: &mut [bool; 4096], ink: Ink, c: Clip, l: Line, pen: Pen,
     let total = line::point_count(l);
     let mut word = style;
     let mut t = Tread { aside: 0, rest: n };
-    let mut i = 0;
-    while i < total {
+    for i in 0..total {
         let p = line::place_point(l, i, t.aside);
         word = mark_dot(marks, ink, c, p, pen, word);
         t = line::tread_on(n, m, t);
-        i += 1;
     }
-}
-
-fn most(a: u32, b: u32) -> u32
-    ensures { result ≡ max a b }
-{
-    if a < b { b } else { a }
 }
 
 // The first column of a line from a to b inside a clip from `least` on; or the first row.
@@ -62,7 +54,7 @@ fn box_low(least: u32, a: u32, b: u32) -> u32
     requires { Ends least a b }
     ensures { result ≡ box_low least a b }
 {
-    most(surface::least(a, b), 16384 + least)
+    a.min(b).max(16384 + least)
 }
 
 // How many columns there are, where the clip ends at `end`; or rows.
@@ -71,8 +63,8 @@ fn box_size(least: u32, end: u32, a: u32, b: u32) -> u32
     ensures { result ≡ box_size least end a b }
 {
     let low = box_low(least, a, b);
-    let high = surface::least(most(a, b) + 1, 16384 + end);
-    if low < high { high - low } else { 0 }
+    let high = (a.max(b) + 1).min(16384 + end);
+    high.saturating_sub(low)
 }
 
 // A rectangle that holds the line's points inside the clip.

@@ -22,12 +22,6 @@ pub struct Sieve {
     pub rows: Scale,
 }
 
-fn wide(x: u8) -> u32
-    ensures { (result ≡ x) × (result < 256) }
-{
-    x as u32
-}
-
 // Whether the source of pixel (x, y) leaves it.
 fn is_left(mem: &[u8], t: Task, pattern: &[u8; 256], x: u32, y: u32) -> bool
     requires { HasSource t (length mem.now) x y }
@@ -43,7 +37,7 @@ fn is_left(mem: &[u8], t: Task, pattern: &[u8; 256], x: u32, y: u32) -> bool
         return false;
     }
     let row = ink::pattern_row(ink, y) as usize;
-    let bit = ink::bit_of(wide(pattern[row]), ink::pattern_column(ink, x));
+    let bit = ink::bit_of(pattern[row] as u32, ink::pattern_column(ink, x));
     ink.clear & (ink.mono & (bit == 0))
 }
 
@@ -71,10 +65,10 @@ fn run_of(s: Surface, x: u32, y: u32) -> u32
     ensures { result ≡ run_of s x y }
 {
     let column = x * s.bytes;
-    let at = surface::byte_at(s, surface::wide(column), surface::wide(y));
+    let at = surface::byte_at(s, column as usize, y as usize);
     let room = 4096 - (at % 4096) as u32;
     if s.tiled {
-        return surface::least(room, 128 - column % 128) / s.bytes;
+        return room.min(128 - column % 128) / s.bytes;
     }
     room / s.bytes
 }
@@ -96,7 +90,7 @@ fn sift_some(
     let s = v.task.ink.target;
     let at = surface::byte_of(s, x, y, 0);
     if marks[at / 4096] {
-        let n = surface::least(run_of(s, x, y), w);
+        let n = run_of(s, x, y).min(w);
         if 0 < n {
             return n;
         }
@@ -122,6 +116,7 @@ fn sift_row(
     ensures { marks.new ≡ marking v.task.ink.target (chosen (wet v pattern.now mem.now) (across false x w y)) marks.old }
 {
     let mut i: u32 = 0;
+    // while: the step is what `sift_some` answers
     while i < w {
         i += sift_some(marks, mem, v, pattern, x + i, y, w - i);
     }
@@ -141,9 +136,7 @@ pub fn sift_rows(
     requires { Siftable v x y w h (length mem.now) }
     ensures { marks.new ≡ marking v.task.ink.target (chosen (wet v pattern.now mem.now) (rect false false x y w h)) marks.old }
 {
-    let mut j: u32 = 0;
-    while j < h {
+    for j in 0..h {
         sift_row(marks, mem, v, pattern, x, y + j, w);
-        j += 1;
     }
 }

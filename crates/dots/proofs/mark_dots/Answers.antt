@@ -1,6 +1,5 @@
 -- `dots::mark_dots` meets its contract: the points that are left, marked from now on, are all of them, marked from the start, and the walk is at the next of them.
 -- Assumes nothing.
-use native.Mathlib.Omega.{arith}
 use mathlib.Core.Path.{sym, ap, ◌∙◌}
 use mathlib.Core.List.{List}
 use Rattle.spans.specs.Span.{all_on}
@@ -24,7 +23,6 @@ loop-i-init c =
       ap (λ (ps : List Point). marking a.ink.target (dotted a.ink a.c a.pen a.style ps) a.marks.now) q,
       (λ len h. ap (λ (ps : List Point). all_on a.ink.target len (covered_points a.c ps)) q ∙ h),
       (λ _. way-starts c.long_side-n.ensures c.short_side-m.ensures),
-      omega arith,
     )
 
 pub place_point-p-requires : goal.place_point-p-requires
@@ -47,12 +45,6 @@ mark_dot-word-requires c =
 pub tread_on-t-requires : goal.tread_on-t-requires
 tread_on-t-requires c = way-small (c.loop-i.invariant.2 c.loop-i-test.true) c.requires.drawable.line
 
-pub overflow_add-i : goal.overflow_add-i
-overflow_add-i c = omega arith
-
-pub loop-i-smaller : goal.loop-i-smaller
-loop-i-smaller c = omega arith
-
 pub loop-i-preserved : goal.loop-i-preserved
 loop-i-preserved c =
     let a = c.args in
@@ -63,7 +55,6 @@ loop-i-preserved c =
       dots-turn a.ink a.c a.pen a.l k.i _ k.word _ h (way-point way c.place_point-p.ensures) r.1 r.0 ∙ k.invariant.0,
       (λ len on. (on-left a.ink.target len a.c a.l k.i _ h (k.invariant.1 len on)).1),
       (λ g. way-goes way c.tread_on-t.ensures c.point_count-total.ensures g),
-      omega arith,
     )
 
 pub returns : goal.returns

@@ -2,7 +2,7 @@
 -- Assumes nothing.
 use mathlib.Core.Path.{◌≡◌}
 use mathlib.Core.Bool.{true}
-use Prim.Native.Nat.{ℕ, ◌-◌, ◌<◌, ◌≤◌}
+use Prim.Native.Nat.{ℕ, ◌-◌, ◌<◌}
 use Rattle.spans.specs.Span.{all_on}
 use Rattle.line.specs.Line.{points_from, points}
 use Rattle.line.specs.Draw.{covered_points}
@@ -16,7 +16,3 @@ invariant-loop-i l =
     (marking l.ink.target (dotted l.ink l.c l.pen l.word (points_from l.l l.i (l.total - l.i))) l.marks ≡ marking l.ink.target (dotted l.ink l.c l.pen l.style (points l.l)) l.initial.marks)
     × ((len : ℕ) → all_on l.ink.target len (covered_points l.c (points l.l)) ≡ true → all_on l.ink.target len (covered_points l.c (points_from l.l l.i (l.total - l.i))) ≡ true)
     × (l.i < l.total → OnWay l.l l.n l.m l.i l.t)
-    × (l.i ≤ l.total)
-
-abbrev pub decreases-loop-i : goal.decreases-loop-i
-decreases-loop-i l = l.total - l.i

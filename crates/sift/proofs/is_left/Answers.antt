@@ -30,4 +30,4 @@ returns-then-t c = rw (c.if-t.true, ne_eqb _ _ c.if-from-eq0.false)
 pub returns : goal.returns
 unfolding left_at source_by fill_source pattern_bit
 returns c =
-    rw (c.if-t.false, c.bit_of-bit.ensures, c.wide.ensures.0, c.pattern_column.ensures.0, c.pattern_row-row.ensures.0)
+    rw (c.if-t.false, c.bit_of-bit.ensures, c.pattern_column.ensures.0, c.pattern_row-row.ensures.0)

@@ -1,8 +1,6 @@
 -- `sift::run_of` meets its contract: by the layout.
 -- Assumes nothing.
-use mathlib.Core.Path.{ap₂, ◌∙◌}
 use native.Mathlib.Omega.{arith}
-use Rattle.surface.specs.Place.{byte_at}
 use Rattle.surface.proofs.Bytes.{product_lt}
 use Rattle.sift.proofs.SiftLaws.{run-flat, run-tiled}
 use Rattle.sift.proofs.run_of.Goals as goal
@@ -13,14 +11,12 @@ overflow_mul-column c = omega (arith, product_lt 13 3 {a = c.args.x} {b = c.args
 pub byte_at-at-requires : goal.byte_at-at-requires
 byte_at-at-requires c =
     let small = product_lt 13 3 {a = c.args.x} {b = c.args.s.bytes} c.requires.1 (omega (arith, c.requires.0.small.bytes)) in
-    record { small = c.requires.0.small; across = omega (arith, c.wide.ensures); down = omega (arith, c.wide-2.ensures) }
+    record { small = c.requires.0.small; across = omega (arith, small); down = omega arith }
 
 pub returns-then-s : goal.returns-then-s
 returns-then-s c =
-    let place = c.byte_at-at.ensures ∙ ap₂ (byte_at c.args.s) c.wide.ensures c.wide-2.ensures in
-    run-tiled c.args.s c.requires.0 c.args.x c.args.y c.if-s.true place c.least.ensures
+    run-tiled c.args.s c.requires.0 c.args.x c.args.y c.if-s.true c.byte_at-at.ensures c.min.ensures
 
 pub returns : goal.returns
 returns c =
-    let place = c.byte_at-at.ensures ∙ ap₂ (byte_at c.args.s) c.wide.ensures c.wide-2.ensures in
-    run-flat c.args.s c.requires.0 c.args.x c.args.y c.if-s.false place
+    run-flat c.args.s c.requires.0 c.args.x c.args.y c.if-s.false c.byte_at-at.ensures

@@ -12,6 +12,3 @@ abbrev pub invariant-loop-j : goal.invariant-loop-j
 invariant-loop-j l =
     marking l.v.task.ink.target (chosen (wet l.v l.pattern l.mem) (rect false false l.x (l.y + l.j) l.w (l.h - l.j))) l.marks
     ≡ marking l.v.task.ink.target (chosen (wet l.v l.pattern l.mem) (rect false false l.x l.y l.w l.h)) l.initial.marks
-
-abbrev pub decreases-loop-j : goal.decreases-loop-j
-decreases-loop-j l = l.h - l.j

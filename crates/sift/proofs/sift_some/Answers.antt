@@ -26,9 +26,9 @@ pub returns-then-n-gt0 : goal.returns-then-n-gt0
 returns-then-n-gt0 c =
     let marks = c.args.marks.now in (
       c.if-n-gt0.true,
-      omega (arith, c.least-n.ensures),
+      omega (arith, c.min-n.ensures),
       sym (passed_over c.args.v.task.ink.target c.requires.0.colour c.args.x c.args.y (wet c.args.v c.args.pattern.now c.args.mem.now) marks
-          c.least-n.result (omega (arith, c.least-n.ensures, c.run_of.ensures))
+          c.min-n.result (omega (arith, c.min-n.ensures, c.run_of.ensures))
           (ap (λ (a : ℕ). get_or marks (a / 4096) false) (sym c.byte_of-at.ensures) ∙ c.if-marks-at.true)),
     )
 
