@@ -5,26 +5,18 @@
 ghost use Rattle.std.specs.Prelude.{◌≡◌, ◌+◌, ◌<◌, ◌≤◌, length};
 ghost use Rattle.basics.specs.Word.{word_at, with_word};
 
-fn wide(x: u8) -> u32
-    ensures { (result ≡ x) × (result < 256) }
-{
-    x as u32
-}
-
 // Four bytes as a word, low byte first.
+#[tactic(auto, unfolding(crate::specs::Word::word_at))]
 pub fn word_at(s: &[u8], at: usize) -> u32
     requires { at + 4 ≤ length s.now }
     ensures { result ≡ word_at s.now at }
 {
-    wide(s[at]) + wide(s[at + 1]) * 0x100 + wide(s[at + 2]) * 0x10000 + wide(s[at + 3]) * 0x1000000
+    u32::from_le_bytes([s[at], s[at + 1], s[at + 2], s[at + 3]])
 }
 
 pub fn put_word(s: &mut [u8], at: usize, word: u32)
     requires { at + 4 ≤ length s.old }
     ensures { (s.new ≡ with_word s.old at word) × (length s.new ≡ length s.old) }
 {
-    s[at] = (word % 0x100) as u8;
-    s[at + 1] = (word / 0x100 % 0x100) as u8;
-    s[at + 2] = (word / 0x10000 % 0x100) as u8;
-    s[at + 3] = (word / 0x1000000 % 0x100) as u8;
+    s[at..at + 4].copy_from_slice(&word.to_le_bytes());
 }
