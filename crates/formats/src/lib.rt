@@ -23,7 +23,7 @@ fn bytes_of(code: u32) -> u32
 fn is_coloured(code: u32) -> bool
     ensures { result ≡ coloured code }
 {
-    (code == 1) | ((code == 3) | ((code == 4) | (code == 5)))
+    matches!(code, 1 | 3 | 4 | 5)
 }
 
 fn is_tiled(base: u32) -> bool
@@ -46,6 +46,7 @@ pub fn names_view(base: u32, format: u32) -> bool
     !is_tiled(base) & names_target(format)
 }
 
+#[tactic(auto, unfolding(crate::specs::Format::target_of))]
 pub fn target_of(base: u32, format: u32) -> Surface
     ensures { result ≡ target_of base format }
 {
@@ -77,17 +78,17 @@ pub fn names_host(base: u32, format: u32) -> bool
 }
 
 // The bytes of a row of so many pixels.
+#[tactic(auto, unfolding(crate::specs::Step::row_length))]
 pub fn row_length(bytes: u32, width: u32) -> u32
     requires { Sized bytes width }
     ensures { result ≡ row_length bytes width }
 {
-    if bytes == 0 {
-        return (width * 1 + 7) / 8;
-    }
-    (width * (8 * bytes) + 7) / 8
+    let bits = if bytes == 0 { 1 } else { 8 * bytes };
+    (width * bits).div_ceil(8)
 }
 
 // The step from row to row under a packing.
+#[tactic(auto, using(crate::proofs::FormatLaws::row_small), unfolding(crate::specs::Step::step_of))]
 fn step_of(packing: u32, bytes: u32, width: u32, stride: u32) -> u32
     requires { Sized bytes width }
     ensures { result ≡ step_of packing bytes width stride }
@@ -96,11 +97,12 @@ fn step_of(packing: u32, bytes: u32, width: u32, stride: u32) -> u32
     match packing {
         0 => stride,
         1 => row,
-        2 => (row + 1) / 2 * 2,
-        _ => (row + 3) / 4 * 4,
+        2 => row.next_multiple_of(2),
+        _ => row.next_multiple_of(4),
     }
 }
 
+#[tactic(auto, using(crate::proofs::FormatLaws::bytes_small), unfolding(crate::specs::Format::source_of))]
 pub fn source_of(base: u32, format: u32, width: u32) -> Surface
     requires { width < 2 ^ 13 }
     ensures { result ≡ source_of base format width }
@@ -109,7 +111,7 @@ pub fn source_of(base: u32, format: u32, width: u32) -> Surface
     Surface {
         base: base % 0x100_0000,
         stride: step_of(format / 0x40_0000 % 4, bytes, width, format % 0x4000),
-        bytes: bytes,
+        bytes,
         tiled: is_tiled(base),
     }
 }

@@ -165,8 +165,8 @@ colour-byte {s} {len} {x} {y} on k h =
     }
 
 -- ---- mono pixels: their one byte
-pub mono-byte : {s : Surface} {len x y : ℕ} → OnMono s len x y → byte_at s (x / 8) y < len
-mono-byte {s} {len} {x} {y} on =
+pub mono_inside : {s : Surface} {len x y : ℕ} → OnMono s len x y → byte_at s (x / 8) y < len
+mono_inside {s} {len} {x} {y} on =
     let h : 0 < byte_count s = some_byte s in
     let e : first_byte s x + 0 ≡ x / 8 = add-zero (first_byte s x) ∙ mono-first s x on.mono in
     subst (λ (n : ℕ). byte_at s n y < len) e (on-bytes s len x y on.on 0 h)

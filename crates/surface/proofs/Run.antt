@@ -4,13 +4,13 @@
 use mathlib.Core.Path.{◌≡◌, sym, ap, ap₂, subst, ◌∙◌}
 use mathlib.Core.Bool.{Bool, true, false, not, ◌&&◌, true≢false}
 use mathlib.Core.List.{List}
-use Prim.Native.Nat.{ℕ, zero, suc, ◌+◌, ◌-◌, ◌*◌, ◌/◌, ◌%◌, ◌<◌}
+use Prim.Native.Nat.{ℕ, zero, suc, ◌+◌, ◌-◌, ◌*◌, ◌%◌, ◌<◌}
 use native.Mathlib.Nat.{add-zero, add-mul}
 use native.Mathlib.Omega.{arith}
 use native.Mathlib.Decide.{ℕ_discrete}
 use borrow.Author.Tests.{eq-eqb, eqb-true}
 use lib.Dec.{eqb}
-use lib.ListN.{get_or, set}
+use lib.ListN.{get_or}
 use Rattle.surface.specs.declared.Surface.{Surface}
 use Rattle.surface.specs.Place.{byte_at, byte_of, read_bytes, write_bytes, read_px, write_px, differ, differs, three}
 use Rattle.surface.specs.Asked.{Colour, OnColour, Held}
@@ -127,50 +127,12 @@ module _ (s : Surface) (rows : s.tiled ≡ false) (x y a : ℕ) (e : a ≡ byte_
   pub run-pixel : (i : ℕ) → a + i * s.bytes ≡ byte_of s (x + i) y 0
   run-pixel i = ap (λ (n : ℕ). a + n) (sym (add-zero (i * s.bytes))) ∙ run-byte i 0
 
--- ---- three bytes, wherever they lie
-module _ (a b c v : ℕ) (m : List ℕ) where
-  pub three-read : get_or m a 0 + get_or m b 0 * 0x100 + get_or m c 0 * 0x10000 ≡ read_bytes m (three a b c) 0 3
-  unfolding read_bytes
-  three-read = omega arith
-
-  pub three-written : {m₁ m₂ m₃ : List ℕ} → m₁ ≡ set m a (v % 256) → m₂ ≡ set m₁ b (v / 256 % 256)
-      → m₃ ≡ set m₂ c (v / 256 / 256 % 256) → m₃ ≡ write_bytes (three a b c) 0 3 v m
-  unfolding write_bytes
-  three-written p q r = cc
-
 -- ---- at a known number of bytes
 module _ (at n : ℕ) (m : List ℕ) where
   pub get-one : n ≡ 1 → get_or m at 0 ≡ read_bytes m (λ k. at + k) 0 n
   unfolding read_bytes
   get-one e = rw (e, add-zero at) (omega arith)
 
-  pub get-two : n ≡ 2 → get_or m at 0 + get_or m (at + 1) 0 * 0x100 ≡ read_bytes m (λ k. at + k) 0 n
-  unfolding read_bytes
-  get-two e = rw (e, add-zero at) (omega arith)
-
-  pub get-three : n ≡ 3 → get_or m at 0 + get_or m (at + 1) 0 * 0x100 + get_or m (at + 2) 0 * 0x10000 ≡ read_bytes m (λ k. at + k) 0 n
-  unfolding read_bytes
-  get-three e = rw (e, add-zero at) (omega arith)
-
   pub get-four : n ≡ 4 → get_or m at 0 + get_or m (at + 1) 0 * 0x100 + get_or m (at + 2) 0 * 0x10000 + get_or m (at + 3) 0 * 0x1000000 ≡ read_bytes m (λ k. at + k) 0 n
   unfolding read_bytes
   get-four e = rw (e, add-zero at) (omega arith)
-
-module _ (at n v : ℕ) (m : List ℕ) {m₁ : List ℕ} where
-  pub put_one : n ≡ 1 → m₁ ≡ set m at (v % 256) → m₁ ≡ write_bytes (λ k. at + k) 0 n v m
-  unfolding write_bytes
-  put_one e p = rw e (cc (add-zero at))
-
-  pub put_two : {m₂ : List ℕ} → n ≡ 2 → m₁ ≡ set m at (v % 256) → m₂ ≡ set m₁ (at + 1) (v / 256 % 256) → m₂ ≡ write_bytes (λ k. at + k) 0 n v m
-  unfolding write_bytes
-  put_two e p q = rw e (cc (add-zero at))
-
-  pub put_three : {m₂ m₃ : List ℕ} → n ≡ 3 → m₁ ≡ set m at (v % 256) → m₂ ≡ set m₁ (at + 1) (v / 256 % 256)
-      → m₃ ≡ set m₂ (at + 2) (v / 256 / 256 % 256) → m₃ ≡ write_bytes (λ k. at + k) 0 n v m
-  unfolding write_bytes
-  put_three e p q r = rw e (cc (add-zero at))
-
-  pub put_four : {m₂ m₃ m₄ : List ℕ} → n ≡ 4 → m₁ ≡ set m at (v % 256) → m₂ ≡ set m₁ (at + 1) (v / 256 % 256)
-      → m₃ ≡ set m₂ (at + 2) (v / 256 / 256 % 256) → m₄ ≡ set m₃ (at + 3) (v / 256 / 256 / 256 % 256) → m₄ ≡ write_bytes (λ k. at + k) 0 n v m
-  unfolding write_bytes
-  put_four e p q r t = rw e (cc (add-zero at))

@@ -1,11 +1,12 @@
--- `surface::store_bytes` meets its contract: what was read before the store, and what is read after it.
+-- `surface::store_bytes` meets its contract: what was read before the store, and what it stores.
 -- Assumes nothing.
-use mathlib.Core.Path.{ap₂}
-use mathlib.Core.Bool.{not}
-use Prim.Native.Nat.{ℕ}
-use lib.Dec.{eqb}
+use Prim.Native.Nat.{◌+◌}
+use native.Mathlib.Omega.{arith}
+use Rattle.surface.proofs.Bytes.{read-written}
 use Rattle.surface.proofs.store_bytes.Goals as goal
 
 pub returns : goal.returns
 returns c =
-    (c.put_bytes.ensures, ap₂ (λ (a b : ℕ). not (eqb a b)) c.get_bytes-old.ensures c.get_bytes.ensures)
+    let a = c.args in
+    let new = read-written (λ k. a.at + k) 0 a.n a.v a.mem.now (λ i j p q e. omega arith) (λ j l. omega arith) in
+    (c.put_bytes.ensures, cc)
