@@ -42,14 +42,12 @@ pub fn no_rooms() -> Rooms
 }
 
 // The whole rows in a memory of len bytes.
+#[tactic(auto, unfolding(crate::specs::Room::whole_rows))]
 fn whole_rows(len: u32, s: Surface) -> u32
     requires { Small s × (0 < s.stride) × (len ≤ 2 ^ 24) }
     ensures { result ≡ whole_rows len s }
 {
-    if len <= s.base {
-        return 0;
-    }
-    let left = len - s.base;
+    let left = len.saturating_sub(s.base);
     if s.tiled {
         return 32 * (left / (4096 * s.stride));
     }
@@ -57,6 +55,7 @@ fn whole_rows(len: u32, s: Surface) -> u32
 }
 
 // The room that a surface has, worked out.
+#[tactic(auto, unfolding(crate::specs::Room::room_of))]
 fn work(len: u32, s: Surface) -> Room
     requires { Small s × (len ≤ 2 ^ 24) }
     ensures { result ≡ room_of len s }
@@ -71,6 +70,7 @@ fn work(len: u32, s: Surface) -> Room
 }
 
 // By a target's words.
+#[tactic(auto, unfolding(crate::specs::Room::target_room))]
 pub fn target_room(len: u32, base: u32, format: u32) -> Room
     requires { len ≤ 2 ^ 24 }
     ensures { result ≡ target_room len base format }
@@ -82,6 +82,7 @@ pub fn target_room(len: u32, base: u32, format: u32) -> Room
 }
 
 // By a source's, its packing left out.
+#[tactic(auto, unfolding(crate::specs::Room::source_room))]
 pub fn source_room(len: u32, base: u32, format: u32) -> Room
     requires { len ≤ 2 ^ 24 }
     ensures { result ≡ source_room len base format }
@@ -98,16 +99,14 @@ pub fn follow(len: u32, offset: u32, r: Regs, k: Rooms) -> Rooms
     requires { len ≤ 2 ^ 24 }
     ensures { result ≡ after len offset r k }
 {
-    let source = k.source;
-    let target = k.target;
     match offset {
         0x10 | 0x14 => Rooms {
-            source: source,
             target: target_room(len, r.dst_base_addr, r.dst_format),
+            ..k
         },
         0x34 | 0x54 => Rooms {
             source: source_room(len, r.src_base_addr, r.src_format),
-            target: target,
+            ..k
         },
         _ => k,
     }
@@ -120,10 +119,9 @@ pub fn tell(format: u32, k: Rooms) -> Rooms
     if format / 0x40_0000 % 4 == 0 {
         return k;
     }
-    let target = k.target;
     Rooms {
         source: no_room(),
-        target: target,
+        ..k
     }
 }
 
@@ -134,9 +132,9 @@ fn has_pixels(s: Surface, n: u32) -> bool
 {
     let row = surface::row_bytes(s);
     if s.bytes == 0 {
-        return surface::wide(n) <= 8 * row;
+        return n as usize <= 8 * row;
     }
-    surface::wide(n) * surface::wide(s.bytes) <= row
+    n as usize * s.bytes as usize <= row
 }
 
 // Whether n rows of it are in a memory of len bytes: by another.
@@ -144,19 +142,19 @@ fn has_rows(len: usize, s: Surface, n: u32) -> bool
     requires { Small s }
     ensures { result ≡ true → depth s n ≤ len - s.base }
 {
-    let base = surface::wide(s.base);
-    let stride = surface::wide(s.stride);
+    let base = s.base as usize;
+    let stride = s.stride as usize;
     if s.tiled {
-        return base + (surface::wide(n) + 31) / 32 * (4096 * stride) <= len;
+        return base + (n as usize + 31) / 32 * (4096 * stride) <= len;
     }
-    base + surface::wide(n) * stride <= len
+    base + n as usize * stride <= len
 }
 
 // Whether n places from one on are below a number.
 fn fits(at: u32, n: u32, most: u32) -> bool
     ensures { result ≡ leb (at + n) most }
 {
-    surface::wide(at) + surface::wide(n) <= surface::wide(most)
+    at as usize + n as usize <= most as usize
 }
 
 // Whether every pixel of a rectangle is on a surface of which that room is told: below both numbers all are, where the surface has that room. Elsewhere, as in a
@@ -165,10 +163,10 @@ pub fn rect_in(len: usize, s: Surface, k: Room, x: u32, y: u32, w: u32, h: u32) 
     requires { Small s }
     ensures { result ≡ all_on s len (rect false false x y w h) }
 {
-    if fits(x, w, k.pixels) & fits(y, h, k.rows) {
-        if has_pixels(s, k.pixels) & has_rows(len, s, k.rows) {
-            return true;
-        }
+    if (fits(x, w, k.pixels) & fits(y, h, k.rows))
+        && (has_pixels(s, k.pixels) & has_rows(len, s, k.rows))
+    {
+        return true;
     }
     spans::rect_on(len, s, x, y, w, h)
 }
