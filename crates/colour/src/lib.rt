@@ -18,60 +18,48 @@ const WIDEN6: [u8; 64] = [
     251, 255,
 ];
 
-fn wide(x: u8) -> u32
-    ensures { result ≡ x }
-{
-    x as u32
+// The low five or six bits of a number, widened to eight.
+trait Widening {
+    fn five(n: u32) -> u32
+        ensures { result ≡ repeated 5 (n % 32) };
+
+    fn six(n: u32) -> u32
+        ensures { result ≡ repeated 6 (n % 64) };
 }
 
-// The low five bits of n, widened to eight.
-fn widen5(n: u32) -> u32
-    ensures { result ≡ repeated 5 (n % 32) }
-{
-    wide(WIDEN5[(n % 32) as usize])
+// By the tables.
+struct ByTable;
+
+impl Widening for ByTable {
+    fn five(n: u32) -> u32 {
+        u32::from(WIDEN5[(n % 32) as usize])
+    }
+
+    fn six(n: u32) -> u32 {
+        u32::from(WIDEN6[(n % 64) as usize])
+    }
 }
 
-// The low six bits of n, widened to eight.
-fn widen6(n: u32) -> u32
-    ensures { result ≡ repeated 6 (n % 64) }
-{
-    wide(WIDEN6[(n % 64) as usize])
+// By the rule of the tables: a table is put on the stack at each call, which takes longer than the rule.
+struct ByRule;
+
+impl Widening for ByRule {
+    fn five(n: u32) -> u32 {
+        let bits = n % 32;
+        bits * 8 + bits / 4
+    }
+
+    fn six(n: u32) -> u32 {
+        let bits = n % 64;
+        bits * 4 + bits / 16
+    }
 }
 
-// A pixel of 2 bytes as one of 3, by the tables.
-fn widen(v: u32) -> u32
+// A pixel of 2 bytes as one of 3.
+fn widen<W: Widening>(v: u32) -> u32
     ensures { result ≡ widened v }
 {
-    let red = widen5(v / 2048);
-    let green = widen6(v / 32);
-    let blue = widen5(v);
-    red * 65536 + green * 256 + blue
-}
-
-// The low five bits of n, widened to eight with no table.
-fn repeat5(n: u32) -> u32
-    ensures { result ≡ repeated 5 (n % 32) }
-{
-    let bits = n % 32;
-    bits * 8 + bits / 4
-}
-
-// The low six bits of n, widened to eight with no table.
-fn repeat6(n: u32) -> u32
-    ensures { result ≡ repeated 6 (n % 64) }
-{
-    let bits = n % 64;
-    bits * 4 + bits / 16
-}
-
-// A pixel of 2 bytes as one of 3, with no table: a table is put on the stack at each call, which takes longer than the rule.
-fn widen_by_rule(v: u32) -> u32
-    ensures { result ≡ widened v }
-{
-    let red = repeat5(v / 2048);
-    let green = repeat6(v / 32);
-    let blue = repeat5(v);
-    red * 65536 + green * 256 + blue
+    W::five(v / 2048) * 65536 + W::six(v / 32) * 256 + W::five(v)
 }
 
 // A pixel of 3 or 4 bytes as one of 2.
@@ -97,30 +85,32 @@ fn lessen(to: u32, v: u32) -> u32
     v % 16777216
 }
 
-// A pixel's value in another format, by the tables.
-pub fn convert(from: u32, to: u32, v: u32) -> u32
+// A pixel's value in another format.
+#[tactic(auto, unfolding(crate::specs::Convert::converted))]
+fn convert_with<W: Widening>(from: u32, to: u32, v: u32) -> u32
     ensures { result ≡ converted from to v }
 {
     if from == to {
         return v;
     }
     if is_sixteen(from) {
-        return widen(v);
+        return widen::<W>(v);
     }
     lessen(to, v)
+}
+
+// The same by the tables.
+pub fn convert(from: u32, to: u32, v: u32) -> u32
+    ensures { result ≡ converted from to v }
+{
+    convert_with::<ByTable>(from, to, v)
 }
 
 // The same by the rule of the tables.
 pub fn convert_by_rule(from: u32, to: u32, v: u32) -> u32
     ensures { result ≡ converted from to v }
 {
-    if from == to {
-        return v;
-    }
-    if is_sixteen(from) {
-        return widen_by_rule(v);
-    }
-    lessen(to, v)
+    convert_with::<ByRule>(from, to, v)
 }
 
 fn is_deep(format: u32) -> bool
@@ -130,6 +120,7 @@ fn is_deep(format: u32) -> bool
 }
 
 // Whether pixels of one format may be put where another is kept.
+#[tactic(auto, unfolding(crate::specs::Convert::allowed))]
 pub fn may_convert(from: u32, to: u32) -> bool
     ensures { result ≡ allowed from to }
 {

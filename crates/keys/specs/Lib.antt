@@ -1,3 +1,2 @@
-pub mod Asked
 pub mod Key
 pub mod Range

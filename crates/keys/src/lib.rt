@@ -1,12 +1,11 @@
 // Colour keys. A format is its bytes per pixel.
 #![tactic(auto)]
 
-ghost use Rattle.std.specs.Prelude.{◌≡◌, true, ◌&&◌, ◌<◌, ◌%◌, leb};
+ghost use Rattle.std.specs.Prelude.{◌≡◌, ◌&&◌, ◌<◌, ◌%◌, leb};
 ghost use Rattle.keys.specs.Key.{chan, channel, key_match};
 ghost use Rattle.keys.specs.Range.{range_of, in_range};
-ghost use Rattle.keys.specs.Asked.{listed};
 
-// The least and the most of each channel of a key; a format of one channel has the others 0.
+// The least and the most of each channel of a key; a format of one channel has the others 0. Six numbers and not three pairs: specs/Range.antt names them so.
 #[derive(Clone, Copy)]
 pub struct Range {
     pub low0: u32,
@@ -17,17 +16,12 @@ pub struct Range {
     pub high2: u32,
 }
 
-// The channel of v that starts at bit `start` and has so many values. Each remainder is by a number that is known, so that none is a division.
-fn channel_of(start: u32, values: u32, v: u32) -> u32
-    requires { (start < 32) × (listed values ≡ true) }
-    ensures { result ≡ channel (chan start values) v }
+// The channel of v that starts at bit `start` and has so many values: a remainder by a number that is known, so that it is no division.
+fn channel_of<const VALUES: u32>(start: u32, v: u32) -> u32
+    requires { (start < 32) × (0 < VALUES) }
+    ensures { result ≡ channel (chan start VALUES) v }
 {
-    let from = v >> start;
-    match values {
-        32 => from % 32,
-        64 => from % 64,
-        _ => from % 256,
-    }
+    (v >> start) % VALUES
 }
 
 fn is_between(low: u32, x: u32, high: u32) -> bool
@@ -37,54 +31,56 @@ fn is_between(low: u32, x: u32, high: u32) -> bool
 }
 
 // The channels of lo and hi, for pixels of so many bytes.
+#[tactic(auto, unfolding(crate::specs::Range::range_of))]
 pub fn range_of(bytes: u32, lo: u32, hi: u32) -> Range
     ensures { result ≡ range_of bytes lo hi }
 {
-    if bytes == 1 {
-        return Range {
-            low0: channel_of(0, 256, lo),
-            high0: channel_of(0, 256, hi),
+    match bytes {
+        1 => Range {
+            low0: channel_of::<256>(0, lo),
+            high0: channel_of::<256>(0, hi),
             low1: 0,
             high1: 0,
             low2: 0,
             high2: 0,
-        };
-    }
-    if bytes == 2 {
-        return Range {
-            low0: channel_of(0, 32, lo),
-            high0: channel_of(0, 32, hi),
-            low1: channel_of(5, 64, lo),
-            high1: channel_of(5, 64, hi),
-            low2: channel_of(11, 32, lo),
-            high2: channel_of(11, 32, hi),
-        };
-    }
-    Range {
-        low0: channel_of(0, 256, lo),
-        high0: channel_of(0, 256, hi),
-        low1: channel_of(8, 256, lo),
-        high1: channel_of(8, 256, hi),
-        low2: channel_of(16, 256, lo),
-        high2: channel_of(16, 256, hi),
+        },
+        2 => Range {
+            low0: channel_of::<32>(0, lo),
+            high0: channel_of::<32>(0, hi),
+            low1: channel_of::<64>(5, lo),
+            high1: channel_of::<64>(5, hi),
+            low2: channel_of::<32>(11, lo),
+            high2: channel_of::<32>(11, hi),
+        },
+        _ => Range {
+            low0: channel_of::<256>(0, lo),
+            high0: channel_of::<256>(0, hi),
+            low1: channel_of::<256>(8, lo),
+            high1: channel_of::<256>(8, hi),
+            low2: channel_of::<256>(16, lo),
+            high2: channel_of::<256>(16, hi),
+        },
     }
 }
 
 // Whether every channel of v is in its range.
+#[tactic(auto, unfolding(crate::specs::Range::in_range))]
 pub fn in_range(bytes: u32, r: Range, v: u32) -> bool
     ensures { result ≡ in_range bytes r v }
 {
-    if bytes == 1 {
-        return is_between(r.low0, channel_of(0, 256, v), r.high0);
+    match bytes {
+        1 => is_between(r.low0, channel_of::<256>(0, v), r.high0),
+        2 => {
+            is_between(r.low0, channel_of::<32>(0, v), r.high0)
+                & (is_between(r.low1, channel_of::<64>(5, v), r.high1)
+                    & is_between(r.low2, channel_of::<32>(11, v), r.high2))
+        }
+        _ => {
+            is_between(r.low0, channel_of::<256>(0, v), r.high0)
+                & (is_between(r.low1, channel_of::<256>(8, v), r.high1)
+                    & is_between(r.low2, channel_of::<256>(16, v), r.high2))
+        }
     }
-    if bytes == 2 {
-        return is_between(r.low0, channel_of(0, 32, v), r.high0)
-            & (is_between(r.low1, channel_of(5, 64, v), r.high1)
-                & is_between(r.low2, channel_of(11, 32, v), r.high2));
-    }
-    is_between(r.low0, channel_of(0, 256, v), r.high0)
-        & (is_between(r.low1, channel_of(8, 256, v), r.high1)
-            & is_between(r.low2, channel_of(16, 256, v), r.high2))
 }
 
 // Whether every channel of v is between those of lo and hi.

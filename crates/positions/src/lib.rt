@@ -32,6 +32,7 @@ fn step_if(on: bool, raw: u32, size: u32) -> u32
 }
 
 // Both positions of an XY register, each moved by its half of a size register where its flag is set.
+#[tactic(auto, unfolding(crate::specs::Position::stepped_xy))]
 pub fn step_xy(xy: u32, size: u32, across: bool, down: bool) -> u32
     ensures { result ≡ stepped_xy xy size across down }
 {

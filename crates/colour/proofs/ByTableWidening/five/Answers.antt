@@ -1,4 +1,4 @@
--- `colour::widen5` meets its contract: the table's rule is one test over its 32 entries, which antt computes.
+-- `colour::ByTableWidening::five` meets its contract: the table's rule is one test over its 32 entries, which antt computes.
 -- Assumes nothing.
 use mathlib.Core.Path.{refl, ◌∙◌}
 use mathlib.Core.List.{List, [], ◌∷◌}
@@ -6,7 +6,7 @@ use Prim.Native.Nat.{ℕ, ◌%◌}
 use native.Mathlib.Omega.{arith}
 use Rattle.colour.specs.Convert.{repeated}
 use Rattle.colour.proofs.Table.{table}
-use Rattle.colour.proofs.widen5.Goals as goal
+use Rattle.colour.proofs.ByTableWidening.five.Goals as goal
 
 entries : List ℕ
 entries =
@@ -15,4 +15,4 @@ entries =
 
 pub returns : goal.returns
 unfolding entries
-returns c = c.wide.ensures ∙ table (repeated 5) entries refl (c.args.n % 32) (omega arith)
+returns c = c.from.ensures ∙ table (repeated 5) entries refl (c.args.n % 32) (omega arith)

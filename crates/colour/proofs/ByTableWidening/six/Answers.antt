@@ -1,4 +1,4 @@
--- `colour::widen6` meets its contract: the table's rule is one test over its 64 entries, which antt computes.
+-- `colour::ByTableWidening::six` meets its contract: the table's rule is one test over its 64 entries, which antt computes.
 -- Assumes nothing.
 use mathlib.Core.Path.{refl, ◌∙◌}
 use mathlib.Core.List.{List, [], ◌∷◌}
@@ -6,7 +6,7 @@ use Prim.Native.Nat.{ℕ, ◌%◌}
 use native.Mathlib.Omega.{arith}
 use Rattle.colour.specs.Convert.{repeated}
 use Rattle.colour.proofs.Table.{table}
-use Rattle.colour.proofs.widen6.Goals as goal
+use Rattle.colour.proofs.ByTableWidening.six.Goals as goal
 
 entries : List ℕ
 entries =
@@ -17,4 +17,4 @@ entries =
 
 pub returns : goal.returns
 unfolding entries
-returns c = c.wide.ensures ∙ table (repeated 6) entries refl (c.args.n % 64) (omega arith)
+returns c = c.from.ensures ∙ table (repeated 6) entries refl (c.args.n % 64) (omega arith)
