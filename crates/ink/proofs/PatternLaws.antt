@@ -1,20 +1,18 @@
 -- Laws of the pattern: that its bytes are among the 256, a value by the bytes that are read for it, a row of it filled from the front, and that contracts settle what they say.
 -- Assumes nothing.
-use mathlib.Core.Path.{◌≡◌, refl, sym, ap, ap₂, subst, ◌∙◌}
-use mathlib.Core.Bool.{cond}
+use mathlib.Core.Path.{◌≡◌, refl, sym, ap, subst, ◌∙◌}
 use mathlib.Core.List.{List}
 use Prim.Native.Nat.{ℕ, zero, suc, ◌+◌, ◌-◌, ◌*◌, ◌/◌, ◌%◌, ◌^◌, ◌<◌, ◌≤◌}
-use native.Mathlib.Nat.{add-zero, mul-le-mul_right, pow-suc}
+use native.Mathlib.Nat.{mul-le-mul_right, pow-suc}
 use native.Mathlib.Omega.{arith}
 use native.Mathlib.Decide.{ℕ_discrete, dec_lt}
 use lib.Arith.{mod-mul}
-use lib.Dec.{eqb}
 use lib.ListN.{length, get_or, set, replicate}
 use lib.Seq.{get_or-set_same, get_or-set_other, ext_get_or}
 use Rattle.surface.proofs.Lists.{by_cases}
 use Rattle.surface.specs.Place.{read_bytes}
 use Rattle.ink.specs.declared.Ink.{Ink}
-use Rattle.ink.specs.Pattern.{pattern_bit, pattern_pixel, pattern_in, RowOf, ValuesOf}
+use Rattle.ink.specs.Pattern.{pattern_pixel, RowOf, ValuesOf}
 use Rattle.ink.specs.Asked.{Cell}
 
 -- the four bytes from a pixel's place on are in the pattern, however few of them it has
@@ -39,23 +37,14 @@ read_low m at k (suc n) j b =
     let split : v % (256 ^ n * 256) ≡ v / 256 % 256 ^ n * 256 + v % 256 = mod-mul v (bytes_pos n) (omega arith) in
     rw (e, pow-suc 256 n, split, low, high, read_low m at (suc k) n j b) (omega arith)
 
-word-there : (pattern : List ℕ) (at : ℕ) → get_or pattern at 0 + 256 * (get_or pattern (at + 1) 0 + 256 * (get_or pattern (at + 2) 0 + 256 * get_or pattern (at + 3) 0)) ≡ read_bytes pattern (λ k. at + k) 0 4
-unfolding read_bytes
-word-there pattern at = let first = ap (λ (i : ℕ). get_or pattern i 0) (add-zero at) in omega (arith, first)
-
--- ---- the value by the row's byte and the four bytes from the pixel's place on
-pub value_there : (ink : Ink) (pattern : List ℕ) (column row : ℕ) {byte word : ℕ} → Cell ink.target.bytes column row → ((i : ℕ) → get_or pattern i 0 < 256) → byte ≡ get_or pattern row 0
-    → word ≡ get_or pattern ((row * 8 + column) * ink.target.bytes) 0 + 256 * (get_or pattern ((row * 8 + column) * ink.target.bytes + 1) 0
-    + 256 * (get_or pattern ((row * 8 + column) * ink.target.bytes + 2) 0 + 256 * get_or pattern ((row * 8 + column) * ink.target.bytes + 3) 0))
-    → cond ink.mono (cond (eqb (byte / 2 ^ (7 - column) % 2) 1) ink.fore ink.back) (word % 256 ^ ink.target.bytes) ≡ pattern_in ink pattern column row
-unfolding pattern_in pattern_bit pattern_pixel
-value_there ink pattern column row {byte} {word} cell small b w =
-    let n = ink.target.bytes in
-    let at = (row * 8 + column) * n in
+-- the first bytes of the four from the pixel's place on are the pixel's
+pub pixel_there : (pattern : List ℕ) (column row bytes : ℕ) → Cell bytes column row → ((i : ℕ) → get_or pattern i 0 < 256)
+    → read_bytes pattern (λ k. (row * 8 + column) * bytes + k) 0 4 % 256 ^ bytes ≡ pattern_pixel bytes pattern column row
+unfolding pattern_pixel
+pixel_there pattern column row n cell small =
+    let at : ℕ → ℕ = λ k. (row * 8 + column) * n + k in
     let four : 4 ≡ n + (4 - n) = omega (arith, cell.four) in
-    let pixel : word % 256 ^ n ≡ read_bytes pattern (λ k. at + k) 0 n =
-    ap (λ (v : ℕ). v % 256 ^ n) (w ∙ word-there pattern at ∙ ap (read_bytes pattern (λ k. at + k) 0) four) ∙ read_low pattern (λ k. at + k) 0 n (4 - n) small in
-    ap₂ (λ (a v : ℕ). cond ink.mono (cond (eqb (a / 2 ^ (7 - column) % 2) 1) ink.fore ink.back) v) b pixel
+    ap (λ (j : ℕ). read_bytes pattern at 0 j % 256 ^ n) four ∙ read_low pattern at 0 n (4 - n) small
 
 -- ---- lists filled from the front
 

@@ -50,13 +50,7 @@ pub fn pattern_byte(pattern: [u8; 256], at: u32) -> u32
     requires { at < 256 }
     ensures { (result ≡ get_or pattern at 0) × (result < 256) }
 {
-    wide(pattern[at as usize])
-}
-
-fn wide(x: u8) -> u32
-    ensures { (result ≡ x) × (result < 256) }
-{
-    x as u32
+    u32::from(pattern[at as usize])
 }
 
 // The bit of one row of a mono pattern.
@@ -67,53 +61,21 @@ pub fn bit_of(byte: u32, column: u32) -> u32
     (byte >> (7 - column)) % 2
 }
 
-// Four bytes as a number, low byte first.
-fn word_of(b0: u8, b1: u8, b2: u8, b3: u8) -> u32
-    ensures { result ≡ b0 + 256 * (b1 + 256 * (b2 + 256 * b3)) }
-{
-    wide(b0) + 256 * (wide(b1) + 256 * (wide(b2) + 256 * wide(b3)))
-}
-
-// The first n of them.
-fn low_bytes(n: u32, word: u32) -> u32
-    requires { (0 < n) × (n < 5) }
-    ensures { result ≡ word % 256 ^ n }
-{
-    match n {
-        1 => word % 0x100,
-        2 => word % 0x1_0000,
-        3 => word % 0x100_0000,
-        _ => word,
-    }
-}
-
-// The value at a column: of a mono pattern by its row's byte, of a colour pattern by the four bytes from the pixel's place on.
-fn value_of(ink: Ink, byte: u32, column: u32, word: u32) -> u32
-    requires { (0 < ink.target.bytes) × (ink.target.bytes < 5) × (column < 8) }
-    ensures { result ≡ cond ink.mono (cond (eqb (byte / 2 ^ (7 - column) % 2) 1) ink.fore ink.back) (word % 256 ^ ink.target.bytes) }
+// The value at a column and a row: of a mono pattern by its row's byte, of a colour pattern by the four bytes from the pixel's place on.
+#[tactic(auto, unfolding(crate::specs::Pattern::pattern_in, crate::specs::Pattern::pattern_bit))]
+fn pattern_in(ink: Ink, pattern: &[u8; 256], column: u32, row: u32) -> u32
+    requires { Cell ink.target.bytes column row }
+    ensures { result ≡ pattern_in ink pattern.now column row }
 {
     if ink.mono {
-        if bit_of(byte, column) == 1 {
+        if bit_of(u32::from(pattern[row as usize]), column) == 1 {
             return ink.fore;
         }
         return ink.back;
     }
-    low_bytes(ink.target.bytes, word)
-}
-
-fn pattern_in(ink: Ink, pattern: [u8; 256], column: u32, row: u32) -> u32
-    requires { Cell ink.target.bytes column row }
-    ensures { result ≡ pattern_in ink pattern column row }
-{
-    let at = ((row * 8 + column) * ink.target.bytes) as usize;
-    let byte = wide(pattern[row as usize]);
-    let word = word_of(
-        pattern[at],
-        pattern[at + 1],
-        pattern[at + 2],
-        pattern[at + 3],
-    );
-    value_of(ink, byte, column, word)
+    let n = ink.target.bytes;
+    let at = ((row * 8 + column) * n) as usize;
+    surface::low_bytes(n, surface::get_bytes(pattern, at, 4))
 }
 
 // The pattern at a pixel.
@@ -121,7 +83,7 @@ pub fn pattern_at(ink: Ink, pattern: [u8; 256], x: u32, y: u32) -> u32
     requires { Colour ink.target }
     ensures { result ≡ pattern_value ink pattern x y }
 {
-    pattern_in(ink, pattern, pattern_column(ink, x), pattern_row(ink, y))
+    pattern_seen(ink, &pattern, x, y)
 }
 
 // The same of a pattern that is lent, so that a loop over many pixels copies it once.
@@ -129,17 +91,7 @@ pub fn pattern_seen(ink: Ink, pattern: &[u8; 256], x: u32, y: u32) -> u32
     requires { Colour ink.target }
     ensures { result ≡ pattern_value ink pattern.now x y }
 {
-    let column = pattern_column(ink, x);
-    let row = pattern_row(ink, y);
-    let n = ink.target.bytes;
-    if !ink.mono {
-        return surface::get_bytes(pattern, ((row * 8 + column) * n) as usize, n);
-    }
-    let byte = wide(pattern[row as usize]);
-    if bit_of(byte, column) == 1 {
-        return ink.fore;
-    }
-    ink.back
+    pattern_in(ink, pattern, pattern_column(ink, x), pattern_row(ink, y))
 }
 
 // The eight values of a row of the pattern.
@@ -148,10 +100,8 @@ pub fn row_values(ink: Ink, pattern: [u8; 256], row: u32) -> [u32; 8]
     ensures { RowOf ink pattern row result }
 {
     let mut values = [0u32; 8];
-    let mut column = 0;
-    while column < 8 {
-        values[column as usize] = pattern_in(ink, pattern, column, row);
-        column += 1;
+    for column in 0..8 {
+        values[column as usize] = pattern_in(ink, &pattern, column, row);
     }
     values
 }
@@ -161,26 +111,17 @@ pub fn values_at(ink: Ink, pattern: [u8; 256], x: u32, y: u32, rows: u32) -> [u3
     requires { Colour ink.target × (x ≤ 2 ^ 13) × (y ≤ 2 ^ 13) × (rows ≤ 8) }
     ensures { ValuesOf ink pattern x y rows result }
 {
-    let n = ink.target.bytes;
     let mut values = [0u32; 64];
-    let mut j = 0;
-    while j < rows {
+    for j in 0..rows {
         let row = pattern_row(ink, y + j);
-        let byte = wide(pattern[row as usize]);
-        let mut i = 0;
-        while i < 8 {
-            let column = pattern_column(ink, x + i);
-            let at = ((row * 8 + column) * n) as usize;
-            let word = word_of(
-                pattern[at],
-                pattern[at + 1],
-                pattern[at + 2],
-                pattern[at + 3],
+        for i in 0..8 {
+            values[(j * 8 + i) as usize] = pattern_in(
+                ink,
+                &pattern,
+                pattern_column(ink, x + i),
+                row,
             );
-            values[(j * 8 + i) as usize] = value_of(ink, byte, column, word);
-            i += 1;
         }
-        j += 1;
     }
     values
 }

@@ -5,16 +5,8 @@ ghost use Rattle.std.specs.Prelude.{◌≡◌, ◌%◌, ◌<◌};
 ghost use Rattle.raster.specs.Rop.{rop_bits, pattern_free};
 ghost use Rattle.raster.specs.Masks.{mask, muxed, merged, quad_of, turns, flips, quad_made};
 
-// Of four values, at each bit the one whose number is 2s + d there.
-pub fn merge(q0: u32, q1: u32, q2: u32, q3: u32, s: u32, d: u32) -> u32
-    ensures { result ≡ merged q0 q1 q2 q3 s d }
-{
-    let low = q0 ^ (d & (q1 ^ q0));
-    let high = q2 ^ (d & (q3 ^ q2));
-    low ^ (s & (high ^ low))
-}
-
 // Bit k of a code at all 32 bits.
+#[tactic(auto, unfolding(crate::specs::Masks::mask))]
 pub fn spread(code: u32, k: u32) -> u32
     requires { k < 8 }
     ensures { result ≡ mask 32 code k }
@@ -23,10 +15,19 @@ pub fn spread(code: u32, k: u32) -> u32
 }
 
 // By the bits of a pattern's pixel: `high` where it has a 1, `low` where it has a 0.
+#[tactic(auto, unfolding(crate::specs::Masks::muxed))]
 pub fn lay(low: u32, high: u32, p: u32) -> u32
     ensures { result ≡ muxed p high low }
 {
     low ^ (p & (high ^ low))
+}
+
+// Of four values, at each bit the one whose number is 2s + d there.
+#[tactic(auto, unfolding(crate::specs::Masks::merged))]
+pub fn merge(q0: u32, q1: u32, q2: u32, q3: u32, s: u32, d: u32) -> u32
+    ensures { result ≡ merged q0 q1 q2 q3 s d }
+{
+    lay(lay(q0, q1, d), lay(q2, q3, d), s)
 }
 
 // The raster operation at all 32 bits: of the bits of the code, by pattern, source and target.
@@ -49,6 +50,7 @@ pub struct Quad {
     pub q3: u32,
 }
 
+#[tactic(auto, unfolding(crate::specs::Masks::quad_of))]
 pub fn quad_of(code: u32, s: u32) -> Quad
     ensures { result ≡ quad_of code s }
 {

@@ -2,7 +2,7 @@
 -- Assumes nothing.
 use mathlib.Core.Path.{◌≡◌}
 use mathlib.Core.List.{List}
-use Prim.Native.Nat.{ℕ, ◌+◌, ◌-◌, ◌*◌, ◌/◌, ◌%◌, ◌<◌, ◌≤◌}
+use Prim.Native.Nat.{ℕ, ◌+◌, ◌*◌, ◌/◌, ◌%◌, ◌<◌, ◌≤◌}
 use lib.ListN.{length, get_or}
 use Rattle.ink.specs.declared.Ink.{Ink}
 use Rattle.ink.specs.Pattern.{pattern_value}
@@ -14,13 +14,7 @@ First ink pattern x y k values =
     (length values ≡ 64) × ((l : ℕ) → l < k → get_or values l 0 ≡ pattern_value ink pattern (x + l % 8) (y + l / 8)) × ((l : ℕ) → k ≤ l → get_or values l 0 ≡ 0)
 
 abbrev pub invariant-loop-i : goal.invariant-loop-i
-invariant-loop-i l = (l.i ≤ 8) × First l.ink l.pattern l.x l.y (l.j * 8 + l.i) l.values
-
-abbrev pub decreases-loop-i : goal.decreases-loop-i
-decreases-loop-i l = 8 - l.i
+invariant-loop-i l = First l.ink l.pattern l.x l.y (l.j * 8 + l.i) l.values
 
 abbrev pub invariant-loop-j : goal.invariant-loop-j
-invariant-loop-j l = (l.j ≤ l.rows) × First l.ink l.pattern l.x l.y (l.j * 8) l.values
-
-abbrev pub decreases-loop-j : goal.decreases-loop-j
-decreases-loop-j l = l.rows - l.j
+invariant-loop-j l = First l.ink l.pattern l.x l.y (l.j * 8) l.values
