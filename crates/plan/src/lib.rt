@@ -11,6 +11,7 @@ use keys::Range;
 use paint::Source;
 
 // Raster operation number i of a command.
+#[tactic(auto, unfolding(crate::specs::Plan::code_of))]
 fn code_of(ink: Ink, i: u32) -> u32
     ensures { result ≡ code_of ink i }
 {
@@ -27,10 +28,8 @@ pub fn masks_of(ink: Ink) -> [u32; 32]
     ensures { MasksOf ink result }
 {
     let mut masks = [0u32; 32];
-    let mut i = 0;
-    while i < 32 {
+    for i in 0..32 {
         masks[i as usize] = raster::spread(code_of(ink, i / 8), i % 8);
-        i += 1;
     }
     masks
 }
@@ -40,11 +39,9 @@ pub fn quads_of(masks: [u32; 32], values: [u32; 8]) -> [u32; 128]
     ensures { QuadsFrom masks values result }
 {
     let mut quads = [0u32; 128];
-    let mut i = 0;
-    while i < 128 {
+    for i in 0..128 {
         let at = i / 32 * 8 + i % 4;
         quads[i] = raster::lay(masks[at], masks[at + 4], values[i / 4 % 8]);
-        i += 1;
     }
     quads
 }
@@ -53,10 +50,7 @@ pub fn quads_of(masks: [u32; 32], values: [u32; 8]) -> [u32; 128]
 fn is_hit(on: bool, bytes: u32, range: Range, v: u32) -> bool
     ensures { result ≡ (on && in_range bytes range v) }
 {
-    if on {
-        return keys::in_range(bytes, range, v);
-    }
-    false
+    on && keys::in_range(bytes, range, v)
 }
 
 // The source that the value v of a copied pixel makes.
@@ -72,19 +66,11 @@ pub fn source_of(ink: Ink, range: Range, from: u32, v: u32) -> Source
 }
 
 // Where the values begin of the raster operation that the two key tests choose.
+#[tactic(auto, unfolding(crate::specs::Plan::code_at))]
 fn code_at(by_source: bool, by_target: bool) -> u32
     ensures { (result ≡ code_at by_source by_target) × (result ≤ 96) }
 {
-    if by_source {
-        if by_target {
-            return 96;
-        }
-        return 64;
-    }
-    if by_target {
-        return 32;
-    }
-    0
+    u32::from(by_source) * 64 + u32::from(by_target) * 32
 }
 
 // Where the four values of a pixel begin: of the raster operation that its keys choose, at its column of the pattern.
