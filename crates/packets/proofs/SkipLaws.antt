@@ -1,27 +1,37 @@
--- A mask's zeros passed over one by one, as a loop does it.
+-- A mask's zeros passed over at once: they are as many as the zeros below its lowest bit.
 -- Assumes nothing.
-use Rattle.std.proofs.Common.{◌≡◌, ℕ, zero, suc, ◌+◌, ◌-◌, ◌/◌, ◌%◌, ◌^◌, ◌<◌, ◌≤◌, refl, arith, eq-eqb, ne_eqb}
+use Rattle.std.proofs.Common.{◌≡◌, ℕ, zero, suc, ◌+◌, ◌*◌, ◌/◌, ◌%◌, ◌^◌, ◌<◌, refl, arith, ap₂, sym, ◌∙◌, eq-eqb, ne_eqb}
+use native.Mathlib.Nat.{pow-suc}
+use lib.Pow.{shr-shr}
+use lib.Count.{count_trailing_zeros}
 use Rattle.packets.specs.declared.Rest.TheVariants.{Empty, Masked}
 use Rattle.packets.specs.Reader.{skipped}
 
--- ---- a loop over the bits of a mask
-pub skip-none : (k o mask : ℕ) → mask ≡ 0 → Empty ≡ skipped k o mask
+low-even : (k m : ℕ) → m % 2 ≡ 0 → count_trailing_zeros (suc k) m ≡ 1 + count_trailing_zeros k (m / 2)
+unfolding count_trailing_zeros
+low-even k m e = rw e (omega arith)
+
+low-odd : (k m : ℕ) → m % 2 ≡ 1 → count_trailing_zeros (suc k) m ≡ 0
+unfolding count_trailing_zeros
+low-odd k m e = rw e
+
+pub skip_none : (k o : ℕ) → Empty ≡ skipped k o 0
 unfolding skipped
-skip-none zero o mask h = refl
-skip-none (suc k) o mask h = rw h (skip-none k ((o + 4) % 2 ^ 32) 0 refl)
+skip_none zero o = refl
+skip_none (suc k) o = skip_none k ((o + 4) % 2 ^ 32)
 
-module _ (o m : ℕ) where
-  pub skip-found : (k : ℕ) → 0 < k → m % 2 ≡ 1 → Masked o m ≡ skipped k o m
-  unfolding skipped
-  skip-found zero h e = absurd (omega arith)
-  skip-found (suc k) h e = rw (eq-eqb (m % 2) 1 e)
-
-  pub skip-again : (k : ℕ) → 0 < k → (m % 2 ≡ 1 → ⊥) → skipped (k - 1) ((o + 4) % 2 ^ 32) (m / 2) ≡ skipped k o m
-  unfolding skipped
-  skip-again zero h e = absurd (omega arith)
-  skip-again (suc k) h e = let f : suc k - 1 ≡ k = omega arith in rw (f, ne_eqb (m % 2) 1 e)
-
-  pub skip-ends : (k : ℕ) → k ≤ 0 → Empty ≡ skipped k o m
-  unfolding skipped
-  skip-ends zero h = refl
-  skip-ends (suc k) h = absurd (omega arith)
+pub skip_some : (k o m : ℕ) → o < 2 ^ 32 → 0 < m → m < 2 ^ k
+    → Masked ((o + 4 * count_trailing_zeros k m) % 2 ^ 32) (m / 2 ^ count_trailing_zeros k m) ≡ skipped k o m
+unfolding skipped
+skip_some zero o m f p h = absurd (omega arith)
+skip_some (suc k) o m f p h = by-bit (m % 2) refl (λ q. skip_some k ((o + 4) % 2 ^ 32) (m / 2) (omega arith) q (let half = rw (pow-suc 2 k) at h in omega arith))
+  where
+    by-bit : (b : ℕ) → m % 2 ≡ b
+        → (0 < m / 2 → Masked (((o + 4) % 2 ^ 32 + 4 * count_trailing_zeros k (m / 2)) % 2 ^ 32) (m / 2 / 2 ^ count_trailing_zeros k (m / 2)) ≡ skipped k ((o + 4) % 2 ^ 32) (m / 2))
+        → Masked ((o + 4 * count_trailing_zeros (suc k) m) % 2 ^ 32) (m / 2 ^ count_trailing_zeros (suc k) m) ≡ skipped (suc k) o m
+    by-bit zero e rest =
+        rw (low-even k m e, ne_eqb (m % 2) 1 (λ q. omega arith))
+        (ap₂ Masked (omega arith) (sym (shr-shr m 1 (count_trailing_zeros k (m / 2)))) ∙ rest (omega arith))
+    by-bit (suc b) e rest =
+        let odd : m % 2 ≡ 1 = omega arith in
+        rw (low-odd k m odd, eq-eqb (m % 2) 1 odd) (ap₂ Masked (omega arith) (omega arith))

@@ -60,7 +60,11 @@ fn shift(word: u32, byte: u8) -> u32
 fn turn_down(header: u32) -> bool
     ensures { result ≡ turned_down header }
 {
-    !((header % 8 == 1) & (header / 0x4000 % 2 == 1) | (header % 8 == 2))
+    match header % 8 {
+        1 => header / 0x4000 % 2 != 1,
+        2 => false,
+        _ => true,
+    }
 }
 
 #[tactic(auto, unfolding(crate::specs::Reader::counted))]
@@ -80,20 +84,11 @@ fn skip(offset: u32, mask: u32) -> Rest
     if mask == 0 {
         return Rest::Empty;
     }
-    let mut o = offset;
-    let mut m = mask;
-    let mut left: u32 = 32;
-    while 0 < left {
-        if m % 2 == 1 {
-            return Rest::Masked(o, m);
-        }
-        o = std::num::wrapping_add_u32(o, 4);
-        m = m / 2;
-        left -= 1;
-    }
-    Rest::Empty
+    let zeros = mask.trailing_zeros();
+    Rest::Masked(offset.wrapping_add(4 * zeros), mask >> zeros)
 }
 
+#[tactic(auto, unfolding(crate::specs::Reader::opened))]
 fn open_packet(header: u32) -> Rest
     ensures { result ≡ opened header }
 {
@@ -102,13 +97,12 @@ fn open_packet(header: u32) -> Rest
     }
     let first = header / 8 % 0x100 * 4;
     let left = header / 0x1_0000;
-    if header / 0x8000 % 2 == 1 {
-        return count_from(first, 4, left);
-    }
-    count_from(first, 0, left)
+    let step = if header / 0x8000 % 2 == 1 { 4 } else { 0 };
+    count_from(first, step, left)
 }
 
 // What is left after a word.
+#[tactic(auto, unfolding(crate::specs::Reader::advanced))]
 fn advance(rest: Rest) -> Rest
     ensures { result ≡ advanced rest }
 {
@@ -118,35 +112,29 @@ fn advance(rest: Rest) -> Rest
             if left < 2 {
                 return Rest::Empty;
             }
-            Rest::Counted(std::num::wrapping_add_u32(offset, step), step, left - 1)
+            Rest::Counted(offset.wrapping_add(step), step, left - 1)
         }
-        Rest::Masked(offset, mask) => skip(std::num::wrapping_add_u32(offset, 4), mask / 2),
+        Rest::Masked(offset, mask) => skip(offset.wrapping_add(4), mask / 2),
     }
 }
 
 // ---- words
 
+#[tactic(auto, unfolding(crate::specs::Reader::headed))]
 fn read_header(header: u32) -> Heard
     ensures { result ≡ headed header }
 {
     if turn_down(header) {
         return Heard {
             reader: Reader {
-                word: 0,
-                held: 0,
-                rest: Rest::Empty,
                 closed: true,
+                ..Reader::open()
             },
             event: Event::Closed,
         };
     }
     Heard {
-        reader: Reader {
-            word: 0,
-            held: 0,
-            rest: open_packet(header),
-            closed: false,
-        },
+        reader: Reader::between(open_packet(header)),
         event: Event::Nothing,
     }
 }
@@ -155,12 +143,7 @@ fn read_data(rest: Rest, offset: u32, word: u32) -> Heard
     ensures { result ≡ heard (between (advanced rest)) (Event.Write offset word) }
 {
     Heard {
-        reader: Reader {
-            word: 0,
-            held: 0,
-            rest: advance(rest),
-            closed: false,
-        },
+        reader: Reader::between(advance(rest)),
         event: Event::Write(offset, word),
     }
 }
@@ -180,15 +163,23 @@ impl Reader {
     pub fn open() -> Reader
         ensures { result ≡ blank }
     {
+        Reader::between(Rest::Empty)
+    }
+
+    // Nothing held, none turned down.
+    fn between(rest: Rest) -> Reader
+        ensures { result ≡ between rest }
+    {
         Reader {
             word: 0,
             held: 0,
-            rest: Rest::Empty,
+            rest,
             closed: false,
         }
     }
 
     // One byte.
+    #[tactic(auto, unfolding(crate::specs::Reader::took))]
     pub fn take(self, byte: u8) -> Heard
         ensures { result ≡ took byte self }
     {
@@ -198,21 +189,18 @@ impl Reader {
                 event: Event::Nothing,
             };
         }
-        let rest = self.rest;
-        let held = self.held;
         let word = shift(self.word, byte);
-        if held < 3 {
+        if self.held < 3 {
             return Heard {
                 reader: Reader {
-                    word: word,
-                    held: held + 1,
-                    rest: rest,
-                    closed: false,
+                    word,
+                    held: self.held + 1,
+                    ..self
                 },
                 event: Event::Nothing,
             };
         }
-        read_word(rest, word)
+        read_word(self.rest, word)
     }
 
     // Nothing held, and no packet turned down.
@@ -228,23 +216,17 @@ impl Reader {
         ensures { result ≡ next_of self piece.now at room }
     {
         if self.is_between() & room & (4 <= piece.len() - at) {
-            let rest = self.rest;
-            let word = basics::word_at(piece, at);
-            let whole = read_word(rest, word);
-            let after = whole.reader;
-            let event = whole.event;
+            let Heard { reader, event } = read_word(self.rest, basics::word_at(piece, at));
             return Next {
-                reader: after,
-                event: event,
+                reader,
+                event,
                 used: at + 4,
             };
         }
-        let part = self.take(piece[at]);
-        let after = part.reader;
-        let event = part.event;
+        let Heard { reader, event } = self.take(piece[at]);
         Next {
-            reader: after,
-            event: event,
+            reader,
+            event,
             used: at + 1,
         }
     }
@@ -260,6 +242,7 @@ pub fn has_room(len: usize, answered: usize) -> bool
 }
 
 // One answer behind those that are there; how many there are then.
+#[tactic(auto, unfolding(crate::specs::Answers::put))]
 pub fn put_answer(
     answers: &mut [u32],
     answered: usize,
@@ -269,7 +252,7 @@ pub fn put_answer(
 ) -> usize
     ensures { lent answers.new result ≡ put (note number count changed) (lent answers.old answered) }
 {
-    if answered < answers.len() / 3 {
+    if has_room(answers.len(), answered) {
         let at = answered * 3;
         answers[at] = number;
         answers[at + 1] = count;
