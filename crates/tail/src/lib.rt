@@ -7,6 +7,7 @@ ghost use Rattle.tail.specs.Layout.{reader_size, kind_of, offset_of, step_of, le
 use packets::{Reader, Rest};
 
 // Whether bytes are a reader's.
+#[tactic(auto, unfolding(crate::specs::Layout::is_reader))]
 pub fn is_reader(s: &[u8]) -> bool
     ensures { result ≡ is_reader s.now }
 {
@@ -19,32 +20,31 @@ pub fn is_reader(s: &[u8]) -> bool
         & (basics::word_at(s, 0x10) < 3)
 }
 
+#[tactic(auto, unfolding(crate::specs::Layout::rest_of))]
 fn rest_of(kind: u32, offset: u32, step: u32, left: u32) -> Rest
     ensures { result ≡ rest_of kind offset step left }
 {
-    if kind == 1 {
-        return Rest::Counted(offset, step, left);
+    match kind {
+        1 => Rest::Counted(offset, step, left),
+        2 => Rest::Masked(offset, left),
+        _ => Rest::Empty,
     }
-    if kind == 2 {
-        return Rest::Masked(offset, left);
-    }
-    Rest::Empty
 }
 
+#[tactic(auto, unfolding(crate::specs::Layout::decoded))]
 pub fn decode(s: &[u8]) -> Reader
     requires { length s.now ≡ reader_size }
     ensures { result ≡ decoded s.now }
 {
-    let rest = rest_of(
-        basics::word_at(s, 0x10),
-        basics::word_at(s, 0x14),
-        basics::word_at(s, 0x18),
-        basics::word_at(s, 0x1c),
-    );
     Reader {
         word: basics::word_at(s, 0x04),
         held: basics::word_at(s, 0x08),
-        rest: rest,
+        rest: rest_of(
+            basics::word_at(s, 0x10),
+            basics::word_at(s, 0x14),
+            basics::word_at(s, 0x18),
+            basics::word_at(s, 0x1c),
+        ),
         closed: basics::word_at(s, 0x0c) == 1,
     }
 }
@@ -64,8 +64,7 @@ pub fn offset_of(rest: Rest) -> u32
 {
     match rest {
         Rest::Empty => 0,
-        Rest::Counted(offset, _, _) => offset,
-        Rest::Masked(offset, _) => offset,
+        Rest::Counted(offset, _, _) | Rest::Masked(offset, _) => offset,
     }
 }
 
@@ -73,9 +72,8 @@ fn step_of(rest: Rest) -> u32
     ensures { result ≡ step_of rest }
 {
     match rest {
-        Rest::Empty => 0,
         Rest::Counted(_, step, _) => step,
-        Rest::Masked(_, _) => 0,
+        Rest::Empty | Rest::Masked(_, _) => 0,
     }
 }
 
@@ -84,11 +82,11 @@ pub fn left_of(rest: Rest) -> u32
 {
     match rest {
         Rest::Empty => 0,
-        Rest::Counted(_, _, left) => left,
-        Rest::Masked(_, mask) => mask,
+        Rest::Counted(_, _, left) | Rest::Masked(_, left) => left,
     }
 }
 
+#[tactic(auto, unfolding(crate::specs::Layout::with_rest))]
 fn save_rest(s: &mut [u8], rest: Rest)
     requires { length s.old ≡ reader_size }
     ensures { (s.new ≡ with_rest s.old rest) × (length s.new ≡ reader_size) }
@@ -103,11 +101,9 @@ pub fn save(s: &mut [u8], r: Reader)
     requires { length s.old ≡ reader_size }
     ensures { s.new ≡ encoded r }
 {
-    let rest = r.rest;
-    let closed = r.closed;
     basics::put_word(s, 0, 0x6c69_6154);
     basics::put_word(s, 0x04, r.word);
     basics::put_word(s, 0x08, r.held);
-    basics::put_word(s, 0x0c, closed as u32);
-    save_rest(s, rest);
+    basics::put_word(s, 0x0c, r.closed as u32);
+    save_rest(s, r.rest);
 }
