@@ -11,6 +11,7 @@ use registers::Regs;
 use rooms::{Room, Rooms};
 
 // Whether open made these bytes: their number, the mark, and a flag that is one.
+#[tactic(auto, unfolding(crate::specs::Layout::is_state))]
 pub fn is_state(s: &[u8]) -> bool
     ensures { (result ≡ is_state s.now) × (result ≡ true → Bytes s.now) }
 {
@@ -20,6 +21,7 @@ pub fn is_state(s: &[u8]) -> bool
     (basics::word_at(s, 0) == 0x656d_6952) & (basics::word_at(s, 4) < 2)
 }
 
+#[tactic(auto, unfolding(crate::specs::Layout::regs_in))]
 fn decode_regs(s: &[u8]) -> Regs
     requires { length s.now ≡ state_size }
     ensures { result ≡ regs_in s.now }
@@ -58,11 +60,7 @@ fn decode_pattern(s: &[u8]) -> [u8; 256]
     ensures { result ≡ pattern_in s.now }
 {
     let mut p = [0u8; 256];
-    let mut i = 0;
-    while i < 256 {
-        p[i] = s[0x8c + i];
-        i += 1;
-    }
+    p.copy_from_slice(&s[0x8c..0x8c + 256]);
     p
 }
 
@@ -83,16 +81,15 @@ fn decode_room(s: &[u8], at: usize) -> Room
     }
 }
 
+#[tactic(auto, unfolding(crate::specs::Layout::decoded))]
 pub fn decode(s: &[u8]) -> Engine
     requires { length s.now ≡ state_size }
     ensures { result ≡ decoded s.now }
 {
-    let regs = decode_regs(s);
-    let pattern = decode_pattern(s);
     Engine {
         bank: Bank {
-            regs: regs,
-            pattern: pattern,
+            regs: decode_regs(s),
+            pattern: decode_pattern(s),
         },
         blit: Blit {
             waiting: basics::word_at(s, 4) == 1,
@@ -112,15 +109,13 @@ pub fn save(s: &mut [u8], e: Engine)
     requires { length s.old ≡ state_size }
     ensures { s.new ≡ with_slots s.old e command_slots }
 {
-    let bank = e.bank;
+    let Engine { bank, blit, .. } = e;
     let regs = bank.regs;
-    let blit = e.blit;
     basics::put_word(s, 0x40, regs.line_style);
     basics::put_word(s, 0x5c, regs.src_xy);
     basics::put_word(s, 0x6c, regs.dst_xy);
     basics::put_word(s, 0x70, regs.command);
-    let waiting = blit.waiting;
-    basics::put_word(s, 4, waiting as u32);
+    basics::put_word(s, 4, blit.waiting as u32);
     basics::put_word(s, 0x44, blit.taken);
     basics::put_word(s, 0x48, blit.last);
 }
@@ -149,9 +144,5 @@ pub fn clear(s: &mut [u8])
     requires { length s.old ≡ state_size }
     ensures { s.new ≡ replicate state_size 0 }
 {
-    let mut i = 0;
-    while i < 396 {
-        s[i] = 0;
-        i += 1;
-    }
+    s.fill(0);
 }
