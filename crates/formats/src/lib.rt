@@ -8,6 +8,7 @@ ghost use Rattle.formats.specs.Asked.{Sized};
 
 use surface::Surface;
 
+// A code is the format's number as the registers have it; the specs name formats by it.
 fn bytes_of(code: u32) -> u32
     ensures { result ≡ bytes_of code }
 {

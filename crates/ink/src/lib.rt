@@ -8,7 +8,8 @@ ghost use Rattle.ink.specs.Asked.{Cell};
 
 use surface::Surface;
 
-// What does not change within a command: the target, the colours, the four raster operations, the two keys, and how the pattern lies.
+// What does not change within a command: the target, the colours, the four raster operations, the two keys, and how the pattern lies. The operations and the keys
+// are fields of their own and not an array or a struct: the specs of the crates above name them so.
 #[derive(Clone, Copy)]
 pub struct Ink {
     pub target: Surface,

@@ -24,6 +24,7 @@ fn channel_of<const VALUES: u32>(start: u32, v: u32) -> u32
     (v >> start) % VALUES
 }
 
+// Both comparisons with no branch between them: it is done at each pixel.
 fn is_between(low: u32, x: u32, high: u32) -> bool
     ensures { result ≡ (leb low x && leb x high) }
 {

@@ -153,8 +153,7 @@ fn read_word(rest: Rest, word: u32) -> Heard
 {
     match rest {
         Rest::Empty => read_header(word),
-        Rest::Counted(offset, _, _) => read_data(rest, offset, word),
-        Rest::Masked(offset, _) => read_data(rest, offset, word),
+        Rest::Counted(offset, _, _) | Rest::Masked(offset, _) => read_data(rest, offset, word),
     }
 }
 

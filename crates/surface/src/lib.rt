@@ -102,7 +102,7 @@ pub fn close_byte(s: Surface, x: u32, y: u32, k: u32) -> usize
     close_at(s, x * s.bytes + k, y)
 }
 
-// The number in the n bytes from an address on, low byte first.
+// The number in the n bytes from an address on, low byte first. An arm for each n and no loop: where n is known, one load is left of it.
 #[tactic(auto, unfolding(crate::specs::Place::read_bytes))]
 pub fn get_bytes(mem: &[u8], at: usize, n: u32) -> u32
     requires { Held at n (length mem.now) }

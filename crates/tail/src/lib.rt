@@ -49,6 +49,7 @@ pub fn decode(s: &[u8]) -> Reader
     }
 }
 
+// A number, since it is stored: specs/Layout.antt fixes it.
 fn kind_of(rest: Rest) -> u32
     ensures { result ≡ kind_of rest }
 {

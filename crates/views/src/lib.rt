@@ -4,7 +4,7 @@
 ghost use Rattle.std.specs.Prelude.{◌≡◌, ◌+◌, ◌-◌, ◌<◌, length};
 ghost use Rattle.views.specs.View.{view_answer, view_start, viewed, further};
 
-// The answer to a view of some pixels of a row: 0, or the number of the refusal.
+// The answer to a view of some pixels of a row: 0, or the number of the refusal, as the C interface gives it to its caller.
 #[tactic(auto, using(crate::proofs::ViewLaws::row_on), unfolding(crate::specs::View::view_answer))]
 pub fn view_answer(len: usize, base: u32, format: u32, x: u32, y: u32, width: u32) -> u32
     ensures { result ≡ view_answer len base format x y width }
