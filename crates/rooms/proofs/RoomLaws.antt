@@ -5,7 +5,7 @@ use mathlib.Core.Logic.{◌⊎◌, ⊎_elim}
 use mathlib.Core.List.{[], ◌∷◌}
 use mathlib.Core.Bool.{Bool, true, false, cond}
 use Prim.Native.Nat.{ℕ, ◌+◌, ◌*◌, ◌/◌, ◌%◌, ◌-◌, ◌^◌, ◌<◌, ◌≤◌}
-use native.Mathlib.Nat.{mul-le-mul_right, div-mul-le_self, add-mul, le-div_iff_mul-le, div-le_self, zero-div}
+use native.Mathlib.Nat.{mul-le-mul_right, div-mul-le_self, add-mul, le-div_iff_mul-le, div-le_self}
 use native.Mathlib.Omega.{arith}
 use lib.Dec.{eqb}
 use borrow.Author.Tests.{eq-eqb}
@@ -21,7 +21,7 @@ use Rattle.rooms.specs.declared.Rooms.{Rooms}
 use Rattle.formats.specs.Format.{target_named, target_of, source_named, source_of}
 use Rattle.formats.specs.Step.{packing_of, step_of}
 use Rattle.rooms.specs.Room.{no_room, whole_rows, room_of, target_room, unpacked, source_room, worked, of_target, of_source, after, depth}
-use Rattle.registers.proofs.Arms.{either_same, Each, of-each, none_of}
+use Rattle.registers.proofs.Arms.{Each, of-each, none_of}
 use Rattle.surface.proofs.Rows.{by_layout, byte_at-flat, byte_at-tiled, row_bytes-flat, row_bytes-tiled}
 use Rattle.surface.proofs.Tiles.{tile_at}
 use Rattle.surface.proofs.OnLaws.{colour-pixels, last_byte, last-in-row, on-from}
@@ -80,12 +80,6 @@ has-rect {len} {s} {k} has x y w h a b =
     (λ p i. let r = in-rect false false x y w h p i in has_on has p.x p.y (omega arith) (omega arith))
 
 -- ---- the room that is worked out is there
-
-pub rows_none : (len : ℕ) (s : Surface) → len ≤ s.base → whole_rows len s ≡ 0
-unfolding whole_rows
-rows_none len s h =
-    let none : len - s.base ≡ 0 = omega arith in
-    rw (none, zero-div (4096 * s.stride), zero-div s.stride) (either_same s.tiled 0)
 
 pub pixels-small : (s : Surface) → Small s → row_pixels s < 2 ^ 27
 unfolding row_pixels

@@ -1,4 +1,4 @@
--- `rooms::whole_rows` meets its contract: none where the base is at the end or past it, and then by the layout.
+-- `rooms::whole_rows` meets its contract: a quotient is no more than what is divided.
 -- Assumes nothing.
 use Prim.Native.Nat.{◌-◌, ◌*◌}
 use native.Mathlib.Nat.{div-le_self}
