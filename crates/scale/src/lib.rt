@@ -37,6 +37,7 @@ pub struct Walk {
 }
 
 // The source place that a target place takes.
+#[tactic(auto, using(crate::proofs::ScaleLaws::product, crate::proofs::ScaleLaws::scaled_small), unfolding(crate::specs::Scale::scaled))]
 pub fn place_of(s: Scale, place: u32) -> u32
     requires { OnScale s place }
     ensures { (result ≡ scaled s place) × (result < 2 ^ 15) }
@@ -45,6 +46,7 @@ pub fn place_of(s: Scale, place: u32) -> u32
 }
 
 // A walk that begins at a target place.
+#[tactic(auto, using(crate::proofs::ScaleLaws::product), unfolding(crate::specs::Scale::walk_at))]
 pub fn start(s: Scale, place: u32) -> Walk
     requires { OnScale s place }
     ensures { result ≡ walk_at s place }
@@ -59,6 +61,7 @@ pub fn start(s: Scale, place: u32) -> Walk
 }
 
 // The walk at the next place: nothing is divided.
+#[tactic(auto, unfolding(crate::specs::Scale::next_of))]
 pub fn next(w: Walk) -> Walk
     requires { Steps w }
     ensures { result ≡ next_of w }
@@ -67,17 +70,13 @@ pub fn next(w: Walk) -> Walk
     if rest < w.size {
         return Walk {
             at: w.at + w.whole,
-            rest: rest,
-            whole: w.whole,
-            over: w.over,
-            size: w.size,
+            rest,
+            ..w
         };
     }
     Walk {
         at: w.at + w.whole + 1,
         rest: rest - w.size,
-        whole: w.whole,
-        over: w.over,
-        size: w.size,
+        ..w
     }
 }
