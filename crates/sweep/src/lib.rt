@@ -26,6 +26,7 @@ pub struct Task {
     pub y: u32,
 }
 
+#[tactic(auto, unfolding(paint::specs::Mix::fill_source))]
 pub fn fill_source(ink: Ink, bit: u32) -> Source
     ensures { result ≡ fill_source ink bit }
 {
@@ -36,53 +37,85 @@ pub fn fill_source(ink: Ink, bit: u32) -> Source
     }
 }
 
+// What does not change while a rectangle is painted, worked out before its rows: the ranges of the two keys, the bits of the raster operations, and what those
+// make where no pattern is looked at.
+#[derive(Drop)]
+struct Brush {
+    task: Task,
+    pattern: [u8; 256],
+    source: Range,
+    target: Range,
+    masks: [u32; 32],
+    blank: [u32; 128],
+    ghost flat: { Rowwise task },
+    ghost by_source: { SourceKey task source },
+    ghost by_target: { TargetKey task target },
+    ghost laid: { Laid task masks blank },
+}
+
+fn brush_of(task: Task, pattern: [u8; 256]) -> Brush
+    requires { Rowwise task }
+    ensures { (result.task ≡ task) × (result.pattern ≡ pattern) }
+{
+    let ink = task.ink;
+    let masks = plan::masks_of(ink);
+    Brush {
+        task,
+        pattern,
+        source: keys::range_of(task.from.bytes, ink.src_min, ink.src_max),
+        target: keys::range_of(ink.target.bytes, ink.dst_min, ink.dst_max),
+        masks,
+        blank: plan::quads_of(masks, [0u32; 8]),
+    }
+}
+
 // The source of pixel (x, y); `bit` is the bit of a mono pattern there, and `range` that of the source key.
+#[tactic(auto, unfolding(crate::specs::Copy::source_by, crate::specs::Copy::source_place))]
 fn source_at(mem: &[u8], t: Task, range: Range, bit: u32, x: u32, y: u32) -> Source
     requires { HasSource t (length mem.now) x y × (SourceKey t range × Rowwise t) }
     ensures { result ≡ source_by t bit mem.now (px x y) }
 {
-    let ink = t.ink;
     if !t.copies {
-        return fill_source(ink, bit);
+        return fill_source(t.ink, bit);
     }
     let from = t.from;
-    let bytes = from.bytes;
     let sx = t.sx + (x - t.x);
     let sy = t.sy + (y - t.y);
-    if bytes == 0 {
-        return paint::bit_source(ink, surface::get_bit(mem, from, sx, sy));
+    if from.bytes == 0 {
+        return paint::bit_source(t.ink, surface::get_bit(mem, from, sx, sy));
     }
-    plan::source_of(ink, range, bytes, surface::get_in_rows(mem, from, sx, sy))
+    plan::source_of(
+        t.ink,
+        range,
+        from.bytes,
+        surface::get_in_rows(mem, from, sx, sy),
+    )
 }
 
 // The w pixels of row y, from the left or from the right, after those that n tells of; `quads` and `bits` are of the pattern's row there.
 fn paint_across(
     mem: &mut [u8],
-    t: Task,
-    source: Range,
-    target: Range,
-    quads: [u32; 128],
+    b: &Brush,
+    quads: &[u32; 128],
     bits: u32,
     w: u32,
     y: u32,
     back: bool,
     n: Tally,
 ) -> Tally
-    requires { RowReady t w y (length mem.old) n × ((SourceKey t source × TargetKey t target) × Rowwise t) }
-    ensures { tallied mem.new result ≡ paint t.ink.target (in_row t quads bits (across back t.x w y)) (tallied mem.old n) }
+    requires { RowReady b.now.task w y (length mem.old) n }
+    ensures { tallied mem.new result ≡ paint b.now.task.ink.target (in_row b.now.task quads.now bits (across back b.now.task.x w y)) (tallied mem.old n) }
 {
-    let ink = t.ink;
-    let to = ink.target;
+    let t = b.task;
+    let to = t.ink.target;
     let mut r = n;
-    let mut i = 0;
-    while i < w {
+    for i in 0..w {
         let x = paint::place(back, t.x, w, i);
-        let column = ink::pattern_column(ink, x);
-        let bit = ink::bit_of(bits, column);
-        let s = source_at(mem, t, source, bit, x, y);
+        let column = ink::pattern_column(t.ink, x);
+        let s = source_at(mem, t, b.source, ink::bit_of(bits, column), x, y);
         let at = surface::place_in_rows(to, x, y);
         let old = surface::get_bytes(mem, at, to.bytes);
-        let k = plan::quad_at(ink, target, s.key, old, column) as usize;
+        let k = plan::quad_at(t.ink, b.target, s.key, old, column) as usize;
         let v = raster::merge(
             quads[k],
             quads[k + 1],
@@ -92,36 +125,23 @@ fn paint_across(
             old,
         );
         r = paint::put_value_at(mem, at, to.bytes, s.left, v, r);
-        i += 1;
     }
     r
 }
 
-// A row, of any pattern; `masks` are those of the raster operations, and `blank` is for those that look at no pattern.
-fn paint_row(
-    mem: &mut [u8],
-    t: Task,
-    source: Range,
-    target: Range,
-    masks: [u32; 32],
-    blank: [u32; 128],
-    pattern: [u8; 256],
-    w: u32,
-    y: u32,
-    back: bool,
-    n: Tally,
-) -> Tally
-    requires { RowReady t w y (length mem.old) n × (((SourceKey t source × TargetKey t target) × Rowwise t) × Laid t masks blank) }
-    ensures { tallied mem.new result ≡ paint t.ink.target (in_turn t pattern (across back t.x w y)) (tallied mem.old n) }
+// A row, of any pattern.
+fn paint_row(mem: &mut [u8], b: &Brush, w: u32, y: u32, back: bool, n: Tally) -> Tally
+    requires { RowReady b.now.task w y (length mem.old) n }
+    ensures { tallied mem.new result ≡ paint b.now.task.ink.target (in_turn b.now.task b.now.pattern (across back b.now.task.x w y)) (tallied mem.old n) }
 {
-    let ink = t.ink;
+    let ink = b.task.ink;
     let row = ink::pattern_row(ink, y);
-    let bits = ink::pattern_byte(pattern, row);
+    let bits = ink::pattern_byte(b.pattern, row);
     if paint::is_patternless(ink) {
-        return paint_across(mem, t, source, target, blank, bits, w, y, back, n);
+        return paint_across(mem, b, &b.blank, bits, w, y, back, n);
     }
-    let quads = plan::quads_of(masks, ink::row_values(ink, pattern, row));
-    paint_across(mem, t, source, target, quads, bits, w, y, back, n)
+    let quads = plan::quads_of(b.masks, ink::row_values(ink, b.pattern, row));
+    paint_across(mem, b, &quads, bits, w, y, back, n)
 }
 
 // A rectangle, row by row from the corner that the two flags name.
@@ -137,22 +157,13 @@ pub fn paint_rows(
     requires { CanPaint t w h (length mem.old) × Rowwise t }
     ensures { tallied mem.new result ≡ paint t.ink.target (in_turn t pattern (rect to_left to_top t.x t.y w h)) (state mem.old 0 0) }
 {
-    let ink = t.ink;
-    let source = keys::range_of(t.from.bytes, ink.src_min, ink.src_max);
-    let target = keys::range_of(ink.target.bytes, ink.dst_min, ink.dst_max);
-    let masks = plan::masks_of(ink);
-    let blank = plan::quads_of(masks, [0u32; 8]);
+    let b = brush_of(t, pattern);
     let mut n = Tally {
         count: 0,
         changed: 0,
     };
-    let mut j = 0;
-    while j < h {
-        let y = paint::place(to_top, t.y, h, j);
-        n = paint_row(
-            mem, t, source, target, masks, blank, pattern, w, y, to_left, n,
-        );
-        j += 1;
+    for j in 0..h {
+        n = paint_row(mem, &b, w, paint::place(to_top, t.y, h, j), to_left, n);
     }
     n
 }
