@@ -12,22 +12,22 @@ use paint::{Source, Tally};
 use sweep::Task;
 
 // The source of pixel (x, y); `bit` is the bit of a mono pattern there.
+// A twin of sweep's, which reads a surface in rows alone, with the key worked out as a range before: one function for both would ask for the layout at each pixel.
+#[tactic(auto, unfolding(sweep::specs::Copy::source_by, sweep::specs::Copy::source_place))]
 fn source_at(mem: &[u8], t: Task, bit: u32, x: u32, y: u32) -> Source
     requires { HasSource t (length mem.now) x y }
     ensures { result ≡ source_by t bit mem.now (px x y) }
 {
-    let ink = t.ink;
     if !t.copies {
-        return sweep::fill_source(ink, bit);
+        return sweep::fill_source(t.ink, bit);
     }
     let from = t.from;
-    let bytes = from.bytes;
     let sx = t.sx + (x - t.x);
     let sy = t.sy + (y - t.y);
-    if bytes == 0 {
-        return paint::bit_source(ink, surface::get_bit(mem, from, sx, sy));
+    if from.bytes == 0 {
+        return paint::bit_source(t.ink, surface::get_bit(mem, from, sx, sy));
     }
-    paint::colour_source(ink, bytes, surface::get_pixel(mem, from, sx, sy))
+    paint::colour_source(t.ink, from.bytes, surface::get_pixel(mem, from, sx, sy))
 }
 
 // The w pixels of row y, from the left or from the right, after those that n tells of; `values` and `bits` are of the pattern's row there.
@@ -44,15 +44,12 @@ fn paint_across(
     requires { RowReady t w y (length mem.old) n }
     ensures { tallied mem.new result ≡ paint t.ink.target (in_row t values bits (across back t.x w y)) (tallied mem.old n) }
 {
-    let ink = t.ink;
     let mut r = n;
-    let mut i = 0;
-    while i < w {
+    for i in 0..w {
         let x = paint::place(back, t.x, w, i);
-        let column = ink::pattern_column(ink, x);
+        let column = ink::pattern_column(t.ink, x);
         let s = source_at(mem, t, ink::bit_of(bits, column), x, y);
-        r = paint::put_source(mem, ink, values[column as usize], x, y, s, r);
-        i += 1;
+        r = paint::put_source(mem, t.ink, values[column as usize], x, y, s, r);
     }
     r
 }
@@ -70,19 +67,16 @@ pub fn paint_rows(
     requires { CanPaint t w h (length mem.old) }
     ensures { tallied mem.new result ≡ paint t.ink.target (in_turn t pattern (rect to_left to_top t.x t.y w h)) (state mem.old 0 0) }
 {
-    let ink = t.ink;
     let mut n = Tally {
         count: 0,
         changed: 0,
     };
-    let mut j = 0;
-    while j < h {
+    for j in 0..h {
         let y = paint::place(to_top, t.y, h, j);
-        let row = ink::pattern_row(ink, y);
+        let row = ink::pattern_row(t.ink, y);
         let bits = ink::pattern_byte(pattern, row);
-        let values = ink::row_values(ink, pattern, row);
+        let values = ink::row_values(t.ink, pattern, row);
         n = paint_across(mem, t, values, bits, w, y, to_left, n);
-        j += 1;
     }
     n
 }

@@ -1,6 +1,5 @@
 -- `patch::paint_across` meets its contract: what remains of the row, painted on the memory now, is the row painted on the memory at the start.
 -- Assumes nothing.
-use Prim.Native.Nat.{◌-◌}
 use Rattle.paint.proofs.Loops.{row-begins, row_room, row-goes-on, row-ended}
 use Rattle.sweep.proofs.TaskLaws.{row-pixel}
 use Rattle.patch.proofs.RowLaws.{pixel-given}
@@ -8,13 +7,6 @@ use Rattle.patch.proofs.paint_across.Goals as goal
 
 pub loop-i-init : goal.loop-i-init
 loop-i-init c = row-begins
-
-pub place-x-requires : goal.place-x-requires
-place-x-requires c = (c.loop-i-test.true, c.requires.wide)
-
-pub source_at-s-requires : goal.source_at-s-requires
-source_at-s-requires c =
-    (row-pixel c.requires c.loop-i.invariant c.loop-i-test.true c.place-x.ensures).1
 
 pub put_source-r-requires : goal.put_source-r-requires
 put_source-r-requires c =

@@ -1,7 +1,6 @@
 -- `patch::paint_rows` meets its contract: what remains of the rectangle, painted on the memory now, is the rectangle painted on the memory at the start.
 -- Assumes nothing.
 use mathlib.Core.Path.{◌∙◌}
-use Prim.Native.Nat.{◌-◌}
 use Rattle.paint.specs.Paint.{tallied}
 use Rattle.paint.proofs.Loops.{rows-begin, rows-go-on, rows-ended}
 use Rattle.sweep.proofs.TaskLaws.{can-row}
@@ -10,12 +9,6 @@ use Rattle.patch.proofs.paint_rows.Goals as goal
 
 pub loop-j-init : goal.loop-j-init
 loop-j-init c = rows-begin
-
-pub place-y-requires : goal.place-y-requires
-place-y-requires c = (c.loop-j-test.true, c.requires.high)
-
-pub row_values-values-requires : goal.row_values-values-requires
-row_values-values-requires c = (c.requires.colour, c.pattern_row-row.ensures.1)
 
 pub paint_across-n-requires : goal.paint_across-n-requires
 paint_across-n-requires c =
