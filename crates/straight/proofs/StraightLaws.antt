@@ -4,7 +4,8 @@ use mathlib.Core.Path.{◌≡◌, refl, sym, ap, ap₂, subst, ◌∙◌}
 use mathlib.Core.Bool.{Bool, true, false, cond}
 use mathlib.Core.List.{List}
 use mathlib.Core.Option.{some}
-use Prim.Native.Nat.{ℕ, zero, suc, ◌+◌, ◌-◌, ◌*◌, ◌/◌, ◌%◌, ◌^◌, ◌<◌}
+use mir.Val.{bool_byte}
+use Prim.Native.Nat.{ℕ, zero, suc, ◌+◌, ◌-◌, ◌*◌, ◌/◌, ◌%◌, ◌^◌, ◌<◌, ◌≤◌}
 use native.Mathlib.Nat.{lt_of_lt_of_le, pow-le-pow_right}
 use native.Mathlib.Omega.{arith}
 use lib.ListN.{get_or}
@@ -19,7 +20,7 @@ use Rattle.paint.specs.declared.Tally.{Tally}
 use Rattle.paint.specs.Tally.{tally, noted}
 use Rattle.paint.specs.Paint.{tallied, dab, nth}
 use Rattle.paint.proofs.Frame.{Bytes}
-use Rattle.paint.proofs.Turns.{dab-stored}
+use Rattle.paint.proofs.Turns.{nth_in, dab-stored}
 use Rattle.paint.proofs.Loops.{RowLeft, row-goes-on}
 use Rattle.straight.specs.declared.Straight.{Straight}
 use Rattle.straight.specs.Straight.{keyed, straight_value, straight_giving, copied}
@@ -68,18 +69,26 @@ module _ (t : Straight) (from to d s v : ℕ) (m : List ℕ) (formats : Formats 
       p ∙ ap₂ (λ (n i : ℕ). write_bytes (λ k. d + k) 0 n i m) formats.target
       (low ∙ ap (λ (i : ℕ). i % 2 ^ 32) (c ∙ ap₂ (λ (f g : ℕ). converted f g v) formats.source formats.target) ∙ by_key false e)
 
+-- a test as a number
+pub as_one : (b : Bool) → (bool_byte b ≡ one b) × (bool_byte b ≤ 1)
+as_one false = (refl, omega arith)
+as_one true = (refl, omega arith)
+
 -- ---- the same, of the pixel whose bytes begin there: it is given its value, and told
 pub copied-px : (t : Straight) → t.target.tiled ≡ false → t.from.tiled ≡ false → (x y x' y' : ℕ) {to d s : ℕ} → to ≡ t.target.bytes → d ≡ byte_of t.target x y 0 → s ≡ byte_of t.from x' y' 0
-    → (m : List ℕ) (n : Tally) {m' : List ℕ} {b : Bool} {c : ℕ} → (m' ≡ copied t d s m) × (b ≡ differ (λ k. d + k) to m m') → c ≡ one b
+    → (m : List ℕ) (n : Tally) {m' : List ℕ} {b : Bool} {c : ℕ} → (m' ≡ copied t d s m) × (b ≡ differ (λ k. d + k) to m m') → c ≡ bool_byte b
     → tallied m' (noted 1 c n) ≡ dab t.target (px x y) (some (straight_value t (read_px m t.target x y) (read_px m t.from x' y'))) (tallied m n)
 unfolding copied
-copied-px t flat from_flat x y x' y' {d = d} {s} format e f m n {m'} copy told =
+copied-px t flat from_flat x y x' y' {d = d} {s} format e f m n {m'} {b} copy told =
     let value = straight_value t (read_bytes m (λ k. d + k) 0 t.target.bytes) (read_bytes m (λ k. s + k) 0 t.from.bytes) in
     let width = ap (λ (w : ℕ). differ (λ k. d + k) w m m') format in
     rw (sym (read-run t.target (in-rows flat) x y d e m), sym (read-run t.from (in-rows from_flat) x' y' s f m))
-    (dab-stored m n t.target (px x y) value (pixel-stored t.target (in-rows flat) x y d e value m (copy.0, copy.1 ∙ width)) told refl)
+    (dab-stored m n t.target (px x y) value (pixel-stored t.target (in-rows flat) x y d e value m (copy.0, copy.1 ∙ width)) (told ∙ (as_one b).0) refl)
 
--- a turn's number, counted from another place
+-- a turn's number is one of the row's, and is counted from another place
+pub in-turn : (b : Bool) {n i k : ℕ} → i < n → k ≡ nth b 0 n i → k < n
+in-turn b {n} {i} more here = let within = (nth_in b 0 n i more).1 in omega (arith, here, within)
+
 pub nth-from : (b : Bool) (at n i : ℕ) → at + nth b 0 n i ≡ nth b at n i
 nth-from false at n i = omega arith
 nth-from true at n i = omega arith
@@ -106,7 +115,7 @@ module _ {t : Straight} {w j len from to d s : ℕ} (row : RowCopies t w j len) 
 
   -- its turn, in the loop over the row
   pub row-copies : {back b : Bool} {i c r : ℕ} {m₀ m m' : List ℕ} → Copying t w j back m₀ i c m → i < w → k ≡ nth back 0 w i
-      → (m' ≡ copied t (d + k * to) (s + k * from) m) × (b ≡ differ (λ n. d + k * to + n) to m m') → r ≡ one b → Copying t w j back m₀ (i + 1) (c + r) m'
+      → (m' ≡ copied t (d + k * to) (s + k * from) m) × (b ≡ differ (λ n. d + k * to + n) to m m') → r ≡ bool_byte b → Copying t w j back m₀ (i + 1) (c + r) m'
   unfolding straight_giving
   row-copies {back} {i = i} {c} {m = m} left more e copy told =
       let column : k ≡ t.x + k - t.x = omega arith in
@@ -122,6 +131,7 @@ can-row can j low = record {
   from_flat = can.from_flat;
   target = can.target;
   from = can.from;
+  wide = omega (arith, can.wide);
   row = omega (arith, can.high);
   source_row = omega (arith, can.source_high);
   on_target = λ i l. can.on_target i j l low;

@@ -23,6 +23,7 @@ pub record RowCopies (t : Straight) (w j len : ℕ) : Type 0 where
   pub from_flat : t.from.tiled ≡ false
   pub target : Colour t.target
   pub from : Colour t.from
+  pub wide : w ≤ 2 ^ 13
   pub row : t.y + j < 2 ^ 32
   pub source_row : t.sy + j < 2 ^ 32
   pub on_target : (i : ℕ) → i < w → OnColour t.target len (t.x + i) (t.y + j)

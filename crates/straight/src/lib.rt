@@ -6,7 +6,7 @@ ghost use Rattle.surface.specs.Place.{differ};
 ghost use Rattle.surface.specs.Pixels.{across, rect};
 ghost use Rattle.paint.specs.Paint.{state, tallied, paint};
 ghost use Rattle.straight.specs.Straight.{keyed, straightly, copied};
-ghost use Rattle.straight.specs.Asked.{CanCopy, RowCopies, RunAt, PixelCopies};
+ghost use Rattle.straight.specs.Asked.{CanCopy, RowCopies, Formats, RunAt, PixelCopies};
 
 use paint::Tally;
 use surface::Surface;
@@ -30,10 +30,7 @@ fn is_keyed(t: Straight, from: u32, v: u32) -> bool
     requires { from ≡ t.from.bytes }
     ensures { result ≡ keyed t v }
 {
-    if t.key {
-        return keys::key_match(from, t.least, t.most, v);
-    }
-    false
+    t.key && keys::key_match(from, t.least, t.most, v)
 }
 
 // The address of pixel number k of a row that begins at `first`.
@@ -65,97 +62,70 @@ pub fn plain_pixel(mem: &mut [u8], t: Straight, from: u32, to: u32, d: usize, s:
     surface::store_bytes(mem, d, to, colour::convert_by_rule(from, to, value))
 }
 
-// The w pixels of row j, of `to` bytes each from d on, and their sources, of `from` bytes each from s on: from the left; how many change.
-fn straight_up(
+// The w pixels of row j, of TO bytes each from d on, and their sources, of FROM bytes each from s on: from the left, or BACK from the right; how many change. Each
+// pair of formats and each direction has a loop of its own, since one that asks for them takes several times as long.
+fn straight_run<const FROM: u32, const TO: u32, const BACK: bool>(
     mem: &mut [u8],
     t: Straight,
-    from: u32,
-    to: u32,
     d: usize,
     s: usize,
     w: u32,
     j: u32,
 ) -> u32
-    requires { RowCopies t w j (length mem.old) × RunAt t from to d s j }
-    ensures { state mem.new w result ≡ paint t.target (straightly t (across false t.x w (t.y + j))) (state mem.old 0 0) }
+    requires { RowCopies t w j (length mem.old) × RunAt t FROM TO d s j }
+    ensures { state mem.new w result ≡ paint t.target (straightly t (across BACK t.x w (t.y + j))) (state mem.old 0 0) }
 {
     let mut r = 0;
-    let mut i = 0;
-    while i < w {
-        let changed = straight_pixel(mem, t, from, to, pixel_at(d, to, i), pixel_at(s, from, i));
-        r += surface::one(changed);
-        i += 1;
+    for i in 0..w {
+        let k = paint::place(BACK, 0, w, i);
+        let changed = straight_pixel(mem, t, FROM, TO, pixel_at(d, TO, k), pixel_at(s, FROM, k));
+        r += u32::from(changed);
     }
     r
 }
 
-// The same, from the right.
-fn straight_down(
+// Row j, whose formats are these, from the left or from the right.
+fn straight_way<const FROM: u32, const TO: u32>(
     mem: &mut [u8],
     t: Straight,
-    from: u32,
-    to: u32,
-    d: usize,
-    s: usize,
-    w: u32,
-    j: u32,
-) -> u32
-    requires { RowCopies t w j (length mem.old) × RunAt t from to d s j }
-    ensures { state mem.new w result ≡ paint t.target (straightly t (across true t.x w (t.y + j))) (state mem.old 0 0) }
-{
-    let mut r = 0;
-    let mut i = w;
-    while 0 < i {
-        i -= 1;
-        let changed = straight_pixel(mem, t, from, to, pixel_at(d, to, i), pixel_at(s, from, i));
-        r += surface::one(changed);
-    }
-    r
-}
-
-// The same, one way or the other.
-fn straight_run(
-    mem: &mut [u8],
-    t: Straight,
-    from: u32,
-    to: u32,
-    d: usize,
-    s: usize,
     w: u32,
     j: u32,
     back: bool,
 ) -> u32
-    requires { RowCopies t w j (length mem.old) × RunAt t from to d s j }
+    requires { RowCopies t w j (length mem.old) × Formats t FROM TO }
     ensures { state mem.new w result ≡ paint t.target (straightly t (across back t.x w (t.y + j))) (state mem.old 0 0) }
 {
+    let d = surface::place_in_rows(t.target, t.x, t.y + j);
+    let s = surface::place_in_rows(t.from, t.sx, t.sy + j);
     if back {
-        return straight_down(mem, t, from, to, d, s, w, j);
+        return straight_run::<FROM, TO, true>(mem, t, d, s, w, j);
     }
-    straight_up(mem, t, from, to, d, s, w, j)
+    straight_run::<FROM, TO, false>(mem, t, d, s, w, j)
 }
 
-// Row j, with loops of their own for each pair of formats that is allowed.
+// Row j, whose source has this format.
+fn straight_from<const FROM: u32>(mem: &mut [u8], t: Straight, w: u32, j: u32, back: bool) -> u32
+    requires { RowCopies t w j (length mem.old) × (FROM ≡ t.from.bytes) }
+    ensures { state mem.new w result ≡ paint t.target (straightly t (across back t.x w (t.y + j))) (state mem.old 0 0) }
+{
+    match t.target.bytes {
+        1 => straight_way::<FROM, 1>(mem, t, w, j, back),
+        2 => straight_way::<FROM, 2>(mem, t, w, j, back),
+        3 => straight_way::<FROM, 3>(mem, t, w, j, back),
+        _ => straight_way::<FROM, 4>(mem, t, w, j, back),
+    }
+}
+
+// Row j.
 fn straight_row(mem: &mut [u8], t: Straight, w: u32, j: u32, back: bool) -> u32
     requires { RowCopies t w j (length mem.old) }
     ensures { state mem.new w result ≡ paint t.target (straightly t (across back t.x w (t.y + j))) (state mem.old 0 0) }
 {
-    let from = t.from.bytes;
-    let to = t.target.bytes;
-    let d = surface::place_in_rows(t.target, t.x, t.y + j);
-    let s = surface::place_in_rows(t.from, t.sx, t.sy + j);
-    let pair = from * 8 + to;
-    match pair {
-        9 => straight_run(mem, t, 1, 1, d, s, w, j, back),
-        18 => straight_run(mem, t, 2, 2, d, s, w, j, back),
-        19 => straight_run(mem, t, 2, 3, d, s, w, j, back),
-        20 => straight_run(mem, t, 2, 4, d, s, w, j, back),
-        26 => straight_run(mem, t, 3, 2, d, s, w, j, back),
-        27 => straight_run(mem, t, 3, 3, d, s, w, j, back),
-        28 => straight_run(mem, t, 3, 4, d, s, w, j, back),
-        34 => straight_run(mem, t, 4, 2, d, s, w, j, back),
-        35 => straight_run(mem, t, 4, 3, d, s, w, j, back),
-        36 => straight_run(mem, t, 4, 4, d, s, w, j, back),
-        _ => straight_run(mem, t, from, to, d, s, w, j, back),
+    match t.from.bytes {
+        1 => straight_from::<1>(mem, t, w, j, back),
+        2 => straight_from::<2>(mem, t, w, j, back),
+        3 => straight_from::<3>(mem, t, w, j, back),
+        _ => straight_from::<4>(mem, t, w, j, back),
     }
 }
 
@@ -172,15 +142,12 @@ pub fn straight_rows(
     ensures { tallied mem.new result ≡ paint t.target (straightly t (rect to_left to_top t.x t.y w h)) (state mem.old 0 0) }
 {
     let mut changed = 0;
-    let mut i = 0;
-    while i < h {
+    for i in 0..h {
         let j = paint::place(to_top, 0, h, i);
         changed += straight_row(mem, t, w, j, to_left);
-        i += 1;
     }
-    let count = w * h;
     Tally {
-        count: count,
-        changed: changed,
+        count: w * h,
+        changed,
     }
 }

@@ -3,7 +3,7 @@
 use native.Mathlib.Nat.{mul-zero, mul-le-mul}
 use native.Mathlib.Omega.{arith}
 use mathlib.Core.Path.{ap, ◌∙◌}
-use Prim.Native.Nat.{ℕ, ◌+◌, ◌-◌, ◌^◌}
+use Prim.Native.Nat.{ℕ, ◌+◌, ◌^◌}
 use Rattle.paint.proofs.Turns.{nth_in}
 use Rattle.paint.proofs.Loops.{rows-begin, rows_fill, rows-full, rows-sum}
 use Rattle.straight.proofs.StraightLaws.{nth-from, can-row}
@@ -40,8 +40,8 @@ loop-i-preserved c =
     rows_fill k.invariant (a.t.y + j.result) c.loop-i-test.true
     (ap (λ (r : ℕ). a.t.y + r) j.ensures ∙ nth-from a.to_top a.t.y a.h k.i) c.straight_row-changed.ensures
 
-pub overflow_mul-count : goal.overflow_mul-count
-overflow_mul-count c =
+pub overflow_mul-result : goal.overflow_mul-result
+overflow_mul-result c =
     omega (arith, mul-le-mul {n₁ = c.args.w} {m₁ = c.args.h} {n₂ = 2 ^ 13} {m₂ = 2 ^ 13} (omega (arith, c.requires.wide)) (omega (arith, c.requires.high)))
 
 pub returns : goal.returns
