@@ -30,7 +30,11 @@ fn is_keyed(t: Straight, from: u32, v: u32) -> bool
     requires { from ≡ t.from.bytes }
     ensures { result ≡ keyed t v }
 {
-    t.key && keys::key_match(from, t.least, t.most, v)
+    // Not `&&`: with it straight_pixel grows past what is put into its callers' loops, and copies of 16 to 32 bits took more than twice as long.
+    if t.key {
+        return keys::key_match(from, t.least, t.most, v);
+    }
+    false
 }
 
 // The address of pixel number k of a row that begins at `first`.
