@@ -4,7 +4,6 @@ use mathlib.Core.Path.{◌≡◌, sym, ap, ◌∙◌}
 use mathlib.Core.Logic.{⊎_elim}
 use mathlib.Core.Bool.{Bool, true, false, cond, ◌&&◌}
 use mathlib.Core.List.{List}
-use mathlib.Core.Option.{some}
 use Prim.Native.Nat.{ℕ, ◌+◌, ◌-◌, ◌/◌, ◌^◌, ◌<◌}
 use native.Mathlib.Nat.{add-zero}
 use native.Mathlib.Omega.{arith}
@@ -19,7 +18,7 @@ use Rattle.spans.proofs.Spans.{IsByte}
 use Rattle.paint.specs.declared.Source.{Source}
 use Rattle.paint.specs.declared.Tally.{Tally}
 use Rattle.paint.specs.Paint.{tallied, paint}
-use Rattle.paint.specs.Mix.{source, bit_source, mixed, direct}
+use Rattle.paint.specs.Mix.{bit_source, mixed, direct}
 use Rattle.ink.specs.Pattern.{pattern_column, pattern_row, pattern_bit, pattern_value}
 use Rattle.paint.proofs.MixLaws.{direct-mixed}
 use Rattle.paint.proofs.Owners.{byte-of}

@@ -12,7 +12,6 @@ use borrow.Author.Tests.{eqb-true}
 use lib.Dec.{eqb}
 use lib.ListN.{length, get_or, set}
 use lib.Seq.{get_or-set_same, lt-length-set}
-use Rattle.raster.proofs.RopLaws.{copies}
 use Rattle.colour.proofs.ConvertLaws.{converted-same}
 use Rattle.colour.specs.Convert.{converted}
 use Rattle.keys.specs.Key.{key_match}

@@ -32,11 +32,9 @@ fn move_rows(mem: &mut [u8], t: Task, w: u32, h: u32, to_left: bool, to_top: boo
     ensures { Given t.ink.target (source_byte t mem.old) t.x t.y w h mem.old mem.new × (result ≡ summed (changing t.ink.target mem.old mem.new) (rect false false t.x t.y w h)) }
 {
     let mut r = 0;
-    let mut j = 0;
-    while j < h {
+    for j in 0..h {
         let y = paint::place(to_top, t.y, h, j);
         r += move_row(mem, t, w, y, to_left);
-        j += 1;
     }
     r
 }
@@ -73,11 +71,12 @@ fn is_behind(down: bool, s: u32, x: u32) -> bool
 fn do_overlap(s: u32, x: u32, n: u32) -> bool
     ensures { result ≡ overlap s x n }
 {
-    let size = surface::wide(n);
-    (surface::wide(s) < surface::wide(x) + size) & (surface::wide(x) < surface::wide(s) + size)
+    let (s, x, n) = (s as usize, x as usize, n as usize);
+    (s < x + n) & (x < s + n)
 }
 
 // Whether a copy shares a pixel with its source.
+#[tactic(auto, unfolding(crate::specs::Fast::touching))]
 fn is_touching(t: Task, w: u32, h: u32) -> bool
     ensures { result ≡ touching t w h }
 {
@@ -86,6 +85,7 @@ fn is_touching(t: Task, w: u32, h: u32) -> bool
 }
 
 // Whether, from the corner that the two flags name, it reads a pixel after it was overwritten.
+#[tactic(auto, unfolding(crate::specs::Fast::late))]
 fn is_late(t: Task, w: u32, h: u32, to_left: bool, to_top: bool) -> bool
     ensures { result ≡ late to_left to_top t w h }
 {
@@ -100,20 +100,18 @@ fn is_bitwise(t: Task) -> bool
     t.copies & (t.from.bytes == 0) & paint::is_direct(t.ink)
 }
 
+#[tactic(auto, unfolding(crate::specs::Fast::mono_of))]
 fn mono_of(t: Task) -> Mono
     ensures { (result ≡ mono_of t) × ((t.ink.fore < 2 ^ 32) × (t.ink.back < 2 ^ 32)) }
 {
-    let ink = t.ink;
-    let target = ink.target;
-    let from = t.from;
     Mono {
         plain: Plain {
-            target: target,
-            fore: ink.fore,
-            back: ink.back,
-            clear: ink.clear,
+            target: t.ink.target,
+            fore: t.ink.fore,
+            back: t.ink.back,
+            clear: t.ink.clear,
         },
-        from: from,
+        from: t.from,
         sx: t.sx,
         sy: t.sy,
         x: t.x,
@@ -131,18 +129,16 @@ pub fn is_straight(t: Task) -> bool
         & (!t.ink.src_key | (t.ink.rop2 == 0xaa))
 }
 
+#[tactic(auto, unfolding(crate::specs::Fast::straight_of))]
 pub fn straight_of(t: Task) -> Straight
     ensures { result ≡ straight_of t }
 {
-    let ink = t.ink;
-    let target = ink.target;
-    let from = t.from;
     Straight {
-        target: target,
-        from: from,
-        key: ink.src_key,
-        least: ink.src_min,
-        most: ink.src_max,
+        target: t.ink.target,
+        from: t.from,
+        key: t.ink.src_key,
+        least: t.ink.src_min,
+        most: t.ink.src_max,
         x: t.x,
         y: t.y,
         sx: t.sx,
@@ -157,17 +153,17 @@ fn move_apart(mem: &mut [u8], t: Task, w: u32, h: u32) -> u32
 {
     let to = t.ink.target;
     let from = t.from;
-    let n = surface::wide(to.bytes);
+    let n = to.bytes as usize;
     let b = Way {
-        to: to,
-        from: from,
-        x: surface::wide(t.x) * n,
-        y: surface::wide(t.y),
-        sx: surface::wide(t.sx) * n,
-        sy: surface::wide(t.sy),
+        to,
+        from,
+        x: t.x as usize * n,
+        y: t.y as usize,
+        sx: t.sx as usize * n,
+        sy: t.sy as usize,
     };
     let changed = blocks::unlike_rows(mem, to, from, t.x, t.y, t.sx, t.sy, w, h);
-    blocks::move_blocks(mem, b, surface::wide(w) * n, surface::wide(h));
+    blocks::move_blocks(mem, b, w as usize * n, h as usize);
     changed
 }
 
@@ -186,11 +182,9 @@ fn on_tiles(
 {
     if (0 < w) & (0 < h) {
         if is_plain(t) & !is_touching(t, w, h) {
-            let changed = move_apart(mem, t, w, h);
-            let count = w * h;
             return Tally {
-                count: count,
-                changed: changed,
+                count: w * h,
+                changed: move_apart(mem, t, w, h),
             };
         }
         if is_solid(t) {
@@ -242,11 +236,9 @@ pub fn copy_rect(
         return bits::mono_rows(mem, mono_of(t), w, h);
     }
     if is_plain(t) & !is_late(t, w, h, to_left, to_top) {
-        let changed = move_rows(mem, t, w, h, to_left, to_top);
-        let count = w * h;
         return Tally {
-            count: count,
-            changed: changed,
+            count: w * h,
+            changed: move_rows(mem, t, w, h, to_left, to_top),
         };
     }
     if is_straight(t) {

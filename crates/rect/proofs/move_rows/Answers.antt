@@ -1,16 +1,12 @@
 -- `rect::move_rows` meets its contract: the rows moved so far have the source's bytes as they were at the start, and their pixels that changed are counted.
 -- Assumes nothing.
 use native.Mathlib.Omega.{arith}
-use Prim.Native.Nat.{◌-◌}
 use Rattle.paint.proofs.Turns.{nth_in}
 use Rattle.rect.proofs.Moves.{row-moves, rows_none, rows_fit, rows_next, rows_all}
 use Rattle.rect.proofs.move_rows.Goals as goal
 
 pub loop-j-init : goal.loop-j-init
 loop-j-init c = rows_none c.args.mem.now
-
-pub place-y-requires : goal.place-y-requires
-place-y-requires c = (c.loop-j-test.true, c.requires.can.high)
 
 pub move_row-r-requires : goal.move_row-r-requires
 move_row-r-requires c =

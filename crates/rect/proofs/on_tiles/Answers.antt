@@ -33,13 +33,13 @@ by_tests {t} {w} {h} {plain = plain} {touches = touches} can corner e f some so 
       high = (both_some w h some).1;
     }
 
-pub move_apart-changed-requires : goal.move_apart-changed-requires
-move_apart-changed-requires c =
+pub move_apart-requires : goal.move_apart-requires
+move_apart-requires c =
     let p = c.requires in
     by_tests p.0 p.1 c.is_plain.ensures c.is_touching.ensures c.if-w-h.true c.if-is_plain-is_touching.true
 
-pub overflow_mul-count : goal.overflow_mul-count
-overflow_mul-count c =
+pub overflow_mul-result : goal.overflow_mul-result
+overflow_mul-result c =
     let a = c.args in
     let p = c.requires.0 in
     omega (arith, product_lt 14 14 {a = a.w} {b = a.h} (omega (arith, p.wide)) (omega (arith, p.high)))
@@ -52,7 +52,7 @@ returns-then-is_plain-is_touching c =
     by_tests p.0 p.1 c.is_plain.ensures c.is_touching.ensures c.if-w-h.true c.if-is_plain-is_touching.true in
     moved a.t a.pattern a.mem.now a.w a.h a.to_left a.to_top apart.plain p.0 apart.orderly
     (apart-early a.t a.w a.h (length a.mem.now) p.0 (λ _. apart.orderly) a.to_left a.to_top apart.none)
-    (λ i. omega (arith, c.slice_known-1.given i)) c.move_apart-changed.ensures
+    (λ i. omega (arith, c.slice_known-1.given i)) c.move_apart.ensures
 
 pub solid_blocks-requires : goal.solid_blocks-requires
 solid_blocks-requires c =
