@@ -4,10 +4,11 @@ use mathlib.Core.Path.{◌≡◌, refl, sym, ap, ap₂, subst, ◌∙◌}
 use mathlib.Core.Bool.{Bool, true, false, not, ◌&&◌}
 use mathlib.Core.List.{List}
 use mathlib.Core.Option.{Option}
+use mir.Val.{bool_byte}
 use Prim.Native.Nat.{ℕ, ◌+◌, ◌-◌, ◌*◌, ◌<◌}
 use native.Mathlib.Omega.{arith}
 use borrow.Author.Tests.{not-true}
-use Rattle.surface.specs.Place.{byte_of, one, differ}
+use Rattle.surface.specs.Place.{byte_of, differ}
 use Rattle.surface.specs.Asked.{Held, OnColour}
 use Rattle.surface.specs.Pixels.{Px, origin}
 use Rattle.surface.proofs.OnLaws.{and_left, and_right}
@@ -24,7 +25,7 @@ use Rattle.scale.specs.declared.Walk.{Walk}
 use Rattle.scale.specs.Scale.{scaled, walk_at}
 use Rattle.scale.specs.Stretch.{taken_at, pixel_task}
 use Rattle.stretch.specs.Row.{open_task}
-use Rattle.stretch.specs.Asked.{row_of, RowTakes, RunAt}
+use Rattle.stretch.specs.Asked.{row_of, RowTakes, GoesStraight, RunAt}
 use Rattle.stretch.proofs.Taken.{walk-place}
 
 -- the test: both surfaces in rows, and r
@@ -36,15 +37,15 @@ straight-only t r e =
     (record { target = not-true t.ink.target.tiled (and_left a b both); from = not-true t.from.tiled (and_right a b both) }, and_right (a && b) r e)
 
 -- where the row begins, by the source's row
-pub run-here : {t : Stretch} {from to d s x y sy : ℕ} → from ≡ t.from.bytes → to ≡ t.ink.target.bytes → (0 < t.from.bytes) × Flat (open_task t) → d ≡ byte_of t.ink.target x y 0
-    → s ≡ byte_of t.from 0 sy 0 → sy ≡ row_of t y → RunAt t from to d s x y
-run-here {t} source target some first source_first row = record {
-  flat = some.1;
-  source = source;
-  target = target;
-  some = omega (arith, some.0);
+pub run-here : {t : Stretch} {keyed : Bool} {from to d s x y sy : ℕ} → GoesStraight t keyed from to sy y → d ≡ byte_of t.ink.target x y 0 → s ≡ byte_of t.from 0 sy 0
+    → RunAt t from to d s x y
+run-here {t} goes first source_first = record {
+  flat = goes.flat;
+  source = goes.source;
+  target = goes.target;
+  some = goes.some;
   first = first;
-  source_first = source_first ∙ ap (λ (k : ℕ). byte_of t.from 0 k 0) row;
+  source_first = source_first ∙ ap (λ (k : ℕ). byte_of t.from 0 k 0) goes.row;
 }
 
 -- the loop over a row, which writes a pixel a turn; c is how many changed
@@ -80,7 +81,7 @@ module _ {t : Stretch} {x y w len from to d s : ℕ} (row : RowTakes t x y w len
 
   -- its turn, in the loop over the row
   pub row-copies : {c r : ℕ} {b : Bool} {m₀ m m' : List ℕ} {walk : Walk} → Copying t x w y m₀ i c m → walk ≡ walk_at t.columns (origin + (x + i)) → i < w
-      → (m' ≡ copied (straight_of (open_task t)) (d + i * to) (s + (walk.at - origin) * from) m) × (b ≡ differ (λ k. d + i * to + k) to m m') → r ≡ one b
+      → (m' ≡ copied (straight_of (open_task t)) (d + i * to) (s + (walk.at - origin) * from) m) × (b ≡ differ (λ k. d + i * to + k) to m m') → r ≡ bool_byte b
       → Copying t x w y m₀ (i + 1) (c + r) m'
   unfolding straight_giving straight_of pixel_task taken_at
   row-copies {c} {m = m} left here more copy told =

@@ -1,6 +1,6 @@
 -- What functions of this crate ask for. No promise rests on it.
 -- Assumes nothing.
-use Rattle.std.specs.Prelude.{◌≡◌, true, ℕ, ◌+◌, ◌-◌, ◌^◌, ◌<◌, ◌≤◌}
+use Rattle.std.specs.Prelude.{◌≡◌, Bool, true, ℕ, ◌+◌, ◌-◌, ◌^◌, ◌<◌, ◌≤◌}
 use Rattle.surface.specs.Place.{byte_of, on_surface}
 use Rattle.surface.specs.Asked.{Small, Colour, OnColour}
 use Rattle.surface.specs.Pixels.{origin}
@@ -35,6 +35,15 @@ ColumnsAt t columns x = columns ≡ walk_at t.columns (origin + x)
 abbrev pub row_of : Stretch → ℕ → ℕ
 row_of t y = scaled t.rows (origin + y) - origin
 
+-- row y goes straight: there is a key or not, these are the formats, and the source's row is sy
+pub record GoesStraight (t : Stretch) (keyed : Bool) (from to sy y : ℕ) : Type 0 where
+  pub key : keyed ≡ t.ink.src_key
+  pub source : from ≡ t.from.bytes
+  pub target : to ≡ t.ink.target.bytes
+  pub some : 0 < from
+  pub flat : Flat (open_task t)
+  pub row : sy ≡ row_of t y
+
 -- these are the formats; row y of the target begins at d, from column x on, and the source's row at s
 pub record RunAt (t : Stretch) (from to d s x y : ℕ) : Type 0 where
   pub flat : Flat (open_task t)
@@ -49,10 +58,9 @@ pub record OnSource (t : Stretch) (sx sy len : ℕ) : Type 0 where
   pub small : Small t.from
   pub on : on_surface t.from len sx sy ≡ true
 
--- a rectangle that has pixels and can be stretched to; the walks begin at its first
-pub record Begins (t : Stretch) (columns rows : Walk) (x y w h len : ℕ) : Type 0 where
+-- a rectangle that has pixels and can be stretched to; the walk along the rows begins at its first
+pub record Begins (t : Stretch) (rows : Walk) (x y w h len : ℕ) : Type 0 where
   pub can : CanStretch t x y w h len
   pub wide : 0 < w
   pub high : 0 < h
-  pub columns_at : ColumnsAt t columns x
   pub rows_at : rows ≡ walk_at t.rows (origin + y)

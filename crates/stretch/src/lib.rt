@@ -15,23 +15,62 @@ ghost use Rattle.straight.specs.Asked.{PixelCopies};
 ghost use Rattle.rect.specs.Fast.{straight_of};
 ghost use Rattle.rect.specs.Asked.{Flat};
 ghost use Rattle.stretch.specs.Row.{open_task, in_row, straightly};
-ghost use Rattle.stretch.specs.Asked.{row_of, RowTakes, ColumnsAt, RunAt, OnSource, Begins};
+ghost use Rattle.stretch.specs.Asked.{row_of, RowTakes, ColumnsAt, GoesStraight, OnSource, Begins};
 
 use keys::Range;
 use paint::{Source, Tally};
 use scale::{Stretch, Walk};
 use sweep::Task;
 
+// What every row of a stretch shares: the stretch, its first column, how many columns there are, and the walk along them from there.
+#[derive(Drop)]
+struct Band {
+    stretch: Stretch,
+    x: u32,
+    w: u32,
+    columns: Walk,
+    ghost begins: { ColumnsAt stretch columns x },
+}
+
+// And what they share where pattern, source and target are mixed: the pattern, the ranges of the two keys, the bits of the raster operations, and what those
+// make where no pattern is looked at.
+#[derive(Drop)]
+struct Brush {
+    band: Band,
+    pattern: [u8; 256],
+    source: Range,
+    target: Range,
+    masks: [u32; 32],
+    blank: [u32; 128],
+    ghost by_source: { SourceKey (open_task band.stretch) source },
+    ghost by_target: { TargetKey (open_task band.stretch) target },
+    ghost laid: { Laid (open_task band.stretch) masks blank },
+}
+
+fn brush_of(band: Band, pattern: [u8; 256]) -> Brush
+    ensures { (result.band ≡ band) × (result.pattern ≡ pattern) }
+{
+    let ink = band.stretch.ink;
+    let from = band.stretch.from;
+    let masks = plan::masks_of(ink);
+    Brush {
+        band,
+        pattern,
+        source: keys::range_of(from.bytes, ink.src_min, ink.src_max),
+        target: keys::range_of(ink.target.bytes, ink.dst_min, ink.dst_max),
+        masks,
+        blank: plan::quads_of(masks, [0u32; 8]),
+    }
+}
+
 // The copy of a pixel, with its places left open.
 fn task_of(t: Stretch) -> Task
     ensures { result ≡ open_task t }
 {
-    let ink = t.ink;
-    let from = t.from;
     Task {
-        ink: ink,
+        ink: t.ink,
         copies: true,
-        from: from,
+        from: t.from,
         sx: 0,
         sy: 0,
         x: 0,
@@ -59,87 +98,69 @@ fn straight_pixel(
     straight::plain_pixel(mem, k, from, to, d, s)
 }
 
-// The w pixels of row y from column x on, of `to` bytes each from d on: each gets its source, of `from` bytes in the row that begins at s, or stays as it is
-// where the source matches the key; how many change.
+// Row y, whose source is row sy, with pixels of `from` bytes in place of `to`: each gets its source, or stays as it is where the source matches the key; how many
+// change.
 fn straight_across(
     mem: &mut [u8],
-    t: Stretch,
-    columns: Walk,
+    b: &Band,
     keyed: bool,
     from: u32,
     to: u32,
-    d: usize,
-    s: usize,
-    x: u32,
+    sy: u32,
     y: u32,
-    w: u32,
 ) -> u32
-    requires { RowTakes t x y w (length mem.old) × (ColumnsAt t columns x × (RunAt t from to d s x y × (keyed ≡ t.ink.src_key))) }
-    ensures { state mem.new w result ≡ paint t.ink.target (straightly t (across false x w y)) (state mem.old 0 0) }
+    requires { RowTakes b.now.stretch b.now.x y b.now.w (length mem.old) × GoesStraight b.now.stretch keyed from to sy y }
+    ensures { state mem.new b.now.w result ≡ paint b.now.stretch.ink.target (straightly b.now.stretch (across false b.now.x b.now.w y)) (state mem.old 0 0) }
 {
-    let mut walk = columns;
+    let t = b.stretch;
+    let d = surface::byte_of(t.ink.target, b.x, y, 0);
+    let s = surface::byte_of(t.from, 0, sy, 0);
+    let mut walk = b.columns;
     let mut r = 0;
-    let mut i = 0;
-    while i < w {
+    for i in 0..b.w {
         let at = straight::pixel_at(d, to, i);
         let source = straight::pixel_at(s, from, walk.at - 16384);
-        r += surface::one(straight_pixel(mem, t, keyed, from, to, at, source));
+        r += u32::from(straight_pixel(mem, t, keyed, from, to, at, source));
         walk = scale::next(walk);
-        i += 1;
     }
     r
 }
 
-// Row y, without a key in loops of their own for one format and for 16 and 32 bits; its source is row sy.
-fn straight_row(mem: &mut [u8], t: Stretch, columns: Walk, sy: u32, x: u32, y: u32, w: u32) -> u32
-    requires { RowTakes t x y w (length mem.old) × (ColumnsAt t columns x × ((sy ≡ row_of t y) × ((0 < t.from.bytes) × Flat (open_task t)))) }
-    ensures { state mem.new w result ≡ paint t.ink.target (straightly t (across false x w y)) (state mem.old 0 0) }
+// The same, without a key in loops of their own for one format and for 16 and 32 bits.
+fn straight_row(mem: &mut [u8], b: &Band, sy: u32, y: u32) -> u32
+    requires { RowTakes b.now.stretch b.now.x y b.now.w (length mem.old) × ((sy ≡ row_of b.now.stretch y) × ((0 < b.now.stretch.from.bytes) × Flat (open_task b.now.stretch))) }
+    ensures { state mem.new b.now.w result ≡ paint b.now.stretch.ink.target (straightly b.now.stretch (across false b.now.x b.now.w y)) (state mem.old 0 0) }
 {
-    let from = t.from.bytes;
-    let to = t.ink.target.bytes;
-    let d = surface::byte_of(t.ink.target, x, y, 0);
-    let s = surface::byte_of(t.from, 0, sy, 0);
-    if t.ink.src_key {
-        return straight_across(mem, t, columns, true, from, to, d, s, x, y, w);
+    let from = b.stretch.from.bytes;
+    let to = b.stretch.ink.target.bytes;
+    if b.stretch.ink.src_key {
+        return straight_across(mem, b, true, from, to, sy, y);
     }
-    let pair = from * 8 + to;
-    match pair {
-        9 => straight_across(mem, t, columns, false, 1, 1, d, s, x, y, w),
-        18 => straight_across(mem, t, columns, false, 2, 2, d, s, x, y, w),
-        20 => straight_across(mem, t, columns, false, 2, 4, d, s, x, y, w),
-        27 => straight_across(mem, t, columns, false, 3, 3, d, s, x, y, w),
-        34 => straight_across(mem, t, columns, false, 4, 2, d, s, x, y, w),
-        36 => straight_across(mem, t, columns, false, 4, 4, d, s, x, y, w),
-        _ => straight_across(mem, t, columns, false, from, to, d, s, x, y, w),
+    match (from, to) {
+        (1, 1) => straight_across(mem, b, false, 1, 1, sy, y),
+        (2, 2) => straight_across(mem, b, false, 2, 2, sy, y),
+        (2, 4) => straight_across(mem, b, false, 2, 4, sy, y),
+        (3, 3) => straight_across(mem, b, false, 3, 3, sy, y),
+        (4, 2) => straight_across(mem, b, false, 4, 2, sy, y),
+        (4, 4) => straight_across(mem, b, false, 4, 4, sy, y),
+        _ => straight_across(mem, b, false, from, to, sy, y),
     }
 }
 
-// The rows of a stretch whose pixels get their sources, or stay as they are where the source matches the key.
-fn straight_rows(
-    mem: &mut [u8],
-    t: Stretch,
-    columns: Walk,
-    rows: Walk,
-    x: u32,
-    y: u32,
-    w: u32,
-    h: u32,
-) -> Tally
-    requires { Begins t columns rows x y w h (length mem.old) × ((0 < t.from.bytes) × Flat (open_task t)) }
-    ensures { tallied mem.new result ≡ paint t.ink.target (straightly t (rect false false x y w h)) (state mem.old 0 0) }
+// The h rows from y on of a stretch whose pixels get their sources, or stay as they are where the source matches the key.
+fn straight_rows(mem: &mut [u8], b: &Band, rows: Walk, y: u32, h: u32) -> Tally
+    requires { Begins b.now.stretch rows b.now.x y b.now.w h (length mem.old) × ((0 < b.now.stretch.from.bytes) × Flat (open_task b.now.stretch)) }
+    ensures { tallied mem.new result ≡ paint b.now.stretch.ink.target (straightly b.now.stretch (rect false false b.now.x y b.now.w h)) (state mem.old 0 0) }
 {
     let mut walk = rows;
     let mut changed = 0;
-    let mut j = 0;
-    while j < h {
-        changed += straight_row(mem, t, columns, walk.at - 16384, x, y + j, w);
+    for j in 0..h {
+        changed += straight_row(mem, b, walk.at - 16384, y + j);
         walk = scale::next(walk);
-        j += 1;
     }
-    let count = w * h;
     Tally {
-        count: count,
-        changed: changed,
+        count: b.w * h,
+        changed,
     }
 }
 
@@ -148,43 +169,31 @@ fn source_at(mem: &[u8], t: Stretch, range: Range, sx: u32, sy: u32) -> Source
     requires { OnSource t sx sy (length mem.now) × SourceKey (open_task t) range }
     ensures { result ≡ source_from t.ink t.from mem.now (px sx sy) }
 {
-    let ink = t.ink;
-    let from = t.from;
-    let bytes = from.bytes;
-    if bytes == 0 {
-        return paint::bit_source(ink, surface::get_bit(mem, from, sx, sy));
+    if t.from.bytes == 0 {
+        return paint::bit_source(t.ink, surface::get_bit(mem, t.from, sx, sy));
     }
-    plan::source_of(ink, range, bytes, surface::get_pixel(mem, from, sx, sy))
+    plan::source_of(
+        t.ink,
+        range,
+        t.from.bytes,
+        surface::get_pixel(mem, t.from, sx, sy),
+    )
 }
 
-// The w pixels of row y from column x on, their sources in row sy; `quads` are of the pattern's row.
-fn mixed_across(
-    mem: &mut [u8],
-    t: Stretch,
-    columns: Walk,
-    source: Range,
-    target: Range,
-    quads: [u32; 128],
-    sy: u32,
-    x: u32,
-    y: u32,
-    w: u32,
-    n: Tally,
-) -> Tally
-    requires { (RowTakes t x y w (length mem.old) × Room n w) × (ColumnsAt t columns x × ((sy ≡ row_of t y) × (SourceKey (open_task t) source × TargetKey (open_task t) target))) }
-    ensures { tallied mem.new result ≡ paint t.ink.target (in_row t quads (across false x w y)) (tallied mem.old n) }
+// Row y, its sources in row sy, after the pixels that n tells of; `quads` are of the pattern's row.
+fn mixed_across(mem: &mut [u8], b: &Brush, quads: &[u32; 128], sy: u32, y: u32, n: Tally) -> Tally
+    requires { (RowTakes b.now.band.stretch b.now.band.x y b.now.band.w (length mem.old) × Room n b.now.band.w) × (sy ≡ row_of b.now.band.stretch y) }
+    ensures { tallied mem.new result ≡ paint b.now.band.stretch.ink.target (in_row b.now.band.stretch quads.now (across false b.now.band.x b.now.band.w y)) (tallied mem.old n) }
 {
-    let ink = t.ink;
-    let to = ink.target;
-    let mut walk = columns;
+    let t = b.band.stretch;
+    let mut walk = b.band.columns;
     let mut r = n;
-    let mut i = 0;
-    while i < w {
-        let at = x + i;
-        let s = source_at(mem, t, source, walk.at - 16384, sy);
-        let old = surface::get_pixel(mem, to, at, y);
-        let column = ink::pattern_column(ink, at);
-        let k = plan::quad_at(ink, target, s.key, old, column) as usize;
+    for i in 0..b.band.w {
+        let at = b.band.x + i;
+        let s = source_at(mem, t, b.source, walk.at - 16384, sy);
+        let old = surface::get_pixel(mem, t.ink.target, at, y);
+        let column = ink::pattern_column(t.ink, at);
+        let k = plan::quad_at(t.ink, b.target, s.key, old, column) as usize;
         let v = raster::merge(
             quads[k],
             quads[k + 1],
@@ -193,96 +202,39 @@ fn mixed_across(
             s.value,
             old,
         );
-        r = paint::put_value(mem, to, at, y, s.left, v, r);
+        r = paint::put_value(mem, t.ink.target, at, y, s.left, v, r);
         walk = scale::next(walk);
-        i += 1;
     }
     r
 }
 
-// A row, of any pattern; `masks` are those of the raster operations, and `blank` is for those that look at no pattern.
-fn mixed_row(
-    mem: &mut [u8],
-    t: Stretch,
-    columns: Walk,
-    source: Range,
-    target: Range,
-    masks: [u32; 32],
-    blank: [u32; 128],
-    pattern: [u8; 256],
-    sy: u32,
-    x: u32,
-    y: u32,
-    w: u32,
-    n: Tally,
-) -> Tally
-    requires { (RowTakes t x y w (length mem.old) × Room n w) × (ColumnsAt t columns x × ((sy ≡ row_of t y) × ((SourceKey (open_task t) source × TargetKey (open_task t) target) × Laid (open_task t) masks blank))) }
-    ensures { tallied mem.new result ≡ paint t.ink.target (stretched_in_turn t pattern (across false x w y)) (tallied mem.old n) }
+// The same, of any pattern.
+fn mixed_row(mem: &mut [u8], b: &Brush, sy: u32, y: u32, n: Tally) -> Tally
+    requires { (RowTakes b.now.band.stretch b.now.band.x y b.now.band.w (length mem.old) × Room n b.now.band.w) × (sy ≡ row_of b.now.band.stretch y) }
+    ensures { tallied mem.new result ≡ paint b.now.band.stretch.ink.target (stretched_in_turn b.now.band.stretch b.now.pattern (across false b.now.band.x b.now.band.w y)) (tallied mem.old n) }
 {
-    let ink = t.ink;
+    let ink = b.band.stretch.ink;
     if paint::is_patternless(ink) {
-        return mixed_across(mem, t, columns, source, target, blank, sy, x, y, w, n);
+        return mixed_across(mem, b, &b.blank, sy, y, n);
     }
-    let values = ink::row_values(ink, pattern, ink::pattern_row(ink, y));
-    mixed_across(
-        mem,
-        t,
-        columns,
-        source,
-        target,
-        plan::quads_of(masks, values),
-        sy,
-        x,
-        y,
-        w,
-        n,
-    )
+    let values = ink::row_values(ink, b.pattern, ink::pattern_row(ink, y));
+    let quads = plan::quads_of(b.masks, values);
+    mixed_across(mem, b, &quads, sy, y, n)
 }
 
-// The rows of any stretch.
-fn mixed_rows(
-    mem: &mut [u8],
-    t: Stretch,
-    columns: Walk,
-    rows: Walk,
-    pattern: [u8; 256],
-    x: u32,
-    y: u32,
-    w: u32,
-    h: u32,
-) -> Tally
-    requires { Begins t columns rows x y w h (length mem.old) }
-    ensures { tallied mem.new result ≡ paint t.ink.target (stretched_in_turn t pattern (rect false false x y w h)) (state mem.old 0 0) }
+// The h rows from y on of any stretch.
+fn mixed_rows(mem: &mut [u8], b: &Brush, rows: Walk, y: u32, h: u32) -> Tally
+    requires { Begins b.now.band.stretch rows b.now.band.x y b.now.band.w h (length mem.old) }
+    ensures { tallied mem.new result ≡ paint b.now.band.stretch.ink.target (stretched_in_turn b.now.band.stretch b.now.pattern (rect false false b.now.band.x y b.now.band.w h)) (state mem.old 0 0) }
 {
-    let ink = t.ink;
-    let source = keys::range_of(t.from.bytes, ink.src_min, ink.src_max);
-    let target = keys::range_of(ink.target.bytes, ink.dst_min, ink.dst_max);
-    let masks = plan::masks_of(ink);
-    let blank = plan::quads_of(masks, [0u32; 8]);
     let mut walk = rows;
     let mut n = Tally {
         count: 0,
         changed: 0,
     };
-    let mut j = 0;
-    while j < h {
-        n = mixed_row(
-            mem,
-            t,
-            columns,
-            source,
-            target,
-            masks,
-            blank,
-            pattern,
-            walk.at - 16384,
-            x,
-            y + j,
-            w,
-            n,
-        );
+    for j in 0..h {
+        n = mixed_row(mem, b, walk.at - 16384, y + j, n);
         walk = scale::next(walk);
-        j += 1;
     }
     n
 }
@@ -300,22 +252,21 @@ pub fn paint_stretch(
     requires { CanStretch t x y w h (length mem.old) }
     ensures { tallied mem.new result ≡ paint t.ink.target (stretched t pattern mem.old (rect false false x y w h)) (state mem.old 0 0) }
 {
-    if w == 0 {
+    if w == 0 || h == 0 {
         return Tally {
             count: 0,
             changed: 0,
         };
     }
-    if h == 0 {
-        return Tally {
-            count: 0,
-            changed: 0,
-        };
-    }
-    let columns = scale::start(t.columns, 16384 + x);
+    let band = Band {
+        stretch: t,
+        x,
+        w,
+        columns: scale::start(t.columns, 16384 + x),
+    };
     let rows = scale::start(t.rows, 16384 + y);
     if !t.ink.target.tiled & !t.from.tiled & rect::is_straight(task_of(t)) {
-        return straight_rows(mem, t, columns, rows, x, y, w, h);
+        return straight_rows(mem, &band, rows, y, h);
     }
-    mixed_rows(mem, t, columns, rows, pattern, x, y, w, h)
+    mixed_rows(mem, &brush_of(band, pattern), rows, y, h)
 }

@@ -2,7 +2,7 @@
 -- Assumes nothing.
 use mathlib.Core.Path.{◌≡◌}
 use mathlib.Core.Bool.{false}
-use Prim.Native.Nat.{◌+◌, ◌-◌}
+use Prim.Native.Nat.{◌+◌}
 use Rattle.surface.specs.Pixels.{origin}
 use Rattle.paint.proofs.Loops.{RowLeft}
 use Rattle.sweep.specs.Row.{row_giving}
@@ -12,7 +12,5 @@ use Rattle.stretch.proofs.mixed_across.Given as goal
 
 abbrev pub invariant-loop-i : goal.invariant-loop-i
 invariant-loop-i l =
-    RowLeft l.t.ink.target (λ p now. row_giving (pixel_task l.t p) l.quads 0 now p) false l.x l.w l.y l.initial.mem l.initial.r l.i l.mem l.r × (l.walk ≡ walk_at l.t.columns (origin + (l.x + l.i)))
-
-abbrev pub decreases-loop-i : goal.decreases-loop-i
-decreases-loop-i l = l.w - l.i
+    RowLeft l.b.band.stretch.ink.target (λ p now. row_giving (pixel_task l.b.band.stretch p) l.quads 0 now p) false l.b.band.x l.b.band.w l.y l.initial.mem l.initial.r l.i l.mem l.r
+    × (l.walk ≡ walk_at l.b.band.stretch.columns (origin + (l.b.band.x + l.i)))

@@ -16,22 +16,21 @@ use Rattle.stretch.proofs.mixed_row.Goals as goal
 
 pub returns-then-is_patternless : goal.returns-then-is_patternless
 returns-then-is_patternless c =
-    let a = c.args in
-    let laid = c.requires.1.1.1.1 in
+    let b = c.args.b.now in
+    let t = b.band.stretch in
     let free = sym c.is_patternless.ensures ∙ c.if-is_patternless.true in
     c.mixed_across.ensures
-    ∙ paint-same a.t.ink.target (λ p now. row_giving (pixel_task a.t p) a.blank 0 now p) (λ p now. stretch_giving a.t a.pattern now now p) (across false a.x a.w a.y)
-    (λ p i now. by-none a.t a.pattern now p refl a.masks a.blank laid.bits (replicate 8 0) laid.unread free) (tallied a.mem.now a.n)
+    ∙ paint-same t.ink.target (λ p now. row_giving (pixel_task t p) b.blank 0 now p) (λ p now. stretch_giving t b.pattern now now p) (across false b.band.x b.band.w c.args.y)
+    (λ p i now. by-none t b.pattern now p refl b.masks b.blank b.laid.bits (replicate 8 0) b.laid.unread free) (tallied c.args.mem.now c.args.n)
 
 pub returns : goal.returns
 returns c =
-    let a = c.args in
-    let laid = c.requires.1.1.1.1 in
-    let quads = c.quads_of in
+    let b = c.args.b.now in
+    let t = b.band.stretch in
+    let quads = c.quads_of-quads in
     let values = c.row_values-values in
-    let row = c.pattern_row.ensures.0 in
     c.mixed_across-2.ensures
-    ∙ paint-same a.t.ink.target (λ p now. row_giving (pixel_task a.t p) quads.result 0 now p) (λ p now. stretch_giving a.t a.pattern now now p) (across false a.x a.w a.y)
-    (λ p i now. by-pattern a.t a.pattern now p (row ∙ ap (λ (y : ℕ). pattern_row a.t.ink y) (sym (in-across false a.x a.w a.y p i).2)) a.masks quads.result laid.bits
-    values.result quads.ensures values.ensures)
-    (tallied a.mem.now a.n)
+    ∙ paint-same t.ink.target (λ p now. row_giving (pixel_task t p) quads.result 0 now p) (λ p now. stretch_giving t b.pattern now now p) (across false b.band.x b.band.w c.args.y)
+    (λ p i now. by-pattern t b.pattern now p (c.pattern_row.ensures.0 ∙ ap (λ (y : ℕ). pattern_row t.ink y) (sym (in-across false b.band.x b.band.w c.args.y p i).2)) b.masks
+    quads.result b.laid.bits values.result quads.ensures values.ensures)
+    (tallied c.args.mem.now c.args.n)

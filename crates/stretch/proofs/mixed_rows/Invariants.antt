@@ -2,7 +2,7 @@
 -- Assumes nothing.
 use mathlib.Core.Path.{◌≡◌}
 use mathlib.Core.Bool.{false}
-use Prim.Native.Nat.{◌+◌, ◌-◌}
+use Prim.Native.Nat.{◌+◌}
 use Rattle.surface.specs.Pixels.{origin}
 use Rattle.paint.proofs.Loops.{RowsLeft}
 use Rattle.scale.specs.Scale.{walk_at}
@@ -11,7 +11,5 @@ use Rattle.stretch.proofs.mixed_rows.Given as goal
 
 abbrev pub invariant-loop-j : goal.invariant-loop-j
 invariant-loop-j l =
-    RowsLeft l.t.ink.target (λ p now. stretch_giving l.t l.pattern now now p) false false l.x l.y l.w l.h l.initial.mem l.j l.mem l.n × (l.walk ≡ walk_at l.t.rows (origin + (l.y + l.j)))
-
-abbrev pub decreases-loop-j : goal.decreases-loop-j
-decreases-loop-j l = l.h - l.j
+    RowsLeft l.b.band.stretch.ink.target (λ p now. stretch_giving l.b.band.stretch l.b.pattern now now p) false false l.b.band.x l.y l.b.band.w l.h l.initial.mem l.j l.mem l.n
+    × (l.walk ≡ walk_at l.b.band.stretch.rows (origin + (l.y + l.j)))

@@ -17,24 +17,13 @@ use Rattle.stretch.proofs.paint_stretch.Goals as goal
 pub returns-then-w-eq0 : goal.returns-then-w-eq0
 returns-then-w-eq0 c =
     let a = c.args in
-    nothing_left a.t a.pattern a.mem.now a.x a.y a.w a.h (λ w h. omega (arith, c.if-w-eq0.true))
-
-pub returns-then-h-eq0 : goal.returns-then-h-eq0
-returns-then-h-eq0 c =
-    let a = c.args in
-    nothing_left a.t a.pattern a.mem.now a.x a.y a.w a.h (λ w h. omega (arith, c.if-h-eq0.true))
-
-pub start-columns-requires : goal.start-columns-requires
-start-columns-requires c = (c.requires.columns (omega (arith, c.if-w-eq0.false)) (omega (arith, c.if-h-eq0.false))).0
-
-pub start-rows-requires : goal.start-rows-requires
-start-rows-requires c = (c.requires.rows (omega (arith, c.if-w-eq0.false)) (omega (arith, c.if-h-eq0.false))).0
+    nothing_left a.t a.pattern a.mem.now a.x a.y a.w a.h (λ w h. omega (arith, c.then-w-eq0.either))
 
 pub straight_rows-requires : goal.straight_rows-requires
 straight_rows-requires c =
     let both = straight-only c.args.t _ c.if-t-is_straight.true in
     let is : straight (open_task c.args.t) ≡ true = sym (ap straight c.task_of.ensures) ∙ sym c.is_straight.ensures ∙ both.1 in
-    let begins : Begins c.args.t _ _ c.args.x c.args.y c.args.w c.args.h (length c.args.mem.now) = record { can = c.requires; wide = omega (arith, c.if-w-eq0.false); high = omega (arith, c.if-h-eq0.false); columns_at = c.start-columns.ensures; rows_at = c.start-rows.ensures } in
+    let begins : Begins c.args.t _ c.args.x c.args.y c.args.w c.args.h (length c.args.mem.now) = record { can = c.requires; wide = pos-of-ne c.if-w-eq0.false; high = pos-of-ne c.if-h-eq0.false; rows_at = c.start-rows.ensures } in
     (begins, (pos-of-ne (coloured (open_task c.args.t) is), both.0))
 
 pub returns-then-t-is_straight : goal.returns-then-t-is_straight
@@ -44,9 +33,11 @@ returns-then-t-is_straight c =
     c.straight_rows.ensures ∙ straight-turn a.t is a.pattern a.mem.now (rect false false a.x a.y a.w a.h) ∙ in-turn c.requires a.pattern a.mem.now
 
 pub mixed_rows-requires : goal.mixed_rows-requires
-mixed_rows-requires c = record { can = c.requires; wide = omega (arith, c.if-w-eq0.false); high = omega (arith, c.if-h-eq0.false); columns_at = c.start-columns.ensures; rows_at = c.start-rows.ensures }
+mixed_rows-requires c =
+    rw c.brush_of.ensures.0 (record { can = c.requires; wide = pos-of-ne c.if-w-eq0.false; high = pos-of-ne c.if-h-eq0.false; rows_at = c.start-rows.ensures })
 
 pub returns : goal.returns
 returns c =
     let a = c.args in
-    c.mixed_rows.ensures ∙ in-turn c.requires a.pattern a.mem.now
+    let e = c.brush_of.ensures in
+    (rw (e.0, e.1) at c.mixed_rows.ensures) ∙ in-turn c.requires a.pattern a.mem.now

@@ -2,7 +2,7 @@
 -- Assumes nothing.
 use mathlib.Core.Path.{◌≡◌}
 use mathlib.Core.Bool.{false}
-use Prim.Native.Nat.{◌+◌, ◌-◌, ◌*◌}
+use Prim.Native.Nat.{◌+◌, ◌*◌}
 use Rattle.surface.specs.Pixels.{origin}
 use Rattle.paint.specs.Tally.{tally}
 use Rattle.paint.proofs.Loops.{RowsLeft}
@@ -12,7 +12,5 @@ use Rattle.stretch.proofs.straight_rows.Given as goal
 
 abbrev pub invariant-loop-j : goal.invariant-loop-j
 invariant-loop-j l =
-    RowsLeft l.t.ink.target (straightly_at l.t) false false l.x l.y l.w l.h l.initial.mem l.j l.mem (tally (l.w * l.j) l.changed) × (l.walk ≡ walk_at l.t.rows (origin + (l.y + l.j)))
-
-abbrev pub decreases-loop-j : goal.decreases-loop-j
-decreases-loop-j l = l.h - l.j
+    RowsLeft l.b.stretch.ink.target (straightly_at l.b.stretch) false false l.b.x l.y l.b.w l.h l.initial.mem l.j l.mem (tally (l.b.w * l.j) l.changed)
+    × (l.walk ≡ walk_at l.b.stretch.rows (origin + (l.y + l.j)))
