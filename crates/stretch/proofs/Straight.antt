@@ -37,7 +37,7 @@ straight-only t r e =
     (record { target = not-true t.ink.target.tiled (and_left a b both); from = not-true t.from.tiled (and_right a b both) }, and_right (a && b) r e)
 
 -- where the row begins, by the source's row
-pub run-here : {t : Stretch} {keyed : Bool} {from to d s x y sy : ℕ} → GoesStraight t keyed from to sy y → d ≡ byte_of t.ink.target x y 0 → s ≡ byte_of t.from 0 sy 0
+pub run-here : {t : Stretch} {from to d s x y sy : ℕ} → GoesStraight t from to sy y → d ≡ byte_of t.ink.target x y 0 → s ≡ byte_of t.from 0 sy 0
     → RunAt t from to d s x y
 run-here {t} goes first source_first = record {
   flat = goes.flat;

@@ -1,6 +1,6 @@
 -- What functions of this crate ask for. No promise rests on it.
 -- Assumes nothing.
-use Rattle.std.specs.Prelude.{◌≡◌, Bool, true, ℕ, ◌+◌, ◌-◌, ◌^◌, ◌<◌, ◌≤◌}
+use Rattle.std.specs.Prelude.{◌≡◌, true, ℕ, ◌+◌, ◌-◌, ◌^◌, ◌<◌, ◌≤◌}
 use Rattle.surface.specs.Place.{byte_of, on_surface}
 use Rattle.surface.specs.Asked.{Small, Colour, OnColour}
 use Rattle.surface.specs.Pixels.{origin}
@@ -35,9 +35,8 @@ ColumnsAt t columns x = columns ≡ walk_at t.columns (origin + x)
 abbrev pub row_of : Stretch → ℕ → ℕ
 row_of t y = scaled t.rows (origin + y) - origin
 
--- row y goes straight: there is a key or not, these are the formats, and the source's row is sy
-pub record GoesStraight (t : Stretch) (keyed : Bool) (from to sy y : ℕ) : Type 0 where
-  pub key : keyed ≡ t.ink.src_key
+-- row y goes straight: these are the formats, and the source's row is sy
+pub record GoesStraight (t : Stretch) (from to sy y : ℕ) : Type 0 where
   pub source : from ≡ t.from.bytes
   pub target : to ≡ t.ink.target.bytes
   pub some : 0 < from

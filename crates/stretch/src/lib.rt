@@ -98,18 +98,15 @@ fn straight_pixel(
     straight::plain_pixel(mem, k, from, to, d, s)
 }
 
-// Row y, whose source is row sy, with pixels of `from` bytes in place of `to`: each gets its source, or stays as it is where the source matches the key; how many
-// change.
-fn straight_across(
+// Row y, whose source is row sy: each pixel, of TO bytes, gets its source, of FROM bytes, or stays as it is where the source matches the key, if it is KEYED; how
+// many change. Each pair of formats has a loop of its own, with a key and without, since one that asks for them takes several times as long.
+fn straight_across<const FROM: u32, const TO: u32, const KEYED: bool>(
     mem: &mut [u8],
     b: &Band,
-    keyed: bool,
-    from: u32,
-    to: u32,
     sy: u32,
     y: u32,
 ) -> u32
-    requires { RowTakes b.now.stretch b.now.x y b.now.w (length mem.old) × GoesStraight b.now.stretch keyed from to sy y }
+    requires { RowTakes b.now.stretch b.now.x y b.now.w (length mem.old) × (GoesStraight b.now.stretch FROM TO sy y × (KEYED ≡ b.now.stretch.ink.src_key)) }
     ensures { state mem.new b.now.w result ≡ paint b.now.stretch.ink.target (straightly b.now.stretch (across false b.now.x b.now.w y)) (state mem.old 0 0) }
 {
     let t = b.stretch;
@@ -118,32 +115,48 @@ fn straight_across(
     let mut walk = b.columns;
     let mut r = 0;
     for i in 0..b.w {
-        let at = straight::pixel_at(d, to, i);
-        let source = straight::pixel_at(s, from, walk.at - 16384);
-        r += u32::from(straight_pixel(mem, t, keyed, from, to, at, source));
+        let at = straight::pixel_at(d, TO, i);
+        let source = straight::pixel_at(s, FROM, walk.at - 16384);
+        r += u32::from(straight_pixel(mem, t, KEYED, FROM, TO, at, source));
         walk = scale::next(walk);
     }
     r
 }
 
-// The same, without a key in loops of their own for one format and for 16 and 32 bits.
+// The same, by the key.
+fn straight_way<const FROM: u32, const TO: u32>(mem: &mut [u8], b: &Band, sy: u32, y: u32) -> u32
+    requires { RowTakes b.now.stretch b.now.x y b.now.w (length mem.old) × GoesStraight b.now.stretch FROM TO sy y }
+    ensures { state mem.new b.now.w result ≡ paint b.now.stretch.ink.target (straightly b.now.stretch (across false b.now.x b.now.w y)) (state mem.old 0 0) }
+{
+    if b.stretch.ink.src_key {
+        return straight_across::<FROM, TO, true>(mem, b, sy, y);
+    }
+    straight_across::<FROM, TO, false>(mem, b, sy, y)
+}
+
+// The same, by the target's format.
+fn straight_from<const FROM: u32>(mem: &mut [u8], b: &Band, sy: u32, y: u32) -> u32
+    requires { RowTakes b.now.stretch b.now.x y b.now.w (length mem.old) × ((FROM ≡ b.now.stretch.from.bytes) × ((sy ≡ row_of b.now.stretch y) × ((0 < b.now.stretch.from.bytes) × Flat (open_task b.now.stretch)))) }
+    ensures { state mem.new b.now.w result ≡ paint b.now.stretch.ink.target (straightly b.now.stretch (across false b.now.x b.now.w y)) (state mem.old 0 0) }
+{
+    match b.stretch.ink.target.bytes {
+        1 => straight_way::<FROM, 1>(mem, b, sy, y),
+        2 => straight_way::<FROM, 2>(mem, b, sy, y),
+        3 => straight_way::<FROM, 3>(mem, b, sy, y),
+        _ => straight_way::<FROM, 4>(mem, b, sy, y),
+    }
+}
+
+// The same, by the source's format.
 fn straight_row(mem: &mut [u8], b: &Band, sy: u32, y: u32) -> u32
     requires { RowTakes b.now.stretch b.now.x y b.now.w (length mem.old) × ((sy ≡ row_of b.now.stretch y) × ((0 < b.now.stretch.from.bytes) × Flat (open_task b.now.stretch))) }
     ensures { state mem.new b.now.w result ≡ paint b.now.stretch.ink.target (straightly b.now.stretch (across false b.now.x b.now.w y)) (state mem.old 0 0) }
 {
-    let from = b.stretch.from.bytes;
-    let to = b.stretch.ink.target.bytes;
-    if b.stretch.ink.src_key {
-        return straight_across(mem, b, true, from, to, sy, y);
-    }
-    match (from, to) {
-        (1, 1) => straight_across(mem, b, false, 1, 1, sy, y),
-        (2, 2) => straight_across(mem, b, false, 2, 2, sy, y),
-        (2, 4) => straight_across(mem, b, false, 2, 4, sy, y),
-        (3, 3) => straight_across(mem, b, false, 3, 3, sy, y),
-        (4, 2) => straight_across(mem, b, false, 4, 2, sy, y),
-        (4, 4) => straight_across(mem, b, false, 4, 4, sy, y),
-        _ => straight_across(mem, b, false, from, to, sy, y),
+    match b.stretch.from.bytes {
+        1 => straight_from::<1>(mem, b, sy, y),
+        2 => straight_from::<2>(mem, b, sy, y),
+        3 => straight_from::<3>(mem, b, sy, y),
+        _ => straight_from::<4>(mem, b, sy, y),
     }
 }
 
@@ -186,14 +199,17 @@ fn mixed_across(mem: &mut [u8], b: &Brush, quads: &[u32; 128], sy: u32, y: u32, 
     ensures { tallied mem.new result ≡ paint b.now.band.stretch.ink.target (in_row b.now.band.stretch quads.now (across false b.now.band.x b.now.band.w y)) (tallied mem.old n) }
 {
     let t = b.band.stretch;
+    let x = b.band.x;
+    let source = b.source;
+    let target = b.target;
     let mut walk = b.band.columns;
     let mut r = n;
     for i in 0..b.band.w {
-        let at = b.band.x + i;
-        let s = source_at(mem, t, b.source, walk.at - 16384, sy);
+        let at = x + i;
+        let s = source_at(mem, t, source, walk.at - 16384, sy);
         let old = surface::get_pixel(mem, t.ink.target, at, y);
         let column = ink::pattern_column(t.ink, at);
-        let k = plan::quad_at(t.ink, b.target, s.key, old, column) as usize;
+        let k = plan::quad_at(t.ink, target, s.key, old, column) as usize;
         let v = raster::merge(
             quads[k],
             quads[k + 1],

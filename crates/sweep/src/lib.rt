@@ -108,14 +108,16 @@ fn paint_across(
 {
     let t = b.task;
     let to = t.ink.target;
+    let source = b.source;
+    let target = b.target;
     let mut r = n;
     for i in 0..w {
         let x = paint::place(back, t.x, w, i);
         let column = ink::pattern_column(t.ink, x);
-        let s = source_at(mem, t, b.source, ink::bit_of(bits, column), x, y);
+        let s = source_at(mem, t, source, ink::bit_of(bits, column), x, y);
         let at = surface::place_in_rows(to, x, y);
         let old = surface::get_bytes(mem, at, to.bytes);
-        let k = plan::quad_at(t.ink, b.target, s.key, old, column) as usize;
+        let k = plan::quad_at(t.ink, target, s.key, old, column) as usize;
         let v = raster::merge(
             quads[k],
             quads[k + 1],

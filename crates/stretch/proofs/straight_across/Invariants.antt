@@ -8,4 +8,4 @@ use Rattle.stretch.proofs.Straight.{Copying}
 use Rattle.stretch.proofs.straight_across.Given as goal
 
 abbrev pub invariant-loop-i : goal.invariant-loop-i
-invariant-loop-i l = Copying l.b.stretch l.b.x l.b.w l.y l.initial.mem l.i l.r l.mem × (l.walk ≡ walk_at l.b.stretch.columns (origin + (l.b.x + l.i)))
+invariant-loop-i g l = Copying l.b.stretch l.b.x l.b.w l.y l.initial.mem l.i l.r l.mem × (l.walk ≡ walk_at l.b.stretch.columns (origin + (l.b.x + l.i)))
