@@ -12,7 +12,7 @@ use paint::{Source, Tally};
 use sweep::Task;
 
 // The source of pixel (x, y); `bit` is the bit of a mono pattern there.
-// A twin of sweep's, which reads a surface in rows alone, with the key worked out as a range before: one function for both would ask for the layout at each pixel.
+// A twin of sweep's, which reads surfaces in rows alone, with the key as a range worked out before: one for both would ask for the layout at each pixel.
 #[tactic(auto, unfolding(sweep::specs::Copy::source_by, sweep::specs::Copy::source_place))]
 fn source_at(mem: &[u8], t: Task, bit: u32, x: u32, y: u32) -> Source
     requires { HasSource t (length mem.now) x y }

@@ -66,8 +66,8 @@ pub fn plain_pixel(mem: &mut [u8], t: Straight, from: u32, to: u32, d: usize, s:
     surface::store_bytes(mem, d, to, colour::convert_by_rule(from, to, value))
 }
 
-// The w pixels of row j, of TO bytes each from d on, and their sources, of FROM bytes each from s on: from the left, or BACK from the right; how many change. Each
-// pair of formats and each direction has a loop of its own, since one that asks for them takes several times as long.
+// The w pixels of row j, of TO bytes each from d on, and their sources, of FROM bytes each from s on: from the left, or BACK from the right; how many change.
+// Each pair of formats and each direction has a loop of its own, since one that asks for them takes several times as long.
 fn straight_run<const FROM: u32, const TO: u32, const BACK: bool>(
     mem: &mut [u8],
     t: Straight,

@@ -108,6 +108,7 @@ fn paint_across(
 {
     let t = b.task;
     let to = t.ink.target;
+    // Read before the loop: read in it, they made keyed copies and fills a tenth slower.
     let source = b.source;
     let target = b.target;
     let mut r = n;
