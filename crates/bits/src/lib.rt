@@ -34,6 +34,7 @@ pub struct Mono {
 }
 
 // A pixel of n bytes from an address on is given the colour of its bit, or it is left.
+#[tactic(auto, unfolding(crate::specs::Bits::coloured))]
 fn put_bit(mem: &mut [u8], at: usize, n: u32, p: Plain, bit: u32, tally: Tally) -> Tally
     requires { Held at n (length mem.old) × Room tally 1 }
     ensures { tallied mem.new result ≡ dab_at at n (coloured p bit) (tallied mem.old tally) }
@@ -43,7 +44,30 @@ fn put_bit(mem: &mut [u8], at: usize, n: u32, p: Plain, bit: u32, tally: Tally) 
     paint::put_value_at(mem, at, n, p.clear & !set, v, tally)
 }
 
-// The m pixels of row y from x on are given the bits of a byte from bit k on, the highest first; n is the target's bytes per pixel.
+// The m pixels of row y from x on are given the bits of a byte from bit k on, the highest first; N is the target's bytes per pixel.
+fn run_of<const N: u32>(
+    mem: &mut [u8],
+    p: Plain,
+    byte: u32,
+    k: u32,
+    x: u32,
+    y: u32,
+    m: u32,
+    tally: Tally,
+) -> Tally
+    requires { ((Colour p.target × (p.target.tiled ≡ false)) × (RowOn p.target (length mem.old) x m y × Room tally m)) × ((k + m ≤ 8) × (N ≡ p.target.bytes)) }
+    ensures { tallied mem.new result ≡ paint p.target (byte_touches p byte k x (across false x m y)) (tallied mem.old tally) }
+{
+    let at = surface::place_in_rows(p.target, x, y);
+    let mut r = tally;
+    for i in 0..m {
+        let bit = (byte >> (7 - (k + i))) % 2;
+        r = put_bit(mem, at + (i * N) as usize, N, p, bit, r);
+    }
+    r
+}
+
+// The same of a number of bytes that is given, with a loop for each.
 pub fn put_run(
     mem: &mut [u8],
     p: Plain,
@@ -58,18 +82,15 @@ pub fn put_run(
     requires { ((Colour p.target × (p.target.tiled ≡ false)) × (RowOn p.target (length mem.old) x m y × Room tally m)) × ((k + m ≤ 8) × (n ≡ p.target.bytes)) }
     ensures { tallied mem.new result ≡ paint p.target (byte_touches p byte k x (across false x m y)) (tallied mem.old tally) }
 {
-    let at = surface::place_in_rows(p.target, x, y);
-    let mut r = tally;
-    let mut i = 0;
-    while i < m {
-        let bit = (byte >> (7 - (k + i))) % 2;
-        r = put_bit(mem, at + surface::wide(i * n), n, p, bit, r);
-        i += 1;
+    match n {
+        1 => run_of::<1>(mem, p, byte, k, x, y, m, tally),
+        2 => run_of::<2>(mem, p, byte, k, x, y, m, tally),
+        3 => run_of::<3>(mem, p, byte, k, x, y, m, tally),
+        _ => run_of::<4>(mem, p, byte, k, x, y, m, tally),
     }
-    r
 }
 
-// The same, with a loop for each number of bytes.
+// The same of the target's own.
 pub fn put_bits(
     mem: &mut [u8],
     p: Plain,
@@ -83,32 +104,23 @@ pub fn put_bits(
     requires { ((Colour p.target × (p.target.tiled ≡ false)) × (RowOn p.target (length mem.old) x m y × Room tally m)) × (k + m ≤ 8) }
     ensures { tallied mem.new result ≡ paint p.target (byte_touches p byte k x (across false x m y)) (tallied mem.old tally) }
 {
-    let n = p.target.bytes;
-    if n == 1 {
-        return put_run(mem, p, 1, byte, k, x, y, m, tally);
-    }
-    if n == 2 {
-        return put_run(mem, p, 2, byte, k, x, y, m, tally);
-    }
-    if n == 3 {
-        return put_run(mem, p, 3, byte, k, x, y, m, tally);
-    }
-    put_run(mem, p, 4, byte, k, x, y, m, tally)
+    put_run(mem, p, p.target.bytes, byte, k, x, y, m, tally)
 }
 
-// Row j of a mono rectangle, which is row y of its target and row sy of its source, a byte of its source at a time; n is the target's bytes per pixel.
-fn mono_run(mem: &mut [u8], t: Mono, n: u32, w: u32, j: u32, y: u32, sy: u32, tally: Tally) -> Tally
-    requires { RowMono t w j (length mem.old) tally × ((n ≡ t.plain.target.bytes) × ((y ≡ t.y + j) × (sy ≡ t.sy + j))) }
+// Row j of a mono rectangle, a byte of its source at a time; N is the target's bytes per pixel.
+fn mono_run<const N: u32>(mem: &mut [u8], t: Mono, w: u32, j: u32, tally: Tally) -> Tally
+    requires { RowMono t w j (length mem.old) tally × (N ≡ t.plain.target.bytes) }
     ensures { tallied mem.new result ≡ paint t.plain.target (monoly t (across false t.x w (t.y + j))) (tallied mem.old tally) }
 {
     let mut r = tally;
     let mut i = 0;
+    // while: the step is as many pixels as the source's byte has left
     while i < w {
         let column = t.sx + i;
         let k = column % 8;
-        let m = surface::least(8 - k, w - i);
-        let byte = surface::mono_in_rows(mem, t.from, column, sy);
-        r = put_run(mem, t.plain, n, byte, k, t.x + i, y, m, r);
+        let m = (8 - k).min(w - i);
+        let byte = surface::mono_in_rows(mem, t.from, column, t.sy + j);
+        r = run_of::<N>(mem, t.plain, byte, k, t.x + i, t.y + j, m, r);
         i += m;
     }
     r
@@ -119,19 +131,12 @@ fn mono_row(mem: &mut [u8], t: Mono, w: u32, j: u32, tally: Tally) -> Tally
     requires { RowMono t w j (length mem.old) tally }
     ensures { tallied mem.new result ≡ paint t.plain.target (monoly t (across false t.x w (t.y + j))) (tallied mem.old tally) }
 {
-    let n = t.plain.target.bytes;
-    let y = t.y + j;
-    let sy = t.sy + j;
-    if n == 1 {
-        return mono_run(mem, t, 1, w, j, y, sy, tally);
+    match t.plain.target.bytes {
+        1 => mono_run::<1>(mem, t, w, j, tally),
+        2 => mono_run::<2>(mem, t, w, j, tally),
+        3 => mono_run::<3>(mem, t, w, j, tally),
+        _ => mono_run::<4>(mem, t, w, j, tally),
     }
-    if n == 2 {
-        return mono_run(mem, t, 2, w, j, y, sy, tally);
-    }
-    if n == 3 {
-        return mono_run(mem, t, 3, w, j, y, sy, tally);
-    }
-    mono_run(mem, t, 4, w, j, y, sy, tally)
 }
 
 // A mono rectangle, row by row.
@@ -143,10 +148,8 @@ pub fn mono_rows(mem: &mut [u8], t: Mono, w: u32, h: u32) -> Tally
         count: 0,
         changed: 0,
     };
-    let mut j = 0;
-    while j < h {
+    for j in 0..h {
         n = mono_row(mem, t, w, j, n);
-        j += 1;
     }
     n
 }

@@ -2,8 +2,7 @@
 -- Assumes nothing.
 use native.Mathlib.Omega.{arith}
 use mathlib.Core.Path.{refl}
-use mathlib.Core.Bool.{false}
-use Prim.Native.Nat.{◌+◌, ◌-◌}
+use Prim.Native.Nat.{◌+◌}
 use Rattle.paint.proofs.Loops.{rows-begin, rows-room, rows-go-on, rows-ended}
 use Rattle.bits.proofs.BitLaws.{mono-line}
 use Rattle.bits.proofs.mono_rows.Goals as goal
