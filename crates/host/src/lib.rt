@@ -44,28 +44,22 @@ fn pixels_of(bytes: u32, count: u32) -> u32
     requires { (bytes < 5) × (count < 2 ^ 18) }
     ensures { result ≡ 8 * count / bits_per bytes }
 {
-    if bytes == 0 {
-        return 8 * count;
+    match bytes {
+        0 => 8 * count,
+        1 => count,
+        2 => count / 2,
+        3 => count / 3,
+        _ => count / 4,
     }
-    if bytes == 1 {
-        return count;
-    }
-    if bytes == 2 {
-        return count / 2;
-    }
-    if bytes == 3 {
-        return count / 3;
-    }
-    count / 4
 }
 
 // The pixels of a row that its first `count` bytes hold whole.
+#[tactic(auto, unfolding(crate::specs::Host::whole, crate::specs::Host::bits_of))]
 pub fn whole_pixels(feed: Feed, count: u32) -> u32
     requires { (feed.bytes < 5) × (count < 2 ^ 18) }
     ensures { result ≡ whole feed count }
 {
-    let n = pixels_of(feed.bytes, count);
-    if n < feed.width { n } else { feed.width }
+    feed.width.min(pixels_of(feed.bytes, count))
 }
 
 // The number in the low bytes of v.
@@ -73,99 +67,91 @@ fn low_bytes(v: u64, bytes: u32) -> u32
     requires { (0 < bytes) × (bytes < 5) }
     ensures { result ≡ v % 2 ^ (8 * bytes) }
 {
-    if bytes == 1 {
-        return (v % 0x100) as u32;
-    }
-    if bytes == 2 {
-        return (v % 0x1_0000) as u32;
-    }
-    if bytes == 3 {
-        return (v % 0x100_0000) as u32;
-    }
-    (v % 0x1_0000_0000) as u32
+    (v % (1 << (8 * bytes))) as u32
 }
 
 // The value of pixel i, whose last byte is byte t of this word.
+#[tactic(auto, unfolding(crate::specs::Host::value_of))]
 pub fn value_of(feed: Feed, last: u32, word: u32, t: u32, i: u32) -> u32
     requires { (feed.bytes < 5) × (t < 4) }
     ensures { result ≡ value_of feed last word t i }
 {
     let v = last as u64 + word as u64 * 0x1_0000_0000;
-    let bytes = feed.bytes;
-    if bytes == 0 {
+    if feed.bytes == 0 {
         return ((v >> (8 * (4 + t) + (7 - i % 8))) % 2) as u32;
     }
-    low_bytes(v >> (8 * (5 + t - bytes)), bytes)
+    low_bytes(v >> (8 * (5 + t - feed.bytes)), feed.bytes)
 }
 
+// The source that a value of the feed gives.
+#[tactic(auto, unfolding(crate::specs::Draw::host_source))]
 fn source_of(ink: Ink, feed: Feed, v: u32) -> Source
     ensures { result ≡ host_source ink feed v }
 {
-    let bytes = feed.bytes;
-    if bytes == 0 {
+    if feed.bytes == 0 {
         return paint::bit_source(ink, v);
     }
-    paint::colour_source(ink, bytes, v)
+    paint::colour_source(ink, feed.bytes, v)
 }
 
-// Pixel (i, j) of value v, after those that n tells of.
-fn host_pixel(
-    mem: &mut [u8],
+// A blit: with what it paints, where it may, and what the data is.
+#[derive(Clone, Copy)]
+struct Blit {
     ink: Ink,
     pattern: [u8; 256],
-    c: Clip,
+    clip: Clip,
     feed: Feed,
-    i: u32,
-    j: u32,
-    v: u32,
-    n: Tally,
-) -> Tally
-    requires { Opened ink c feed (length mem.old) × ((i < feed.width) × ((j < feed.height) × Room n 1)) }
-    ensures { tallied mem.new result ≡ drawn ink pattern c feed (pixel i j v ∷ []) (tallied mem.old n) }
-{
-    let x = feed.x + i;
-    let y = feed.y + j;
-    if paint::covers(c, x, y) {
-        let column = x - 16384;
-        let row = y - 16384;
-        let p = ink::pattern_at(ink, pattern, column, row);
-        let s = source_of(ink, feed, v);
-        return paint::put_source(mem, ink, p, column, row, s, n);
-    }
-    n
 }
 
-// The pixels that byte o of the data finishes.
-fn host_byte(
-    mem: &mut [u8],
-    ink: Ink,
-    pattern: [u8; 256],
-    c: Clip,
-    feed: Feed,
-    last: u32,
-    word: u32,
-    o: u32,
-    n: Tally,
-) -> Tally
-    requires { Opened ink c feed (length mem.old) × Room n feed.width }
-    ensures { tallied mem.new result ≡ drawn ink pattern c feed (by_byte feed last word o) (tallied mem.old n) }
-{
-    let step = feed.step;
-    let j = o / step;
-    if feed.height <= j {
-        return n;
+impl Blit {
+    // Pixel (i, j) of value v, after those that n tells of.
+    fn draw_pixel(&self, mem: &mut [u8], i: u32, j: u32, v: u32, n: Tally) -> Tally
+        requires { Opened self.now.ink self.now.clip self.now.feed (length mem.old) × ((i < self.now.feed.width) × ((j < self.now.feed.height) × Room n 1)) }
+        ensures { tallied mem.new result ≡ drawn self.now.ink self.now.pattern self.now.clip self.now.feed (pixel i j v ∷ []) (tallied mem.old n) }
+    {
+        let x = self.feed.x + i;
+        let y = self.feed.y + j;
+        if paint::covers(self.clip, x, y) {
+            let column = x - 16384;
+            let row = y - 16384;
+            let p = ink::pattern_at(self.ink, self.pattern, column, row);
+            let s = source_of(self.ink, self.feed, v);
+            return paint::put_source(mem, self.ink, p, column, row, s, n);
+        }
+        n
     }
-    let column = o % step;
-    let start = whole_pixels(feed, column);
-    let end = whole_pixels(feed, column + 1);
-    let mut r = n;
-    let mut i = start;
-    while i < end {
-        let v = value_of(feed, last, word, o % 4, i);
-        r = host_pixel(mem, ink, pattern, c, feed, i, j, v, r);
-        i += 1;
+
+    // The pixels that byte o of the data finishes; it is of `word`, which comes after `last`.
+    fn draw_byte(&self, mem: &mut [u8], last: u32, word: u32, o: u32, n: Tally) -> Tally
+        requires { Opened self.now.ink self.now.clip self.now.feed (length mem.old) × Room n self.now.feed.width }
+        ensures { tallied mem.new result ≡ drawn self.now.ink self.now.pattern self.now.clip self.now.feed (by_byte self.now.feed last word o) (tallied mem.old n) }
+    {
+        let j = o / self.feed.step;
+        if self.feed.height <= j {
+            return n;
+        }
+        let column = o % self.feed.step;
+        let start = whole_pixels(self.feed, column);
+        let end = whole_pixels(self.feed, column + 1);
+        let mut r = n;
+        for i in start..end {
+            let v = value_of(self.feed, last, word, o % 4, i);
+            r = self.draw_pixel(mem, i, j, v, r);
+        }
+        r
     }
-    r
+
+    // Those that word number `taken` finishes.
+    fn draw_word(&self, mem: &mut [u8], taken: u32, last: u32, word: u32, n: Tally) -> Tally
+        requires { Waits self.now.ink self.now.clip self.now.feed (length mem.old) taken × Room n (2 ^ 15) }
+        ensures { tallied mem.new result ≡ drawn self.now.ink self.now.pattern self.now.clip self.now.feed (by_word self.now.feed last word taken) (tallied mem.old n) }
+    {
+        let mut r = n;
+        for t in 0..4 {
+            r = self.draw_byte(mem, last, word, 4 * taken + t, r);
+        }
+        r
+    }
 }
 
 // The pixels that word number `taken` finishes, after those that n tells of; `last` is the word before it.
@@ -183,13 +169,13 @@ pub fn host_word(
     requires { Waits ink c feed (length mem.old) taken × Room n (2 ^ 15) }
     ensures { tallied mem.new result ≡ drawn ink pattern c feed (by_word feed last word taken) (tallied mem.old n) }
 {
-    let mut r = n;
-    let mut t = 0;
-    while t < 4 {
-        r = host_byte(mem, ink, pattern, c, feed, last, word, 4 * taken + t, r);
-        t += 1;
-    }
-    r
+    let blit = Blit {
+        ink,
+        pattern,
+        clip: c,
+        feed,
+    };
+    blit.draw_word(mem, taken, last, word, n)
 }
 
 // Those that some words finish, the first of them number `taken`; `last` is the word before them. The tally of those written.
@@ -206,27 +192,22 @@ pub fn host_words(
     requires { WaitsFor ink c feed (length mem.old) taken (length words.now) }
     ensures { tallied mem.new result ≡ drawn ink pattern c feed (by_run feed last words.now taken) (state mem.old 0 0) }
 {
+    let blit = Blit {
+        ink,
+        pattern,
+        clip: c,
+        feed,
+    };
     let mut n = Tally {
         count: 0,
         changed: 0,
     };
+    let mut k = taken;
     let mut before = last;
-    let mut i = 0;
-    while i < words.len() {
-        let word = words[i];
-        n = host_word(
-            mem,
-            ink,
-            pattern,
-            c,
-            feed,
-            taken + i as u32,
-            before,
-            word,
-            n,
-        );
-        before = word;
-        i += 1;
+    for word in words {
+        n = blit.draw_word(mem, k, before, *word, n);
+        k += 1;
+        before = *word;
     }
     n
 }

@@ -1,4 +1,4 @@
--- `host::host_pixel` meets its contract: the pixel is put there, or it is outside the clip.
+-- `host::Blit::draw_pixel` meets its contract: the pixel is put there, or it is outside the clip.
 -- Assumes nothing.
 use native.Mathlib.Omega.{arith}
 use mathlib.Core.Path.{sym, ◌∙◌}
@@ -6,9 +6,9 @@ use Prim.Native.Nat.{◌+◌}
 use Rattle.paint.specs.Paint.{tallied}
 use Rattle.paint.proofs.ClipLaws.{Covered, in-clip}
 use Rattle.host.proofs.Drawing.{pixel-put, pixel-past}
-use Rattle.host.proofs.host_pixel.Goals as goal
+use Rattle.host.proofs.Blit.draw_pixel.Goals as goal
 
-position : (c : goal.Then-covers) → let a = c.args in Covered a.c (a.feed.x + a.i) (a.feed.y + a.j)
+position : (c : goal.Then-covers) → let a = c.args in Covered a.self.now.clip (a.self.now.feed.x + a.i) (a.self.now.feed.y + a.j)
 position c = in-clip _ _ _ (sym c.covers.ensures ∙ c.if-covers.true)
 
 pub overflow_sub-column : goal.overflow_sub-column
@@ -27,10 +27,10 @@ put_source-requires c =
 pub returns-then-covers : goal.returns-then-covers
 returns-then-covers c =
     let a = c.args in
-    pixel-put a.ink a.pattern a.c a.feed a.i a.j a.v _ _ a.mem.now a.n _ (sym c.covers.ensures ∙ c.if-covers.true)
+    pixel-put a.self.now.ink a.self.now.pattern a.self.now.clip a.self.now.feed a.i a.j a.v _ _ a.mem.now a.n _ (sym c.covers.ensures ∙ c.if-covers.true)
     c.pattern_at-p.ensures c.source_of-s.ensures c.put_source.ensures
 
 pub returns : goal.returns
 returns c =
     let a = c.args in
-    pixel-past a.ink a.pattern a.c a.feed a.i a.j a.v (tallied a.mem.now a.n) (sym c.covers.ensures ∙ c.if-covers.false)
+    pixel-past a.self.now.ink a.self.now.pattern a.self.now.clip a.self.now.feed a.i a.j a.v (tallied a.mem.now a.n) (sym c.covers.ensures ∙ c.if-covers.false)
