@@ -83,6 +83,11 @@ module _ (f : ℕ → ℕ) (small : (k : ℕ) → f k < 256) (k : ℕ) where
     simp add_assoc (omega (arith, small (k + 8))),
   )
 
+module _ (f g : ℕ → ℕ) (k o : ℕ) where
+  pub word-unlike : (x y : ℕ) → x ≡ number f k 4 → y ≡ number g o 4 → unlike x y ≡ unlikes f g 4 k o 1
+  unfolding unlikes
+  word-unlike x y e h = rw (e, h) (omega arith)
+
 module _ (f g : ℕ → ℕ) (small : (k : ℕ) → f k < 256) (small' : (k : ℕ) → g k < 256) (k o : ℕ) where
   pub bytes-unlike : (x y : ℕ) → x ≡ number f k 4 → y ≡ number g o 4
       → unlike (x % 0x100) (y % 0x100) + unlike (x / 0x100 % 0x100) (y / 0x100 % 0x100) + unlike (x / 0x10000 % 0x100) (y / 0x10000 % 0x100) + unlike (x / 0x1000000) (y / 0x1000000)
