@@ -198,10 +198,10 @@ module _ {p : Plain} {feed : Feed} {s : ℕ → ℕ} {j : ℕ} {m₀ : List ℕ}
     line-room k room fits = room-left room (done-upto now.done) (omega (arith, row-length s feed j 0 i))
 
     -- k pixels of one byte
-    pub line-takes : {len l : ℕ} → Glyph p feed len l → ((a : ℕ) → s a < 2 ^ 32) → (k : ℕ) {m' : List ℕ} {r' : Tally} → i < feed.width → i + k ≤ feed.width → k ≤ 8 → (i + k < feed.width → k ≡ 8)
+    pub line-takes : {len l : ℕ} → Glyph p feed len l → ((a : ℕ) → s a < 2 ^ 32) → (k : ℕ) {i' : ℕ} {m' : List ℕ} {r' : Tally} → i' ≡ i + k → i < feed.width → i + k ≤ feed.width → k ≤ 8 → (i + k < feed.width → k ≡ 8)
         → tallied m' r' ≡ paint p.target (byte_touches p (data_byte s (j * feed.step + i / 8)) 0 (feed.x + i - origin) (across false (feed.x + i - origin) k (feed.y + j - origin))) (tallied m r)
-        → LineDone p feed s j m₀ n (i + k) m' r'
-    line-takes g small k {m'} {r'} more fits few all put = record {
+        → LineDone p feed s j m₀ n i' m' r'
+    line-takes g small k next more fits few all put = rw next record {
       done = done_more now.done (row_from s feed j i k)
           (ap (λ (a : ℕ). row_from s feed j 0 i ++ row_from s feed j a k) (sym (zero-add i)) ∙ row-append s feed (record { held = g.rows; words = small }) j 0 i k)
           (put ∙ ap (λ (ts : List Touch). paint p.target ts (tallied m r)) (byte-touched s feed g.mono p j i k (now.starts more) few g.left));

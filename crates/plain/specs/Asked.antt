@@ -1,16 +1,27 @@
 -- What functions of this crate ask for. No promise rests on it.
 -- Assumes nothing.
-use Rattle.std.specs.Prelude.{◌≡◌, true, false, ℕ, ◌+◌, ◌-◌, ◌*◌, ◌/◌, ◌%◌, ◌^◌, ◌<◌, ◌≤◌}
+use Rattle.std.specs.Prelude.{◌≡◌, true, false, List, [], ℕ, ◌+◌, ◌-◌, ◌*◌, ◌/◌, ◌%◌, ◌^◌, ◌<◌, ◌≤◌}
 use Rattle.surface.specs.Asked.{Colour, OnColour}
 use Rattle.surface.specs.Pixels.{origin}
 use Rattle.paint.specs.declared.Clip.{Clip}
 use Rattle.paint.specs.declared.Tally.{Tally}
 use Rattle.paint.specs.Clip.{in_clip}
+use Rattle.paint.specs.Paint.{State}
 use Rattle.paint.specs.Asked.{Room}
 use Rattle.bits.specs.declared.Plain.{Plain}
 use Rattle.host.specs.declared.Feed.{Feed}
-use Rattle.host.specs.Host.{last_column, last_byte_of, words_of}
-use Rattle.host.specs.Asked.{Rows}
+use Rattle.host.specs.Host.{Pixel, last_column, last_byte_of, words_of}
+use Rattle.host.specs.Asked.{Rows, Opened}
+use Rattle.host.specs.Draw.{drawn}
+use Rattle.plain.specs.declared.Blit.{Blit}
+use Rattle.plain.specs.Plain.{plain_ink}
+
+-- a blit that was opened, in a memory of len bytes; and what pixels of it do
+abbrev pub opened : Blit → ℕ → Type 0
+opened b len = Opened (plain_ink b.plain) b.clip b.feed len
+
+abbrev pub painted : Blit → List Pixel → State → State
+painted b ps = drawn (plain_ink b.plain) [] b.clip b.feed ps
 
 -- m bytes of row j from byte `column` on are those of a word from its byte t on
 pub record Part (f : Feed) (t j column m : ℕ) : Type 0 where

@@ -8,8 +8,8 @@ use Rattle.surface.proofs.OnLaws.{pos-of-ne}
 use Rattle.host.proofs.Places.{mono-column, colour-column}
 use Rattle.plain.proofs.last_column.Goals as goal
 
-pub returns-then-bytes-eq0 : goal.returns-then-bytes-eq0
-returns-then-bytes-eq0 c = sym (mono-column c.args.feed c.args.i c.if-bytes-eq0.true)
+pub returns-then-feed-eq0 : goal.returns-then-feed-eq0
+returns-then-feed-eq0 c = sym (mono-column c.args.feed c.args.i c.if-feed-eq0.true)
 
 pub overflow_mul-result : goal.overflow_mul-result
 overflow_mul-result c = let four : c.args.feed.bytes ≤ 4 = omega arith in omega (arith, mul-le-mul_left c.args.i four)
@@ -18,4 +18,4 @@ pub overflow_add-result : goal.overflow_add-result
 overflow_add-result c = let four : c.args.feed.bytes ≤ 4 = omega arith in omega (arith, mul-le-mul_left c.args.i four)
 
 pub returns : goal.returns
-returns c = omega (arith, colour-column c.args.feed c.args.i c.if-bytes-eq0.false, pos-of-ne c.if-bytes-eq0.false)
+returns c = omega (arith, colour-column c.args.feed c.args.i c.if-feed-eq0.false, pos-of-ne c.if-feed-eq0.false)

@@ -1,12 +1,8 @@
 -- `plain::mono_blit` meets its contract: each turn paints the next row.
 -- Assumes nothing.
-use Prim.Native.Nat.{◌-◌}
 use Rattle.pours.specs.Pours.{word_in}
 use Rattle.plain.proofs.Glyphs.{RowsDone}
 use Rattle.plain.proofs.mono_blit.Given as goal
 
 abbrev pub invariant-loop-j : goal.invariant-loop-j
-invariant-loop-j l = RowsDone l.p l.feed (word_in l.words) l.initial.mem l.j l.mem l.r
-
-abbrev pub decreases-loop-j : goal.decreases-loop-j
-decreases-loop-j l = l.feed.height - l.j
+invariant-loop-j g l = RowsDone l.p l.feed (word_in l.words) l.initial.mem l.j l.mem l.r

@@ -1,4 +1,4 @@
--- `plain::plain_pixel` meets its contract: its source is put there or left, or it is outside the clip.
+-- `plain::Blit::draw_pixel` meets its contract: its source is put there or left, or it is outside the clip.
 -- Assumes nothing.
 use native.Mathlib.Omega.{arith}
 use mathlib.Core.Path.{sym, ◌∙◌}
@@ -8,7 +8,7 @@ use Rattle.paint.proofs.ClipLaws.{in-clip}
 use Rattle.plain.specs.Plain.{plain_ink}
 use Rattle.host.proofs.Drawing.{pixel-past}
 use Rattle.plain.proofs.PlainLaws.{plain-put}
-use Rattle.plain.proofs.plain_pixel.Goals as goal
+use Rattle.plain.proofs.Blit.draw_pixel.Goals as goal
 
 pub overflow_sub-x : goal.overflow_sub-x
 overflow_sub-x c = omega (arith, in-clip _ _ _ (sym c.covers.ensures ∙ c.if-covers.true))
@@ -24,9 +24,9 @@ put_value-requires c =
 pub returns-then-covers : goal.returns-then-covers
 returns-then-covers c =
     let a = c.args in
-    plain-put a.p a.c a.feed a.i a.j a.v (tallied a.mem.now a.n) (sym c.covers.ensures ∙ c.if-covers.true) (omega arith) c.requires.1.1.1.1 c.put_value.ensures
+    plain-put a.self.plain a.self.clip a.self.feed a.i a.j a.v (tallied a.mem.now a.n) (sym c.covers.ensures ∙ c.if-covers.true) (omega arith) c.requires.1.1.1.1 c.put_value.ensures
 
 pub returns : goal.returns
 returns c =
     let a = c.args in
-    pixel-past (plain_ink a.p) [] a.c a.feed a.i a.j a.v (tallied a.mem.now a.n) (sym c.covers.ensures ∙ c.if-covers.false)
+    pixel-past (plain_ink a.self.plain) [] a.self.clip a.self.feed a.i a.j a.v (tallied a.mem.now a.n) (sym c.covers.ensures ∙ c.if-covers.false)

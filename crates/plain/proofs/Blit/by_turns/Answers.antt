@@ -1,4 +1,4 @@
--- `plain::by_turns` meets its contract: each turn draws the pixels that its words finish.
+-- `plain::Blit::by_turns` meets its contract: each turn draws the pixels that its words finish.
 -- Assumes nothing.
 use native.Mathlib.Omega.{arith}
 use mathlib.Core.Path.{◌≡◌, ap, subst, ◌∙◌}
@@ -9,8 +9,8 @@ use lib.Seq.{get_or-take, get_or-drop, length-take-le, take_all}
 use Rattle.host.specs.Host.{last_of}
 use Rattle.host.proofs.Runs.{RunLeft, run-begins, run_room, run-takes, run-ended, last_some}
 use Rattle.plain.specs.Plain.{plain_ink}
-use Rattle.plain.proofs.by_turns.Goals as goal
-use Rattle.plain.proofs.by_turns.Goals.{After-take_some-t}
+use Rattle.plain.proofs.Blit.by_turns.Goals as goal
+use Rattle.plain.proofs.Blit.by_turns.Goals.{After-take_some-t}
 
 -- ---- the words from number i on, and the last of n of them
 rest : (ws : List ℕ) (i : ℕ) → take (length ws - i) (drop i ws) ≡ drop i ws
@@ -72,7 +72,7 @@ loop-i-preserved c =
     let a = c.args in
     let t = c.take_some-t in
     let k = took (goal.at.loop-i-preserved c).After-take_some-t in
-    subst (λ (b : ℕ). RunLeft (plain_ink a.p) [] a.c a.feed a.last a.words.now a.taken a.mem.now (l.i + t.result.taken) b t.new.mem t.result.n)
+    subst (λ (b : ℕ). RunLeft (plain_ink a.self.plain) [] a.self.clip a.self.feed a.last a.words.now a.taken a.mem.now (l.i + t.result.taken) b t.new.mem t.result.n)
     (last-of a.words.now l.i t.result.taken l.before k.0 k.1)
     (run-takes l.invariant c.requires.opened.rows.sizes t.result.taken k.1 (rw (rest a.words.now l.i) at t.ensures.1.1))
 
