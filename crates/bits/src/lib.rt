@@ -44,30 +44,8 @@ fn put_bit(mem: &mut [u8], at: usize, n: u32, p: Plain, bit: u32, tally: Tally) 
     paint::put_value_at(mem, at, n, p.clear & !set, v, tally)
 }
 
-// The m pixels of row y from x on are given the bits of a byte from bit k on, the highest first; N is the target's bytes per pixel.
-fn run_of<const N: u32>(
-    mem: &mut [u8],
-    p: Plain,
-    byte: u32,
-    k: u32,
-    x: u32,
-    y: u32,
-    m: u32,
-    tally: Tally,
-) -> Tally
-    requires { ((Colour p.target × (p.target.tiled ≡ false)) × (RowOn p.target (length mem.old) x m y × Room tally m)) × ((k + m ≤ 8) × (N ≡ p.target.bytes)) }
-    ensures { tallied mem.new result ≡ paint p.target (byte_touches p byte k x (across false x m y)) (tallied mem.old tally) }
-{
-    let at = surface::place_in_rows(p.target, x, y);
-    let mut r = tally;
-    for i in 0..m {
-        let bit = (byte >> (7 - (k + i))) % 2;
-        r = put_bit(mem, at + (i * N) as usize, N, p, bit, r);
-    }
-    r
-}
-
-// The same of a number of bytes that is given, with a loop for each.
+// The m pixels of row y from x on are given the bits of a byte from bit k on, the highest first; n is the target's bytes per pixel.
+// A number, no const parameter: with that the compiler does not unroll the loop in callers, and glyphs take 1.2 to 1.5 times as long.
 pub fn put_run(
     mem: &mut [u8],
     p: Plain,
@@ -82,15 +60,16 @@ pub fn put_run(
     requires { ((Colour p.target × (p.target.tiled ≡ false)) × (RowOn p.target (length mem.old) x m y × Room tally m)) × ((k + m ≤ 8) × (n ≡ p.target.bytes)) }
     ensures { tallied mem.new result ≡ paint p.target (byte_touches p byte k x (across false x m y)) (tallied mem.old tally) }
 {
-    match n {
-        1 => run_of::<1>(mem, p, byte, k, x, y, m, tally),
-        2 => run_of::<2>(mem, p, byte, k, x, y, m, tally),
-        3 => run_of::<3>(mem, p, byte, k, x, y, m, tally),
-        _ => run_of::<4>(mem, p, byte, k, x, y, m, tally),
+    let at = surface::place_in_rows(p.target, x, y);
+    let mut r = tally;
+    for i in 0..m {
+        let bit = (byte >> (7 - (k + i))) % 2;
+        r = put_bit(mem, at + (i * n) as usize, n, p, bit, r);
     }
+    r
 }
 
-// The same of the target's own.
+// The same, with a loop for each number of bytes.
 pub fn put_bits(
     mem: &mut [u8],
     p: Plain,
@@ -104,7 +83,12 @@ pub fn put_bits(
     requires { ((Colour p.target × (p.target.tiled ≡ false)) × (RowOn p.target (length mem.old) x m y × Room tally m)) × (k + m ≤ 8) }
     ensures { tallied mem.new result ≡ paint p.target (byte_touches p byte k x (across false x m y)) (tallied mem.old tally) }
 {
-    put_run(mem, p, p.target.bytes, byte, k, x, y, m, tally)
+    match p.target.bytes {
+        1 => put_run(mem, p, 1, byte, k, x, y, m, tally),
+        2 => put_run(mem, p, 2, byte, k, x, y, m, tally),
+        3 => put_run(mem, p, 3, byte, k, x, y, m, tally),
+        _ => put_run(mem, p, 4, byte, k, x, y, m, tally),
+    }
 }
 
 // Row j of a mono rectangle, a byte of its source at a time; N is the target's bytes per pixel.
@@ -120,7 +104,7 @@ fn mono_run<const N: u32>(mem: &mut [u8], t: Mono, w: u32, j: u32, tally: Tally)
         let k = column % 8;
         let m = (8 - k).min(w - i);
         let byte = surface::mono_in_rows(mem, t.from, column, t.sy + j);
-        r = run_of::<N>(mem, t.plain, byte, k, t.x + i, t.y + j, m, r);
+        r = put_run(mem, t.plain, N, byte, k, t.x + i, t.y + j, m, r);
         i += m;
     }
     r

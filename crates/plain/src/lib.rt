@@ -149,7 +149,8 @@ impl Row {
 }
 
 impl Blit {
-    // Pixel (i, j) of value v, whose source is s, after those that n tells of.
+    // Pixel (i, j) of value v, whose source is s, after those that n tells of. Inline: as a call it makes pixels that are converted take up to twice as long.
+    #[inline(always)]
     fn draw_pixel(self, mem: &mut [u8], i: u32, j: u32, v: u32, s: Source, n: Tally) -> Tally
         requires { opened self (length mem.old) × ((i < self.feed.width) × ((j < self.feed.height) × (Room n 1 × (source s.value false s.left ≡ host_source (plain_ink self.plain) self.feed v)))) }
         ensures { tallied mem.new result ≡ painted self (pixel i j v ∷ []) (tallied mem.old n) }
@@ -321,32 +322,36 @@ fn data_byte(words: &[u32], o: u32) -> u32
     (words[(o / 4) as usize] >> (8 * (o % 4))) % 256
 }
 
-// Row j of a mono blit, a byte of its data at a time; N is the target's bytes per pixel.
-fn mono_line<const N: u32>(
+// Row j of a mono blit, a byte of its data at a time; n is the target's bytes per pixel.
+fn mono_line(
     mem: &mut [u8],
     p: Plain,
+    n: u32,
     feed: Feed,
     words: &[u32],
     j: u32,
     tally: Tally,
 ) -> Tally
-    requires { Glyph p feed (length mem.old) (length words.now) × ((N ≡ p.target.bytes) × ((j < feed.height) × Room tally feed.width)) }
+    requires { Glyph p feed (length mem.old) (length words.now) × ((n ≡ p.target.bytes) × ((j < feed.height) × Room tally feed.width)) }
     ensures { tallied mem.new result ≡ paint p.target (mono_touches p feed (row_from (word_in words.now) feed j 0 feed.width)) (tallied mem.old tally) }
 {
     let from = j * feed.step;
     let y = feed.y + j - 16384;
     let mut r = tally;
-    for i in (0..feed.width).step_by(8) {
-        let m = (feed.width - i).min(8);
+    let mut i = 0;
+    // while: with step_by, or a const parameter for n, the compiler does not unroll the bits of a byte, and glyphs take 1.2 to 1.5 times as long
+    while i < feed.width {
+        let m = 8u32.min(feed.width - i);
         let byte = data_byte(words, from + i / 8);
-        r = bits::put_run(mem, p, N, byte, 0, feed.x + i - 16384, y, m, r);
+        r = bits::put_run(mem, p, n, byte, 0, feed.x + i - 16384, y, m, r);
+        i += m;
     }
     r
 }
 
-// A mono blit from all its words, row by row; N is the target's bytes per pixel.
-fn mono_blit<const N: u32>(mem: &mut [u8], p: Plain, feed: Feed, words: &[u32]) -> Tally
-    requires { Glyph p feed (length mem.old) (length words.now) × (N ≡ p.target.bytes) }
+// A mono blit from all its words, row by row; n is the target's bytes per pixel.
+fn mono_blit(mem: &mut [u8], p: Plain, n: u32, feed: Feed, words: &[u32]) -> Tally
+    requires { Glyph p feed (length mem.old) (length words.now) × (n ≡ p.target.bytes) }
     ensures { tallied mem.new result ≡ paint p.target (mono_touches p feed (rows (word_in words.now) feed feed.height)) (state mem.old 0 0) }
 {
     let mut r = Tally {
@@ -354,7 +359,7 @@ fn mono_blit<const N: u32>(mem: &mut [u8], p: Plain, feed: Feed, words: &[u32]) 
         changed: 0,
     };
     for j in 0..feed.height {
-        r = mono_line::<N>(mem, p, feed, words, j, r);
+        r = mono_line(mem, p, n, feed, words, j, r);
     }
     r
 }
@@ -365,10 +370,10 @@ fn mono_blits(mem: &mut [u8], p: Plain, feed: Feed, words: &[u32]) -> Tally
     ensures { tallied mem.new result ≡ paint p.target (mono_touches p feed (rows (word_in words.now) feed feed.height)) (state mem.old 0 0) }
 {
     match p.target.bytes {
-        1 => mono_blit::<1>(mem, p, feed, words),
-        2 => mono_blit::<2>(mem, p, feed, words),
-        3 => mono_blit::<3>(mem, p, feed, words),
-        _ => mono_blit::<4>(mem, p, feed, words),
+        1 => mono_blit(mem, p, 1, feed, words),
+        2 => mono_blit(mem, p, 2, feed, words),
+        3 => mono_blit(mem, p, 3, feed, words),
+        _ => mono_blit(mem, p, 4, feed, words),
     }
 }
 

@@ -17,8 +17,8 @@ mono_in_rows-byte-requires g c =
     let k = c.loop-i in
     rw k.invariant.left.long (record { small = row.small; mono = row.mono; on = row.source k.i c.loop-i-test.true }, row.from_flat)
 
-pub run_of-r-requires : goal.run_of-r-requires
-run_of-r-requires g c =
+pub put_run-r-requires : goal.put_run-r-requires
+put_run-r-requires g c =
     let p = c.requires in
     let row = p.0 in
     let left = c.loop-i.invariant in
@@ -41,7 +41,7 @@ loop-i-preserved g c =
     let m = c.min-m in
     let u = c.loop-i-test.true in
     row-takes k.invariant m.result (omega (arith, u))
-    (c.run_of-r.ensures
+    (c.put_run-r.ensures
     ∙ byte-once p.0 k.i m.result _ (tallied k.mem k.r) u (omega (arith, u)) (omega arith) (sym c.mono_in_rows-byte.ensures.0))
 
 pub shape_of-mem : goal.shape_of-mem

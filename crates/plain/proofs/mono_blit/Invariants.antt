@@ -5,4 +5,4 @@ use Rattle.plain.proofs.Glyphs.{RowsDone}
 use Rattle.plain.proofs.mono_blit.Given as goal
 
 abbrev pub invariant-loop-j : goal.invariant-loop-j
-invariant-loop-j g l = RowsDone l.p l.feed (word_in l.words) l.initial.mem l.j l.mem l.r
+invariant-loop-j l = RowsDone l.p l.feed (word_in l.words) l.initial.mem l.j l.mem l.r

@@ -6,7 +6,7 @@ use Rattle.plain.proofs.Glyphs.{LineDone}
 use Rattle.plain.proofs.mono_line.Given as goal
 
 abbrev pub invariant-loop-i : goal.invariant-loop-i
-invariant-loop-i g l = LineDone l.p l.feed (word_in l.words) l.j l.initial.mem l.initial.r l.i l.mem l.r
+invariant-loop-i l = LineDone l.p l.feed (word_in l.words) l.j l.initial.mem l.initial.r l.i l.mem l.r
 
 abbrev pub decreases-loop-i : goal.decreases-loop-i
-decreases-loop-i g l = l.feed.width - l.i
+decreases-loop-i l = l.feed.width - l.i
