@@ -45,7 +45,7 @@ fn put_bit(mem: &mut [u8], at: usize, n: u32, p: Plain, bit: u32, tally: Tally) 
 }
 
 // The m pixels of row y from x on are given the bits of a byte from bit k on, the highest first; n is the target's bytes per pixel.
-// A number, no const parameter: with that the compiler does not unroll the loop in callers, and glyphs take 1.2 to 1.5 times as long.
+// A number, no const parameter: with that glyphs of some formats take up to a fifth longer.
 pub fn put_run(
     mem: &mut [u8],
     p: Plain,
