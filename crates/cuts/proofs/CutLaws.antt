@@ -26,6 +26,9 @@ clip-bits r = by-test (bit r.command 23)
     by-test true = omega arith
     by-test false = omega arith
 
+-- the same, by a name that an attribute can hold
+pub ruleset clips = clip-bits
+
 -- ---- sizes
 pub record Bounded (c : Cut) : Type 0 where
   pub wide : c.x + c.w ≤ 2 ^ 13

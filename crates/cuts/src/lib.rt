@@ -30,6 +30,7 @@ fn clip_by(least: u32, most: u32) -> Clip
     }
 }
 
+#[tactic(auto, unfolding(crate::specs::Cut::clip_of))]
 pub fn decode_clip(r: Regs) -> Clip
     ensures { result ≡ clip_of r }
 {
@@ -44,39 +45,27 @@ fn first_of(last: bool, at: u32, n: u32) -> u32
     requires { (n < 2 ^ 13) × ((12288 ≤ at) × (at < 20480)) }
     ensures { (result ≡ first_of last at n) × (result < 20480) }
 {
-    if last {
-        if n == 0 {
-            return at;
-        }
-        return at - (n - 1);
-    }
-    at
+    if last { at - n.saturating_sub(1) } else { at }
 }
 
 fn cut_low(least: u32, at: u32) -> u32
     requires { Axis least at }
     ensures { result ≡ cut_low least at }
 {
-    if at < 16384 + least {
-        16384 + least
-    } else {
-        at
-    }
+    at.max(16384 + least)
 }
 
 fn cut_size(least: u32, most: u32, at: u32, n: u32) -> u32
     requires { Axis least at × ((most < 2 ^ 12) × (n < 2 ^ 13)) }
     ensures { result ≡ cut_size least most at n }
 {
-    let low = cut_low(least, at);
-    let mut high = at + n;
-    if 16384 + most < high {
-        high = 16384 + most;
-    }
-    if low < high { high - low } else { 0 }
+    (at + n)
+        .min(16384 + most)
+        .saturating_sub(cut_low(least, at))
 }
 
 // What the clip leaves of w by h pixels from (x, y), whose source begins at (sx, sy).
+#[tactic(auto, unfolding(crate::specs::Cut::cut_at))]
 fn cut_at(c: Clip, x: u32, y: u32, w: u32, h: u32, sx: u32, sy: u32) -> Cut
     requires { CutRange c x y w h sx sy }
     ensures { result ≡ cut_at c x y w h sx sy }
@@ -93,6 +82,7 @@ fn cut_at(c: Clip, x: u32, y: u32, w: u32, h: u32, sx: u32, sy: u32) -> Cut
     }
 }
 
+#[tactic(auto, using(crate::proofs::CutLaws::clips), unfolding(crate::specs::Cut::fill_cut))]
 pub fn fill_cut(r: Regs) -> Cut
     ensures { result ≡ fill_cut r }
 {
@@ -124,6 +114,7 @@ pub fn from_bottom(r: Regs) -> bool
     r.command / 0x8000 % 2 == 1
 }
 
+#[tactic(auto, using(crate::proofs::CutLaws::clips), unfolding(crate::specs::Cut::copy_cut))]
 pub fn copy_cut(r: Regs) -> Cut
     ensures { result ≡ copy_cut r }
 {
