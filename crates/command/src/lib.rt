@@ -1,7 +1,7 @@
 // What the registers say of a command's surfaces, its ink and its work.
 #![tactic(auto)]
 
-ghost use Rattle.std.specs.Prelude.{◌≡◌, ◌-◌, ◌<◌};
+ghost use Rattle.std.specs.Prelude.{◌≡◌};
 ghost use Rattle.command.specs.Decode.{target, origins, stretch_origins, ink_of, plain_blit, plain_of, fill_task, copy_task, stretch_of, line_of, pen_of, feed_of};
 
 use bits::Plain;
@@ -31,14 +31,14 @@ fn stretch_surface(r: Regs) -> Surface
     formats::source_of(r.src_base_addr, r.src_format, r.src_size % 0x2000)
 }
 
+#[tactic(auto, unfolding(crate::specs::Decode::ink_of))]
 pub fn decode_ink(r: Regs) -> Ink
     ensures { result ≡ ink_of r }
 {
-    let target = target_surface(r);
     let c = r.command;
     let e = r.command_extra;
     Ink {
-        target: target,
+        target: target_surface(r),
         fore: r.color_fore,
         back: r.color_back,
         rop0: c / 0x100_0000 % 0x100,
@@ -67,22 +67,22 @@ pub fn is_plain(r: Regs) -> bool
     (r.command / 0x100_0000 % 0x100 == 0xcc) & (!(e / 1 % 2 == 1) & !(e / 2 % 2 == 1))
 }
 
+#[tactic(auto, unfolding(crate::specs::Decode::plain_of))]
 pub fn decode_plain(r: Regs) -> Plain
     ensures { result ≡ plain_of r }
 {
-    let target = target_surface(r);
     Plain {
-        target: target,
+        target: target_surface(r),
         fore: r.color_fore,
         back: r.color_back,
         clear: r.command / 0x1_0000 % 2 == 1,
     }
 }
 
+#[tactic(auto, unfolding(crate::specs::Decode::fill_task))]
 pub fn fill_task(r: Regs) -> Task
     ensures { result ≡ fill_task r }
 {
-    let ink = decode_ink(r);
     let c = cuts::fill_cut(r);
     let none = Surface {
         base: 0,
@@ -91,7 +91,7 @@ pub fn fill_task(r: Regs) -> Task
         tiled: false,
     };
     Task {
-        ink: ink,
+        ink: decode_ink(r),
         copies: false,
         from: none,
         sx: 0,
@@ -101,55 +101,45 @@ pub fn fill_task(r: Regs) -> Task
     }
 }
 
-// A position as a pixel's, 0 where it is negative.
-fn from_origin(at: u32) -> u32
-    ensures { result ≡ at - 16384 }
-{
-    if at < 16384 { 0 } else { at - 16384 }
-}
-
+#[tactic(auto, unfolding(crate::specs::Decode::copy_task))]
 pub fn copy_task(r: Regs) -> Task
     ensures { result ≡ copy_task r }
 {
-    let ink = decode_ink(r);
     let c = cuts::copy_cut(r);
-    let from = source_surface(r);
     Task {
-        ink: ink,
+        ink: decode_ink(r),
         copies: true,
-        from: from,
-        sx: from_origin(c.sx),
-        sy: from_origin(c.sy),
+        from: source_surface(r),
+        sx: c.sx.saturating_sub(16384),
+        sy: c.sy.saturating_sub(16384),
         x: c.x,
         y: c.y,
     }
 }
 
+#[tactic(auto, unfolding(crate::specs::Decode::stretch_of))]
 pub fn decode_stretch(r: Regs) -> Stretch
     ensures { result ≡ stretch_of r }
 {
-    let ink = decode_ink(r);
-    let from = stretch_surface(r);
-    let columns = Scale {
-        to: positions::place13(r.dst_xy),
-        size: r.dst_size % 0x2000,
-        from: positions::place13(r.src_xy),
-        source_size: r.src_size % 0x2000,
-    };
-    let rows = Scale {
-        to: positions::place13(r.dst_xy / 0x1_0000),
-        size: r.dst_size / 0x1_0000 % 0x2000,
-        from: positions::place13(r.src_xy / 0x1_0000),
-        source_size: r.src_size / 0x1_0000 % 0x2000,
-    };
     Stretch {
-        ink: ink,
-        from: from,
-        columns: columns,
-        rows: rows,
+        ink: decode_ink(r),
+        from: stretch_surface(r),
+        columns: Scale {
+            to: positions::place13(r.dst_xy),
+            size: r.dst_size % 0x2000,
+            from: positions::place13(r.src_xy),
+            source_size: r.src_size % 0x2000,
+        },
+        rows: Scale {
+            to: positions::place13(r.dst_xy / 0x1_0000),
+            size: r.dst_size / 0x1_0000 % 0x2000,
+            from: positions::place13(r.src_xy / 0x1_0000),
+            source_size: r.src_size / 0x1_0000 % 0x2000,
+        },
     }
 }
 
+#[tactic(auto, unfolding(crate::specs::Decode::line_of))]
 pub fn decode_line(r: Regs) -> Line
     ensures { result ≡ line_of r }
 {
@@ -171,6 +161,7 @@ pub fn decode_pen(r: Regs) -> Pen
     }
 }
 
+#[tactic(auto, unfolding(crate::specs::Decode::feed_of))]
 pub fn decode_feed(r: Regs) -> Feed
     ensures { result ≡ feed_of r }
 {
