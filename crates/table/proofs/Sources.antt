@@ -103,3 +103,7 @@ pub no-clash : (t : Surface) (c : Cut) (other : Span) → (0 < c.w → 0 < c.h �
 no-clash t c other none =
     ap (λ (s : Span). meet s other) (rect-empty false false t c.x c.y c.w c.h none)
     ∙ ap (λ b. ltb 0 other.past && b) (le-ltb other.low 0 (omega arith)) ∙ and-false (ltb 0 other.past)
+
+pub ruleset needs = (needed-none, needed-negative, needed-as-pixels)
+
+pub ruleset clashes = (no-clash, needed-pixels)

@@ -36,6 +36,8 @@ use Rattle.table.proofs.Verdicts.{passed, spared, neither, target-named, fill-bo
 pub reach-up : (s : Scale) (at n : ℕ) → scaled s (origin + at) ≤ scaled s (origin + (at + (n - 1)))
 reach-up s at n = scaled-mono s (omega arith)
 
+pub ruleset ups = reach-up
+
 reach-last : (s : Scale) (at n : ℕ) → (reach_of s at n).at + ((reach_of s at n).n - 1) ≡ scaled s (origin + (at + (n - 1)))
 unfolding reach_of
 reach-last s at n = omega (arith, reach-up s at n)
@@ -83,6 +85,8 @@ rows-box t c len w h =
     same_rows t.ink.target t.from len c false (needed (taken_cut t c)) (map (taken_at t) (covered c))
     (sym (box-on t c w h t.from len)) (λ e. sym (box-span t c w h t.from len e))
 
+pub ruleset boxes = (box-some, rows_none, rows-box)
+
 -- ---- the registers' stretch: what the clip leaves of an axis are places of it
 -- an axis with the sizes and the source place that registers can name
 record Named (s : Scale) : Type 0 where
@@ -110,18 +114,12 @@ stretch-scales r =
       rows = λ w h. cut-reaches (stretch_of r).rows (clip_of r).top (clip_of r).bottom (omega arith) clip.bottom h;
     }
 
-module _ (r : Regs) (len : ℕ) where
-  pub stretch-format : both_fine r ≡ false → 5 ≡ stretch_verdict r len
-  unfolding stretch_verdict
-  stretch-format f = rw f
+-- rows 7 and 8 are the last that a stretch's verdict asks for
+pub stretch-by : (r : Regs) (len : ℕ) → both_fine r ≡ true → stretch_fault r ≡ false → stretch_rows (stretch_of r) (fill_cut r) len ≡ stretch_verdict r len
+unfolding stretch_verdict source_rows stretch_of ink_of
+stretch-by r len f h = rw (f, h)
 
-  pub stretch-faulty : both_fine r ≡ true → stretch_fault r ≡ true → 6 ≡ stretch_verdict r len
-  unfolding stretch_verdict
-  stretch-faulty f h = rw (f, h)
-
-  pub stretch-by : both_fine r ≡ true → stretch_fault r ≡ false → stretch_rows (stretch_of r) (fill_cut r) len ≡ stretch_verdict r len
-  unfolding stretch_verdict source_rows stretch_of ink_of
-  stretch-by f h = rw (f, h)
+pub ruleset stretches = (stretch-scales, stretch-by)
 
 -- ---- what a verdict of 0 gives
 pub record StretchPassed (r : Regs) (len : ℕ) : Type 0 where

@@ -21,7 +21,7 @@ use Rattle.surface.proofs.Rects.{rect-in}
 use Rattle.spans.proofs.Corner.{all-each, rect-corner, rect-none}
 use Rattle.surface.proofs.Lists.{by_cases}
 use native.Mathlib.Decide.{dec_lt}
-use Rattle.formats.proofs.FormatLaws.{target-colour, source-small}
+use Rattle.formats.proofs.FormatLaws.{target_small, target-colour, source-small}
 use Rattle.paint.specs.declared.Clip.{Clip}
 use Rattle.paint.specs.Clip.{in_clip, pixel_at}
 use Rattle.paint.proofs.ClipLaws.{in-clip}
@@ -43,6 +43,9 @@ use Rattle.table.specs.Table.{target_fine, both_fine, host_fine, all_on_at, pixe
 use Rattle.table.specs.Asked.{InRows}
 use Rattle.cuts.proofs.CutLaws.{clip-bits, Bounded, cut-bounded}
 use Rattle.table.proofs.Sources.{needed-first, needed-as-pixels, needed-pixels, no-clash}
+
+-- what the surfaces of a command are, for the attribute of a function
+pub ruleset smalls = (target_small, source-small)
 
 -- ---- a verdict of 0 has passed each test
 pub passed : (t : Bool) (n k : ℕ) → 0 < n → cond (not t) n k ≡ 0 → (t ≡ true) × (k ≡ 0)
@@ -209,6 +212,9 @@ in-rows t s len c b ts ss some on source = record {
 pub line-placed : (r : Regs) → Placed (line_of r)
 unfolding line_of
 line-placed r = record { x0 = placed-within r.src_xy; y0 = placed-within (r.src_xy / 2 ^ 16); x1 = placed-within r.dst_xy; y1 = placed-within (r.dst_xy / 2 ^ 16) }
+
+-- what drawing a line asks for, for the attribute of a function
+pub ruleset drawables = (target-colour, clip-bits, line-placed)
 
 line-off-none : (s : Surface) (len : ℕ) (r : Regs) → line_off s len (clip_of r) (points (line_of r)) ≡ false → all_on s len (covered_points (clip_of r) (points (line_of r))) ≡ true
 unfolding line_off

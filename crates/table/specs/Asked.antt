@@ -9,7 +9,6 @@ use Rattle.cuts.specs.declared.Cut.{Cut}
 use Rattle.scale.specs.declared.Scale.{Scale}
 use Rattle.scale.specs.declared.Stretch.{Stretch}
 use Rattle.scale.specs.Asked.{OnScale}
-use Rattle.command.specs.Decode.{target}
 
 -- the target's rectangle and the source's, which is that of cut b, are in the rows of their surfaces, where there are pixels to paint
 pub record InRows (t s : Surface) (c b : Cut) : Type 0 where

@@ -89,6 +89,10 @@ host_verdict r len =
 unfoldable pub line_verdict : Regs → ℕ → ℕ
 line_verdict r len = cond (not (target_fine r)) 5 (cond (line_off (target r) len (clip_of r) (points (line_of r))) 7 0)
 
+-- ---- row 7 of a fill or a host blit
+abbrev pub target_row : Regs → ℕ → ℕ
+target_row r len = cond (not (all_on (target r) len (covered (fill_cut r)))) 7 0
+
 -- ---- rows 7 and 8 of a command that paints the pixels of a cut and takes source positions; a lenient one may have both on one surface
 unfoldable pub source_rows : Surface → Surface → ℕ → Cut → List Px → Bool → ℕ
 source_rows t s len c qs lenient =

@@ -5,7 +5,8 @@ ghost use Rattle.std.specs.Prelude.{◌≡◌, ◌-◌, ◌<◌};
 ghost use Rattle.surface.specs.Asked.{Small};
 ghost use Rattle.spans.specs.Span.{span_of, meet};
 ghost use Rattle.cuts.specs.Cut.{covered, needed};
-ghost use Rattle.table.specs.Table.{fine_with, both_fine, host_fine, all_on_at, pixels, reach_of, taken_cut, source_rows, stretch_rows, stretch_fault, host_fault, fill_verdict, copy_verdict, stretch_verdict, host_verdict, line_verdict};
+ghost use Rattle.table.specs.Fault.{verdict_number};
+ghost use Rattle.table.specs.Table.{fine_with, both_fine, host_fine, all_on_at, pixels, reach_of, taken_cut, target_row, source_rows, stretch_rows, stretch_fault, host_fault, fill_verdict, copy_verdict, stretch_verdict, host_verdict, line_verdict};
 ghost use Rattle.table.specs.Asked.{InRows, Reaches, OnScales};
 
 use cuts::Cut;
@@ -13,6 +14,16 @@ use registers::Regs;
 use rooms::{Room, Rooms};
 use scale::{Scale, Stretch};
 use surface::Surface;
+
+// The rows of the table of answers that refuse a command, 4 to 8 in this order.
+#[derive(Clone, Copy, Debug, PartialEq, Eq)]
+pub enum Fault {
+    NotBuilt,
+    Format,
+    Host,
+    Off,
+    Meet,
+}
 
 fn fine_with(named: bool, r: Regs) -> bool
     ensures { result ≡ fine_with named r }
@@ -36,34 +47,27 @@ fn host_fine(r: Regs) -> bool
 }
 
 // Whether every source pixel that a copy needs is on its surface: the first is not negative, and the last is there.
+#[tactic(auto, using(crate::proofs::Sources::needs))]
 fn needed_on(len: usize, s: Surface, c: Cut, room: Room) -> bool
     requires { Small s }
     ensures { result ≡ all_on_at s len (needed c) }
 {
-    if c.w == 0 {
+    if c.w == 0 || c.h == 0 {
         return true;
     }
-    if c.h == 0 {
-        return true;
-    }
-    if c.sx < 16384 {
-        return false;
-    }
-    if c.sy < 16384 {
+    if c.sx < 16384 || c.sy < 16384 {
         return false;
     }
     rooms::rect_in(len, s, room, c.sx - 16384, c.sy - 16384, c.w, c.h)
 }
 
 // Whether the spans of what a copy paints and of what it needs meet; the source's rectangle is that of cut b.
+#[tactic(auto, using(crate::proofs::Sources::clashes))]
 fn spans_clash(t: Surface, s: Surface, c: Cut, b: Cut) -> bool
     requires { InRows t s c b }
     ensures { result ≡ meet (span_of t (covered c)) (span_of s (pixels (needed b))) }
 {
-    if c.w == 0 {
-        return false;
-    }
-    if c.h == 0 {
+    if c.w == 0 || c.h == 0 {
         return false;
     }
     let painted = spans::rect_span(t, c.x, c.y, c.w, c.h);
@@ -73,45 +77,61 @@ fn spans_clash(t: Surface, s: Surface, c: Cut, b: Cut) -> bool
 
 // Rows 7 and 8 of a command that paints cut c of t and takes box b of s: something is off its surface, or the spans meet.
 // A lenient command may have both on one surface.
-fn source_rows(len: usize, t: Surface, s: Surface, c: Cut, b: Cut, lenient: bool, k: Rooms) -> u32
+#[tactic(auto, unfolding(crate::specs::Table::source_rows))]
+fn source_rows(
+    len: usize,
+    t: Surface,
+    s: Surface,
+    c: Cut,
+    b: Cut,
+    lenient: bool,
+    k: Rooms,
+) -> Result<(), Fault>
     requires { Small t × Small s × (0 < c.w → 0 < c.h → (0 < b.w) × (0 < b.h)) }
-    ensures { result ≡ source_rows t s len c (needed b) lenient }
+    ensures { verdict_number result ≡ source_rows t s len c (needed b) lenient }
 {
-    let ours = k.target;
-    let theirs = k.source;
-    if !rooms::rect_in(len, t, ours, c.x, c.y, c.w, c.h) | !needed_on(len, s, b, theirs) {
-        return 7;
+    if !rooms::rect_in(len, t, k.target, c.x, c.y, c.w, c.h) | !needed_on(len, s, b, k.source) {
+        return Err(Fault::Off);
     }
     if !(lenient & surface::same_surface(t, s)) & spans_clash(t, s, c, b) {
-        return 8;
+        return Err(Fault::Meet);
     }
-    0
+    Ok(())
 }
 
-pub fn fill_verdict(len: usize, r: Regs, k: Rooms) -> u32
-    ensures { result ≡ fill_verdict r len }
+// Row 7 of a command that paints what the clip leaves of its target rectangle.
+#[tactic(auto, using(formats::proofs::FormatLaws::target_small))]
+fn target_row(len: usize, r: Regs, k: Rooms) -> Result<(), Fault>
+    ensures { verdict_number result ≡ target_row r len }
 {
-    if !formats::names_target(r.dst_format) {
-        return 5;
-    }
     let t = command::target_surface(r);
     let c = cuts::fill_cut(r);
-    let room = k.target;
-    if rooms::rect_in(len, t, room, c.x, c.y, c.w, c.h) {
-        return 0;
+    if !rooms::rect_in(len, t, k.target, c.x, c.y, c.w, c.h) {
+        return Err(Fault::Off);
     }
-    7
+    Ok(())
 }
 
-pub fn copy_verdict(len: usize, r: Regs, k: Rooms) -> u32
-    ensures { result ≡ copy_verdict r len }
+#[tactic(auto, unfolding(crate::specs::Table::fill_verdict))]
+pub fn fill_verdict(len: usize, r: Regs, k: Rooms) -> Result<(), Fault>
+    ensures { verdict_number result ≡ fill_verdict r len }
+{
+    if !formats::names_target(r.dst_format) {
+        return Err(Fault::Format);
+    }
+    target_row(len, r, k)
+}
+
+#[tactic(auto, using(crate::proofs::Verdicts::smalls), unfolding(crate::specs::Table::copy_verdict, crate::specs::Table::source_rows))]
+pub fn copy_verdict(len: usize, r: Regs, k: Rooms) -> Result<(), Fault>
+    ensures { verdict_number result ≡ copy_verdict r len }
 {
     if !both_fine(r) {
-        return 5;
+        return Err(Fault::Format);
     }
+    let c = cuts::copy_cut(r);
     let t = command::target_surface(r);
     let s = command::source_surface(r);
-    let c = cuts::copy_cut(r);
     source_rows(len, t, s, c, c, true, rooms::tell(r.src_format, k))
 }
 
@@ -122,6 +142,7 @@ struct Reach {
     pub n: u32,
 }
 
+#[tactic(auto, using(crate::proofs::Stretches::ups), unfolding(crate::specs::Table::reach_of))]
 fn reach_of(s: Scale, at: u32, n: u32) -> Reach
     requires { Reaches s at n }
     ensures { result ≡ reach_of s at n }
@@ -135,14 +156,13 @@ fn reach_of(s: Scale, at: u32, n: u32) -> Reach
 }
 
 // The box of the source positions that the pixels of a cut take.
+#[tactic(auto, unfolding(crate::specs::Table::taken_cut))]
 fn taken_cut(t: Stretch, c: Cut) -> Cut
     requires { Reaches t.columns c.x c.w × Reaches t.rows c.y c.h }
     ensures { result ≡ taken_cut t c }
 {
-    let columns = t.columns;
-    let rows = t.rows;
-    let across = reach_of(columns, c.x, c.w);
-    let down = reach_of(rows, c.y, c.h);
+    let across = reach_of(t.columns, c.x, c.w);
+    let down = reach_of(t.rows, c.y, c.h);
     Cut {
         x: 0,
         y: 0,
@@ -154,21 +174,15 @@ fn taken_cut(t: Stretch, c: Cut) -> Cut
 }
 
 // Rows 7 and 8 of a stretch to the pixels of a cut. Source positions go up with the target's, so that the box has them all, and its corners are taken.
-fn stretch_rows(len: usize, t: Stretch, c: Cut, k: Rooms) -> u32
+#[tactic(auto, using(crate::proofs::Stretches::boxes))]
+fn stretch_rows(len: usize, t: Stretch, c: Cut, k: Rooms) -> Result<(), Fault>
     requires { OnScales t c }
-    ensures { result ≡ stretch_rows t c len }
+    ensures { verdict_number result ≡ stretch_rows t c len }
 {
-    let ink = t.ink;
-    let target = ink.target;
-    let from = t.from;
-    if c.w == 0 {
-        return 0;
+    if c.w == 0 || c.h == 0 {
+        return Ok(());
     }
-    if c.h == 0 {
-        return 0;
-    }
-    let b = taken_cut(t, c);
-    source_rows(len, target, from, c, b, false, k)
+    source_rows(len, t.ink.target, t.from, c, taken_cut(t, c), false, k)
 }
 
 // Whether row 6 applies to a stretch: its source has no width or no height, and its target has both.
@@ -179,60 +193,55 @@ fn stretch_fault(r: Regs) -> bool
         & ((r.src_size % 0x2000 == 0) | (r.src_size / 0x1_0000 % 0x2000 == 0))
 }
 
-pub fn stretch_verdict(len: usize, r: Regs, k: Rooms) -> u32
-    ensures { result ≡ stretch_verdict r len }
+#[tactic(auto, using(crate::proofs::Stretches::stretches), unfolding(crate::specs::Table::stretch_verdict))]
+pub fn stretch_verdict(len: usize, r: Regs, k: Rooms) -> Result<(), Fault>
+    ensures { verdict_number result ≡ stretch_verdict r len }
 {
     if !both_fine(r) {
-        return 5;
+        return Err(Fault::Format);
     }
     if stretch_fault(r) {
-        return 6;
+        return Err(Fault::Host);
     }
     let t = command::decode_stretch(r);
-    let c = cuts::fill_cut(r);
-    stretch_rows(len, t, c, rooms::tell(r.src_format, k))
+    stretch_rows(len, t, cuts::fill_cut(r), rooms::tell(r.src_format, k))
 }
 
 // Whether row 6 applies to a host blit.
+#[tactic(auto, using(crate::proofs::Verdicts::smalls))]
 fn host_fault(r: Regs) -> bool
     ensures { result ≡ host_fault r }
 {
     let s = command::source_surface(r);
     let row = formats::row_length(s.bytes, r.dst_size % 0x2000);
-    !(r.src_format / 0x10_0000 % 4 == 0)
-        | (!(r.command / 0x4000 % 4 == 0)
-            | (!(r.src_xy == 0) | ((r.src_format / 0x40_0000 % 4 == 0) & (s.stride < row))))
+    (r.src_format / 0x10_0000 % 4 != 0)
+        | ((r.command / 0x4000 % 4 != 0)
+            | ((r.src_xy != 0) | ((r.src_format / 0x40_0000 % 4 == 0) & (s.stride < row))))
 }
 
-pub fn host_verdict(len: usize, r: Regs, k: Rooms) -> u32
-    ensures { result ≡ host_verdict r len }
+#[tactic(auto, unfolding(crate::specs::Table::host_verdict))]
+pub fn host_verdict(len: usize, r: Regs, k: Rooms) -> Result<(), Fault>
+    ensures { verdict_number result ≡ host_verdict r len }
 {
     if !host_fine(r) {
-        return 5;
+        return Err(Fault::Format);
     }
     if host_fault(r) {
-        return 6;
+        return Err(Fault::Host);
     }
-    let t = command::target_surface(r);
-    let c = cuts::fill_cut(r);
-    let room = k.target;
-    if rooms::rect_in(len, t, room, c.x, c.y, c.w, c.h) {
-        return 0;
-    }
-    7
+    target_row(len, r, k)
 }
 
-pub fn line_verdict(len: usize, r: Regs) -> u32
-    ensures { result ≡ line_verdict r len }
+#[tactic(auto, using(crate::proofs::Verdicts::drawables), unfolding(crate::specs::Table::line_verdict))]
+pub fn line_verdict(len: usize, r: Regs) -> Result<(), Fault>
+    ensures { verdict_number result ≡ line_verdict r len }
 {
     if !formats::names_target(r.dst_format) {
-        return 5;
+        return Err(Fault::Format);
     }
     let t = command::target_surface(r);
-    let c = cuts::decode_clip(r);
-    let l = command::decode_line(r);
-    if line::line_off(len, t, c, l) {
-        return 7;
+    if line::line_off(len, t, cuts::decode_clip(r), command::decode_line(r)) {
+        return Err(Fault::Off);
     }
-    0
+    Ok(())
 }
