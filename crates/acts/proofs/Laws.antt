@@ -4,24 +4,21 @@ use mathlib.Core.Path.{◌≡◌, refl, sym, ap, ap₂, subst⁻¹, ◌∙◌}
 use mathlib.Core.Bool.{Bool, true, false}
 use mathlib.Core.List.{List, []}
 use Prim.Native.Nat.{ℕ, ◌<◌}
+use native.Mathlib.Omega.{arith}
 use borrow.Author.Tests.{ne_eqb}
-use Rattle.surface.specs.Pixels.{rect}
 use Rattle.sweep.specs.declared.Task.{Task}
 use Rattle.ink.specs.declared.Ink.{Ink}
 use Rattle.paint.specs.declared.Clip.{Clip}
-use Rattle.paint.specs.declared.Tally.{Tally}
-use Rattle.paint.specs.Paint.{State, tallied, state, paint}
-use Rattle.sweep.specs.Copy.{in_turn}
+use Rattle.paint.specs.Paint.{State, state, paint}
 use Rattle.sweep.specs.Asked.{CanPaint, Orderly}
 use Rattle.scale.specs.declared.Stretch.{Stretch}
-use Rattle.scale.specs.Stretch.{stretched}
 use Rattle.scale.specs.Asked.{CanStretch}
 use Rattle.line.specs.declared.Line.{Line}
 use Rattle.line.specs.Asked.{Drawable}
 use Rattle.host.specs.declared.Feed.{Feed}
 use Rattle.bits.specs.declared.Plain.{Plain}
 use Rattle.host.specs.Host.{words_of, Pixel}
-use Rattle.host.specs.Asked.{Sizes, Opened}
+use Rattle.host.specs.Asked.{Opened}
 use Rattle.host.specs.Draw.{host_touches, drawn}
 use Rattle.plain.specs.Plain.{plain_ink}
 use Rattle.plain.proofs.PlainLaws.{plainly-drawn, plainly-opened}
@@ -29,75 +26,67 @@ use Rattle.registers.specs.declared.Regs.{Regs}
 use Rattle.bank.specs.declared.Bank.{Bank}
 use Rattle.cuts.specs.declared.Cut.{Cut}
 use Rattle.command.specs.Decode.{target, ink_of, plain_blit, plain_of, fill_task, copy_task, stretch_of, line_of, feed_of}
-use Rattle.cuts.specs.Cut.{clip_of, fill_cut, copy_cut, covered_from, covered}
+use Rattle.cuts.specs.Cut.{clip_of, fill_cut, copy_cut}
 use Rattle.table.specs.Table.{fill_verdict, copy_verdict, stretch_verdict, line_verdict, host_verdict}
+use Rattle.std.specs.Prelude.{Err}
+use Rattle.table.specs.declared.Fault.{Fault}
+use Rattle.table.specs.declared.Fault.TheVariants.{NotBuilt, Format, Host, Off, Meet}
+use Rattle.table.specs.Fault.{fault_number}
 use Rattle.table.proofs.Stretches.{stretch-can}
 use Rattle.table.proofs.Verdicts.{fill-can, copy-can, copy-orderly, line-can, host-can, feed-sizes, plain-ink}
 use Rattle.acts.specs.declared.Blit.{Blit}
-use Rattle.acts.specs.Deed.{Made, made, Deed, judged}
+use Rattle.acts.specs.Deed.{Made, Deed, deed, judged}
 
 -- ---- a verdict, and what follows from it
-module _ (d : Deed) (b : Bank) (k : Blit) (m : List ℕ) (u : ℕ) (e : u ≡ d.verdict) where
-  pub judged-no : {b' : Bank} → b' ≡ b → (u ≡ 0 → ⊥) → record { verdict = u; makes = made b' k (state m 0 0) } ≡ judged d b k m
-  unfolding judged
-  judged-no p n = rw (← e, ne_eqb u 0 n, p)
+pub fault-some : (f : Fault) → fault_number f ≡ 0 → ⊥
+fault-some NotBuilt e = omega arith
+fault-some Format e = omega arith
+fault-some Host e = omega arith
+fault-some Off e = omega arith
+fault-some Meet e = omega arith
 
-  pub judged-yes : (x : Made) → u ≡ 0 → x ≡ d.makes → record { verdict = 0; makes = x } ≡ judged d b k m
+module _ (d : Deed) (b : Bank) (k : Blit) (m : List ℕ) where
+  pub judged-no : (f : Fault) → fault_number f ≡ d.verdict → deed b k (Err f) m ≡ judged d b k m
   unfolding judged
-  judged-yes x z h = rw (← e, z, h)
+  judged-no f e = rw (← e, ne_eqb (fault_number f) 0 (fault-some f))
 
-pub carried-out : {b b' : Bank} {st : State} {m : List ℕ} {n : Tally} (k : Blit) → b' ≡ b → tallied m n ≡ st → made b' k (tallied m n) ≡ made b k st
-carried-out k p q = ap₂ (λ (b : Bank) (st : State). made b k st) p q
+  pub judged-yes : (x : Made) → 0 ≡ d.verdict → x ≡ d.makes → record { verdict = 0; makes = x } ≡ judged d b k m
+  unfolding judged
+  judged-yes x e h = rw (← e, h)
 
 -- ---- rectangles
-pub painted-as : {t T : Task} {c C : Cut} {l L u U : Bool} (pattern m : List ℕ) {st : State} → t ≡ T → c ≡ C → l ≡ L → u ≡ U → T.x ≡ C.x → T.y ≡ C.y
-    → st ≡ paint t.ink.target (in_turn t pattern (rect l u t.x t.y c.w c.h)) (state m 0 0)
-    → st ≡ paint T.ink.target (in_turn T pattern (covered_from L U C)) (state m 0 0)
-painted-as {t} {T} {c} {C} {l} {L} {u} {U} pattern m e f left top x y p =
-    p ∙ ap₂ (λ (t : Task) (c : Cut). paint t.ink.target (in_turn t pattern (rect l u t.x t.y c.w c.h)) (state m 0 0)) e f
-    ∙ ap₂ (λ (l u : Bool). paint T.ink.target (in_turn T pattern (rect l u T.x T.y C.w C.h)) (state m 0 0)) left top
-    ∙ ap₂ (λ (i j : ℕ). paint T.ink.target (in_turn T pattern (rect L U i j C.w C.h)) (state m 0 0)) x y
-
 abbrev CanFill : Task → Cut → ℕ → Type 0
 CanFill t c len = CanPaint t c.w c.h len × (t.copies ≡ false)
 
-pub fill-ready : (r : Regs) (len : ℕ) {t : Task} {c : Cut} {v : ℕ} → t ≡ fill_task r → c ≡ fill_cut r → v ≡ fill_verdict r len → v ≡ 0 → CanFill t c len
+pub fill-ready : (r : Regs) (len : ℕ) {t : Task} {c : Cut} → t ≡ fill_task r → c ≡ fill_cut r → 0 ≡ fill_verdict r len → CanFill t c len
 unfolding fill_task
-fill-ready r len {t} {c} e f g z = subst⁻¹ (λ (t : Task). CanFill t c len) e (subst⁻¹ (λ (c : Cut). CanFill (fill_task r) c len) f (fill-can r len (sym g ∙ z), refl))
+fill-ready r len {t} {c} e f g = subst⁻¹ (λ (t : Task). CanFill t c len) e (subst⁻¹ (λ (c : Cut). CanFill (fill_task r) c len) f (fill-can r len (sym g), refl))
 
 abbrev CanCopy : Task → Cut → ℕ → Type 0
 CanCopy t c len = CanPaint t c.w c.h len × ((t.copies ≡ true) × Orderly t c.w c.h)
 
-pub copy-ready : (r : Regs) (len : ℕ) {t : Task} {c : Cut} {v : ℕ} → t ≡ copy_task r → c ≡ copy_cut r → v ≡ copy_verdict r len → v ≡ 0 → CanCopy t c len
+pub copy-ready : (r : Regs) (len : ℕ) {t : Task} {c : Cut} → t ≡ copy_task r → c ≡ copy_cut r → 0 ≡ copy_verdict r len → CanCopy t c len
 unfolding copy_task
-copy-ready r len {t} {c} e f g z =
+copy-ready r len {t} {c} e f g =
     subst⁻¹ (λ (t : Task). CanCopy t c len) e
-    (subst⁻¹ (λ (c : Cut). CanCopy (copy_task r) c len) f (copy-can r len (sym g ∙ z), (refl, copy-orderly r len (sym g ∙ z))))
+    (subst⁻¹ (λ (c : Cut). CanCopy (copy_task r) c len) f (copy-can r len (sym g), (refl, copy-orderly r len (sym g))))
 
 -- ---- stretches
-pub stretched-as : {t T : Stretch} {c C : Cut} (pattern m : List ℕ) {st : State} → t ≡ T → c ≡ C
-    → st ≡ paint t.ink.target (stretched t pattern m (rect false false c.x c.y c.w c.h)) (state m 0 0)
-    → st ≡ paint T.ink.target (stretched T pattern m (covered C)) (state m 0 0)
-stretched-as pattern m e f p = p ∙ ap₂ (λ (t : Stretch) (c : Cut). paint t.ink.target (stretched t pattern m (covered c)) (state m 0 0)) e f
-
-pub stretch-ready : (r : Regs) (len : ℕ) {t : Stretch} {c : Cut} {v : ℕ} → t ≡ stretch_of r → c ≡ fill_cut r → v ≡ stretch_verdict r len → v ≡ 0
+pub stretch-ready : (r : Regs) (len : ℕ) {t : Stretch} {c : Cut} → t ≡ stretch_of r → c ≡ fill_cut r → 0 ≡ stretch_verdict r len
     → CanStretch t c.x c.y c.w c.h len
-stretch-ready r len {t} {c} e f g z =
+stretch-ready r len {t} {c} e f g =
     subst⁻¹ (λ (t : Stretch). CanStretch t c.x c.y c.w c.h len) e
-    (subst⁻¹ (λ (c : Cut). CanStretch (stretch_of r) c.x c.y c.w c.h len) f (stretch-can r len (sym g ∙ z)))
+    (subst⁻¹ (λ (c : Cut). CanStretch (stretch_of r) c.x c.y c.w c.h len) f (stretch-can r len (sym g)))
 
 -- ---- lines
-pub line-ready : (r : Regs) (len : ℕ) {i : Ink} {c : Clip} {l : Line} {v : ℕ} → i ≡ ink_of r → c ≡ clip_of r → l ≡ line_of r → v ≡ line_verdict r len → v ≡ 0
+pub line-ready : (r : Regs) (len : ℕ) {i : Ink} {c : Clip} {l : Line} → i ≡ ink_of r → c ≡ clip_of r → l ≡ line_of r → 0 ≡ line_verdict r len
     → Drawable i.target len c l
 unfolding ink_of
-line-ready r len {i} {c} {l} e f g h z =
+line-ready r len {i} {c} {l} e f g h =
     subst⁻¹ (λ (i : Ink). Drawable i.target len c l) e
-    (subst⁻¹ (λ (c : Clip). Drawable (target r) len c l) f (subst⁻¹ (λ (l : Line). Drawable (target r) len (clip_of r) l) g (line-can r len (sym h ∙ z))))
+    (subst⁻¹ (λ (c : Clip). Drawable (target r) len c l) f (subst⁻¹ (λ (l : Line). Drawable (target r) len (clip_of r) l) g (line-can r len (sym h))))
 
 -- ---- host blits
-pub feed-ready : (r : Regs) {f : Feed} → f ≡ feed_of r → Sizes f
-feed-ready r e = subst⁻¹ Sizes e (feed-sizes r)
-
 module _ (r : Regs) (len : ℕ) {c : Clip} {f : Feed} (q : c ≡ clip_of r) (e : f ≡ feed_of r) (fine : host_verdict r len ≡ 0) (some : 0 < words_of (feed_of r)) where
   pub ink-opened : {i : Ink} → i ≡ ink_of r → Opened i c f len
   ink-opened {i} p =
@@ -122,3 +111,8 @@ module _ (r : Regs) (pattern m : List ℕ) {c : Clip} {f : Feed} (pixels : Feed 
       ink-drawn refl
       (d ∙ ap (λ (p : Plain). drawn (plain_ink p) [] c f (pixels f) (state m 0 0)) h
       ∙ plainly-drawn (ink_of r) (plain_of r) (plain-ink r (sym g ∙ t)) pattern c f (pixels f) (state m 0 0))
+
+-- for the attributes of functions
+pub ruleset verdicts = (judged-no, judged-yes)
+
+pub ruleset openings = (judged-no, judged-yes, feed-sizes)

@@ -1,26 +1,52 @@
 -- The contracts of the public functions allow one outcome each.
 -- Assumes nothing.
-use mathlib.Core.Path.{◌≡◌, sym, ap, ◌∙◌}
+use mathlib.Core.Path.{◌≡◌, refl, sym, ap, ◌∙◌}
+use mathlib.Core.Bool.{cond}
+use lib.Dec.{eqb}
+use Rattle.std.specs.Prelude.{Result, Ok, Err}
+use Rattle.table.specs.declared.Fault.{Fault}
+use Rattle.table.specs.declared.Fault.TheVariants.{NotBuilt, Format, Host, Off, Meet}
 use mathlib.Core.List.{List, []}
 use Prim.Native.Nat.{ℕ}
 use Rattle.registers.specs.declared.Regs.{Regs}
 use Rattle.registers.specs.Regs.{put_reg}
 use Rattle.bank.specs.declared.Bank.{Bank}
 use Rattle.acts.specs.declared.Act.{Act}
-use Rattle.acts.specs.Deed.{bank_of, with_ends, Deed, deed}
+use Rattle.acts.specs.declared.Blit.{Blit}
+use Rattle.acts.specs.Deed.{bank_of, with_ends, Made, Deed, deed}
 
--- what a function left, out of its deed
-abbrev left : Deed → Act
-left d = record {
-  number = d.verdict;
-  ends = record { line_style = d.makes.bank.regs.line_style; src_xy = d.makes.bank.regs.src_xy; dst_xy = d.makes.bank.regs.dst_xy };
-  blit = d.makes.blit;
-  tally = d.makes.left.tally;
+-- what a function handed out, out of its deed
+fault_of : ℕ → Fault
+fault_of n = cond (eqb n 4) NotBuilt (cond (eqb n 5) Format (cond (eqb n 6) Host (cond (eqb n 7) Off Meet)))
+
+abbrev act_of : Made → Act
+act_of x = record {
+  ends = record { line_style = x.bank.regs.line_style; src_xy = x.bank.regs.src_xy; dst_xy = x.bank.regs.dst_xy };
+  blit = x.blit;
+  tally = x.left.tally;
 }
 
-pub act-once : (b : Bank) (d : Deed) (x y : Act) (m n : List ℕ) → deed b x m ≡ d → deed b y n ≡ d → (x ≡ y) × (m ≡ n)
-unfolding with_ends put_reg
-act-once b d x y m n p q = (ap left (p ∙ sym q), ap (λ (d : Deed). d.makes.left.mem) (p ∙ sym q))
+abbrev handed : Deed → Result Act Fault
+handed d = cond (eqb d.verdict 0) (Ok (act_of d.makes)) (Err (fault_of d.verdict))
+
+handed-deed : (b : Bank) (k : Blit) (x : Result Act Fault) (m : List ℕ) → handed (deed b k x m) ≡ x
+unfolding with_ends put_reg fault_of
+handed-deed b k (Ok a) m = refl
+handed-deed b k (Err NotBuilt) m = refl
+handed-deed b k (Err Format) m = refl
+handed-deed b k (Err Host) m = refl
+handed-deed b k (Err Off) m = refl
+handed-deed b k (Err Meet) m = refl
+
+left-deed : (b : Bank) (k : Blit) (x : Result Act Fault) (m : List ℕ) → (deed b k x m).makes.left.mem ≡ m
+left-deed b k (Ok a) m = refl
+left-deed b k (Err f) m = refl
+
+pub act-once : (b : Bank) (k : Blit) (d : Deed) (x y : Result Act Fault) (m n : List ℕ) → deed b k x m ≡ d → deed b k y n ≡ d → (x ≡ y) × (m ≡ n)
+act-once b k d x y m n p q = (
+  sym (handed-deed b k x m) ∙ ap handed (p ∙ sym q) ∙ handed-deed b k y n,
+  sym (left-deed b k x m) ∙ ap (λ (d : Deed). d.makes.left.mem) (p ∙ sym q) ∙ left-deed b k y n,
+)
 
 -- registers that are settled together with every pattern
 pub regs-once : (f : List ℕ → Bank) (x y : Regs) → ((p : List ℕ) → bank_of x p ≡ f p) → ((p : List ℕ) → bank_of y p ≡ f p) → x ≡ y

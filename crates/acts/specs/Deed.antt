@@ -1,6 +1,6 @@
 -- What each command does: the number of the row that refuses it, and what it leaves where none does.
 -- Assumes nothing.
-use Rattle.std.specs.Prelude.{true, false, cond, ◌&&◌, List, ℕ, ◌+◌, eqb, leb, ltb, length}
+use Rattle.std.specs.Prelude.{true, false, cond, ◌&&◌, List, ℕ, ◌+◌, eqb, leb, ltb, length, Result, Ok, Err}
 use Rattle.paint.specs.Paint.{State, tallied, state, Touch, paint}
 use Rattle.sweep.specs.Copy.{in_turn}
 use Rattle.scale.specs.Stretch.{stretched}
@@ -17,6 +17,8 @@ use Rattle.positions.specs.Position.{stepped_xy}
 use Rattle.command.specs.Decode.{target, ink_of, fill_task, copy_task, stretch_of, line_of, pen_of, feed_of}
 use Rattle.cuts.specs.Cut.{bit, number, clip_of, fill_cut, copy_order, covered}
 use Rattle.table.specs.Table.{fill_verdict, copy_verdict, stretch_verdict, host_verdict, line_verdict}
+use Rattle.table.specs.declared.Fault.{Fault}
+use Rattle.table.specs.Fault.{fault_number}
 use Rattle.acts.specs.declared.Blit.{Blit}
 use Rattle.acts.specs.declared.Ends.{Ends}
 use Rattle.acts.specs.declared.Act.{Act}
@@ -79,9 +81,10 @@ bank_of r p = record { regs = r; pattern = p }
 unfoldable pub with_ends : Bank → Ends → Bank
 with_ends b e = bank_of (put_reg 0x40 e.line_style (put_reg 0x5c e.src_xy (put_reg 0x6c e.dst_xy b.regs))) b.pattern
 
--- what a function of this crate left of a bank
-abbrev pub deed : Bank → Act → List ℕ → Deed
-deed b a m = record { verdict = a.number; makes = made (with_ends b a.ends) a.blit (tallied m a.tally) }
+-- what a function of this crate left of a bank and a host blit; a refusal leaves both
+abbrev pub deed : Bank → Blit → Result Act Fault → List ℕ → Deed
+deed b k (Ok a) m = record { verdict = 0; makes = made (with_ends b a.ends) a.blit (tallied m a.tally) }
+deed b k (Err f) m = record { verdict = fault_number f; makes = made b k (state m 0 0) }
 
 -- refused: registers, host blit and memory as they were given
 unfoldable pub judged : Deed → Bank → Blit → List ℕ → Deed

@@ -1,6 +1,6 @@
 -- Several words of data for a host blit at once, as functions say it. No promise rests on it: that it is what the words do one by one is proved.
 -- Assumes nothing.
-use Rattle.std.specs.Prelude.{true, cond, List, ℕ, ◌+◌, ◌-◌, ◌^◌, min, eqb, ltb, length, take}
+use Rattle.std.specs.Prelude.{true, cond, List, ℕ, ◌+◌, ◌-◌, ◌^◌, min, eqb, ltb, length, take, Result, Ok, Err}
 use Rattle.paint.specs.Paint.{State, tallied, state, Touch}
 use Rattle.host.specs.Host.{words_of, by_run, last_of}
 use Rattle.host.specs.Draw.{host_touches}
@@ -8,6 +8,8 @@ use Rattle.bank.specs.declared.Bank.{Bank}
 use Rattle.command.specs.Decode.{ink_of, feed_of}
 use Rattle.cuts.specs.Cut.{clip_of}
 use Rattle.table.specs.Table.{host_verdict}
+use Rattle.table.specs.declared.Fault.{Fault}
+use Rattle.table.specs.Fault.{fault_number}
 use Rattle.acts.specs.declared.Blit.{Blit}
 use Rattle.acts.specs.declared.Fed.{Fed}
 use Rattle.acts.specs.Deed.{no_blit, rect_ended, painted_by}
@@ -24,8 +26,10 @@ pub record Feeding : Type 0 where
   pub left : State
   pub used : ℕ
 
-abbrev pub fed : Fed → List ℕ → Feeding
-fed f m = record { verdict = f.number; blit = f.blit; left = tallied m f.tally; used = f.used }
+-- a refusal leaves the host blit
+abbrev pub fed : Blit → Result Fed Fault → List ℕ → Feeding
+fed k (Ok f) m = record { verdict = 0; blit = f.blit; left = tallied m f.tally; used = f.used }
+fed k (Err e) m = record { verdict = fault_number e; blit = k; left = state m 0 0; used = 0 }
 
 -- the blit after some words, of those it needs in all
 unfoldable pub blit_after : Blit → List ℕ → ℕ → Blit

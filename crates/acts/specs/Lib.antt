@@ -1,3 +1,4 @@
 pub mod Asked
 pub mod Deed
 pub mod Fed
+pub mod Operation

