@@ -10,7 +10,7 @@ use lib.ListN.{length, length-replicate}
 use Rattle.bank.specs.declared.Bank.{Bank}
 use Rattle.registers.specs.declared.Place.{Place}
 use Rattle.registers.specs.declared.Place.TheVariants.{Register, Pattern, Launch, Nowhere}
-use Rattle.bank.specs.declared.Reading.TheVariants.{Value}
+use Rattle.std.specs.Prelude.{Some}
 use Rattle.registers.specs.Regs.{get_reg}
 use Rattle.registers.specs.Kept.{kept}
 use Rattle.registers.specs.Offsets.{place_of}
@@ -28,14 +28,14 @@ pub register-after : (b : Bank) (o d a : ℕ) → place_of a ≡ Register → ge
 unfolding stored
 register-after b o d a e = get-put o (kept o d) b.regs a (register-listed a e)
 
-pub stored-reads-back : (b : Bank) (o d : ℕ) → place_of o ≡ Register → read_at (stored b o d) o ≡ Value (kept o d)
+pub stored-reads-back : (b : Bank) (o d : ℕ) → place_of o ≡ Register → read_at (stored b o d) o ≡ Some (kept o d)
 stored-reads-back b o d e =
     read_of (stored b o d) o e
-    ∙ ap Value (register-after b o d o e ∙ ap (λ t. cond t (kept o d) (get_reg o b.regs)) (eq-eqb o o refl))
+    ∙ ap Some (register-after b o d o e ∙ ap (λ t. cond t (kept o d) (get_reg o b.regs)) (eq-eqb o o refl))
 
 stored-leaves-at : (b : Bank) (o d a : ℕ) → (o ≡ a → ⊥) → (p : Place) → place_of a ≡ p → read_place p (stored b o d) a ≡ read_place p b a
 unfolding stored
-stored-leaves-at b o d a n Register e = ap Value (register-after b o d a e ∙ ap (λ t. cond t (kept o d) (get_reg a b.regs)) (ne_eqb o a n))
+stored-leaves-at b o d a n Register e = ap Some (register-after b o d a e ∙ ap (λ t. cond t (kept o d) (get_reg a b.regs)) (ne_eqb o a n))
 stored-leaves-at b o d a n (Pattern i) e = refl
 stored-leaves-at b o d a n Launch e = refl
 stored-leaves-at b o d a n Nowhere e = refl
@@ -53,15 +53,15 @@ stored-length b o d l = l
 
 -- ---- a word into the pattern
 
-pub patterned-reads-back : {i : ℕ} (b : Bank) (o d : ℕ) → place_of o ≡ Pattern i → length b.pattern ≡ 256 → d < 2 ^ 32 → read_at (patterned b i d) o ≡ Value d
+pub patterned-reads-back : {i : ℕ} (b : Bank) (o d : ℕ) → place_of o ≡ Pattern i → length b.pattern ≡ 256 → d < 2 ^ 32 → read_at (patterned b i d) o ≡ Some d
 unfolding patterned
-patterned-reads-back {i} b o d e l f = read_of (patterned b i d) o e ∙ ap Value (word_back b.pattern i d (pattern-word o e).1 l f)
+patterned-reads-back {i} b o d e l f = read_of (patterned b i d) o e ∙ ap Some (word_back b.pattern i d (pattern-word o e).1 l f)
 
 patterned-leaves-at : (b : Bank) (i d : ℕ) → i % 4 ≡ 0 → (o : ℕ) → (place_of o ≡ Pattern i → ⊥) → (p : Place) → place_of o ≡ p → read_place p (patterned b i d) o ≡ read_place p b o
 unfolding patterned
 patterned-leaves-at b i d m o n Register e = refl
 patterned-leaves-at b i d m o n (Pattern k) e =
-    ap Value (word-elsewhere b.pattern i k d m (pattern-word o e).0 (λ q. n (e ∙ ap Pattern q)))
+    ap Some (word-elsewhere b.pattern i k d m (pattern-word o e).0 (λ q. n (e ∙ ap Pattern q)))
 patterned-leaves-at b i d m o n Launch e = refl
 patterned-leaves-at b i d m o n Nowhere e = refl
 
@@ -84,14 +84,14 @@ aliases b = (refl, refl)
 
 -- ---- a fresh bank
 
-zero-at : (o : ℕ) (p : Place) → place_of o ≡ p → read_number (read_place p fresh_bank o) ≡ 0 → read_place p fresh_bank o ≡ Value 0
+zero-at : (o : ℕ) (p : Place) → place_of o ≡ p → read_number (read_place p fresh_bank o) ≡ 0 → read_place p fresh_bank o ≡ Some 0
 unfolding fresh_bank
-zero-at o Register e t = ap Value (get-zero o)
-zero-at o (Pattern i) e t = ap Value (word-zero i)
+zero-at o Register e t = ap Some (get-zero o)
+zero-at o (Pattern i) e t = ap Some (word-zero i)
 zero-at o Launch e t = let z : ◌≡◌ {A = ℕ} 2 0 = t in absurd (omega arith)
 zero-at o Nowhere e t = let z : ◌≡◌ {A = ℕ} 2 0 = t in absurd (omega arith)
 
-pub fresh-reads-zero : (o : ℕ) → read_number (read_at fresh_bank o) ≡ 0 → read_at fresh_bank o ≡ Value 0
+pub fresh-reads-zero : (o : ℕ) → read_number (read_at fresh_bank o) ≡ 0 → read_at fresh_bank o ≡ Some 0
 fresh-reads-zero o = zero-at o (place_of o) refl
 
 pub fresh-length : length fresh_bank.pattern ≡ 256

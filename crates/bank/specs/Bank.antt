@@ -1,12 +1,10 @@
 -- The whole register state: fresh, after a store into a register or into the pattern, and what a read of an offset gives.
 -- Assumes nothing.
-use Rattle.std.specs.Prelude.{ℕ, ◌+◌, ◌*◌, ◌/◌, ◌%◌, ◌^◌, cond, List, leb, get_or, set, replicate}
+use Rattle.std.specs.Prelude.{ℕ, ◌+◌, ◌*◌, ◌/◌, ◌%◌, ◌^◌, cond, List, leb, get_or, set, replicate, Option, Some, None}
 use Rattle.registers.specs.Regs.{no_regs, put_reg, get_reg}
 use Rattle.registers.specs.Kept.{kept}
 use Rattle.registers.specs.Offsets.{place_of}
 use Rattle.bank.specs.declared.Bank.{Bank}
-use Rattle.bank.specs.declared.Reading.{Reading}
-use Rattle.bank.specs.declared.Reading.TheVariants.{Value, Refused}
 use Rattle.registers.specs.declared.Place.{Place}
 use Rattle.registers.specs.declared.Place.TheVariants.{Register, Pattern, Launch, Nowhere}
 
@@ -36,21 +34,21 @@ stored b o d = record { regs = put_reg o (kept o d) b.regs; pattern = b.pattern 
 unfoldable pub patterned : Bank → ℕ → ℕ → Bank
 patterned b i d = record { regs = b.regs; pattern = put_word b.pattern i d }
 
-abbrev pub read_place : Place → Bank → ℕ → Reading
-read_place Register b o = Value (get_reg o b.regs)
-read_place (Pattern i) b o = Value (get_word b.pattern i)
-read_place Launch b o = Refused
-read_place Nowhere b o = Refused
+abbrev pub read_place : Place → Bank → ℕ → Option ℕ
+read_place Register b o = Some (get_reg o b.regs)
+read_place (Pattern i) b o = Some (get_word b.pattern i)
+read_place Launch b o = None
+read_place Nowhere b o = None
 
-abbrev pub read_at : Bank → ℕ → Reading
+abbrev pub read_at : Bank → ℕ → Option ℕ
 read_at b o = read_place (place_of o) b o
 
 -- document 01's number for an answer to a read: 2, the offset is none that can be read
-abbrev pub read_number : Reading → ℕ
-read_number (Value v) = 0
-read_number Refused = 2
+abbrev pub read_number : Option ℕ → ℕ
+read_number (Some v) = 0
+read_number None = 2
 
 -- a refused read gives 0
-abbrev pub read_value : Reading → ℕ
-read_value (Value v) = v
-read_value Refused = 0
+abbrev pub read_value : Option ℕ → ℕ
+read_value (Some v) = v
+read_value None = 0

@@ -1,7 +1,7 @@
 // The whole register state: the registers and the pattern, stored into and read.
 #![tactic(auto)]
 
-ghost use Rattle.std.specs.Prelude.{◌≡◌, ◌<◌};
+ghost use Rattle.std.specs.Prelude.{◌≡◌};
 ghost use Rattle.bank.specs.Bank.{put_word, get_word, fresh_bank, stored, patterned, read_at};
 
 use registers::{Place, Regs};
@@ -13,46 +13,30 @@ pub struct Bank {
     pub pattern: [u8; 256],
 }
 
-// What a read gives.
-#[derive(Clone, Copy)]
-pub enum Reading {
-    Value(u32),
-    Refused,
-}
-
 // A word into four bytes of the pattern, low byte first.
+#[tactic(auto, unfolding(crate::specs::Bank::put_word))]
 fn put_word(mut p: [u8; 256], at: usize, word: u32) -> [u8; 256]
     ensures { result ≡ put_word p at word }
 {
     if at <= 252 {
-        p[at] = (word % 0x100) as u8;
-        p[at + 1] = (word / 0x100 % 0x100) as u8;
-        p[at + 2] = (word / 0x10000 % 0x100) as u8;
-        p[at + 3] = (word / 0x1000000 % 0x100) as u8;
+        [p[at], p[at + 1], p[at + 2], p[at + 3]] = word.to_le_bytes();
     }
     p
 }
 
-fn wide(x: u8) -> u32
-    ensures { (result ≡ x) × (result < 256) }
-{
-    x as u32
-}
-
+#[tactic(auto, unfolding(crate::specs::Bank::get_word))]
 fn get_word(p: [u8; 256], at: usize) -> u32
     ensures { result ≡ get_word p at }
 {
     if at <= 252 {
-        wide(p[at])
-            + wide(p[at + 1]) * 0x100
-            + wide(p[at + 2]) * 0x10000
-            + wide(p[at + 3]) * 0x1000000
+        u32::from_le_bytes([p[at], p[at + 1], p[at + 2], p[at + 3]])
     } else {
         0
     }
 }
 
 impl Bank {
+    #[tactic(auto, unfolding(crate::specs::Bank::fresh_bank))]
     pub fn fresh() -> Bank
         ensures { result ≡ fresh_bank }
     {
@@ -62,39 +46,31 @@ impl Bank {
         }
     }
 
+    #[tactic(auto, unfolding(crate::specs::Bank::stored))]
     pub fn store(mut self, offset: u32, word: u32) -> Bank
         ensures { result ≡ stored self offset word }
     {
-        let old = self.regs;
-        let next = old.put(offset, registers::kept_bits(offset, word));
-        self.regs = next;
+        self.regs = self.regs.put(offset, registers::kept_bits(offset, word));
         self
     }
 
+    #[tactic(auto, unfolding(crate::specs::Bank::patterned))]
     pub fn store_pattern(mut self, at: usize, word: u32) -> Bank
         ensures { result ≡ patterned self at word }
     {
-        let old = self.pattern;
-        let next = put_word(old, at, word);
-        self.pattern = next;
+        self.pattern = put_word(self.pattern, at, word);
         self
     }
 
-    pub fn read(self, offset: u32) -> Reading
+    // What the register or the word of the pattern at an offset holds; None where the offset is none that can be read.
+    #[tactic(auto, using(crate::proofs::BackLaws::read_of))]
+    pub fn read(self, offset: u32) -> Option<u32>
         ensures { result ≡ read_at self offset }
     {
-        let p = registers::find_place(offset);
-        match p {
-            Place::Register => {
-                let regs = self.regs;
-                Reading::Value(regs.get(offset))
-            }
-            Place::Pattern(at) => {
-                let pattern = self.pattern;
-                Reading::Value(get_word(pattern, at))
-            }
-            Place::Launch => Reading::Refused,
-            Place::Nowhere => Reading::Refused,
+        match registers::find_place(offset) {
+            Place::Register => Some(self.regs.get(offset)),
+            Place::Pattern(at) => Some(get_word(self.pattern, at)),
+            Place::Launch | Place::Nowhere => None,
         }
     }
 }
