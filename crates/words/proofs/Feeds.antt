@@ -18,7 +18,7 @@ use Rattle.acts.specs.declared.Blit.{Blit}
 use Rattle.acts.specs.Deed.{no_blit, rect_ended, made, starting, touched_by_word, painted_by}
 use Rattle.acts.specs.Fed.{Feeding, touched_by_words, blit_after, feed_ended, reach, feeding_words, feeding_run}
 use Rattle.acts.proofs.Cases.{picked}
-use Rattle.engine.specs.Step.{Step, making, regs, launched}
+use Rattle.engine.specs.Step.{Step, making, number_in, refusal, regs, launched}
 use Rattle.words.specs.Words.{Ran, launching, is_taken, further, stopped, ran_from}
 use Rattle.words.proofs.Laws.{Fits, worded, Went, sum-joins, fits-launched, verdict-stops, went-word}
 
@@ -163,7 +163,7 @@ all-feed (w ∷ ws) rest t some r h = run-feeds w ws rest t r h
 
 -- ---- what was fed of the words that are left
 pub record Turned (ws : List ℕ) (s : Ran) (x : Feeding) : Type 0 where
-  pub stops : (x.verdict ≡ 0 → ⊥) → Went ws s (record { engine = s.engine; memory = x.left.mem; number = x.verdict; taken = s.taken; count = s.count; changed = s.changed })
+  pub stops : (x.verdict ≡ 0 → ⊥) → Went ws s (record { engine = s.engine; memory = x.left.mem; number = number_in (refusal x.verdict); taken = s.taken; count = s.count; changed = s.changed })
   pub goes : x.verdict ≡ 0 → Went ws s (fed_to s x)
   pub within : s.taken + x.used ≤ length ws
 

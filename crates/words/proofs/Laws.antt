@@ -3,6 +3,8 @@
 use Rattle.std.proofs.Common.{◌≡◌, ℕ, ◌+◌, ◌-◌, ◌%◌, ◌^◌, ◌<◌, ◌≤◌, cond, eqb, List, length, get_or, take, drop, sym, refl, ap, ◌∙◌, true≢false, add_assoc, add-one, arith, length-drop, drop_of_length-le, take_all, drop-cons, le-ltb, lt-ltb, eq-eqb, ne_eqb}
 use mathlib.Core.Path.{subst⁻¹}
 use native.Mathlib.Nat.{mod-add-mod}
+use native.Mathlib.Decide.{dec_le}
+use Rattle.surface.proofs.Lists.{by_cases}
 use Rattle.registers.specs.declared.Place.TheVariants.{Launch}
 use Rattle.registers.specs.Offsets.{place_of}
 use Rattle.cuts.specs.Cut.{number}
@@ -13,9 +15,10 @@ use Rattle.acts.specs.declared.Blit.{Blit}
 use Rattle.acts.specs.Deed.{made, with_ends, Deed, deed, judged, carrying, aimed, starting}
 use Rattle.acts.proofs.Cases.{by-test}
 use Rattle.acts.proofs.Numbers.{aimed-starts}
-use Rattle.engine.specs.declared.Answer.TheVariants.{Memory}
-use Rattle.engine.specs.Step.{Step, step, making, number_of, regs, launched, written}
-use Rattle.engine.proofs.Commands.{launched-number}
+use Rattle.engine.specs.declared.Refusal.TheVariants.{Memory}
+use Rattle.std.specs.Prelude.{Err}
+use Rattle.engine.specs.Step.{Step, step, making, number_in, refusal, regs, launched, written}
+use Rattle.engine.proofs.Laws.{refused-number}
 use Rattle.words.specs.Words.{Ran, launching, is_taken, further, halted, stopped, ran_from}
 
 -- row 1 refuses no word
@@ -46,30 +49,29 @@ part-rest ws i = take_all (length ws - i) (drop i ws) (omega (arith, length-drop
 pub sum-joins : (a x y : ℕ) → ((a + x) % 2 ^ 64 + y) % 2 ^ 64 ≡ (a + (x + y)) % 2 ^ 64
 sum-joins a x y = mod-add-mod (a + x) (2 ^ 64) y ∙ ap (λ (n : ℕ). n % 2 ^ 64) (add_assoc a x y)
 
+-- the number of a refusal is none
+pub no_zero : {n : ℕ} → 0 < n → n ≡ 0 → ⊥
+no_zero h z = omega arith
+
 -- ---- row 1
 module _ (t : Ran) (w : ℕ) where
-  row1-stops : launching t w ≡ step t.engine t.memory Memory → halted t 1 ≡ worded t w
-  unfolding worded
-  row1-stops e = rw e
-
-  pub long-stops : 2 ^ 24 < length t.memory → halted t 1 ≡ worded t w
-  unfolding written
-  long-stops l = row1-stops (rw (lt-ltb _ _ l))
-
-  pub other-stops : length t.memory ≤ 2 ^ 24 → (length t.memory ≡ t.engine.opened → ⊥) → halted t 1 ≡ worded t w
-  unfolding written
-  other-stops l n = row1-stops (rw (le-ltb _ _ l, ne_eqb _ _ n))
+  pub row1-stops : (Fits t → ⊥) → halted t 1 ≡ worded t w
+  unfolding worded written
+  row1-stops n =
+      let memory : launching t w ≡ step t.engine t.memory (Err Memory) =
+      by_cases (dec_le (length t.memory) (2 ^ 24)) (λ l. rw (le-ltb _ _ l, ne_eqb _ _ (λ o. n (record { limit = l; opened = o })))) (λ l. rw (lt-ltb (2 ^ 24) (length t.memory) (omega arith))) in
+      rw memory
 
   pub fits-launched : Fits t → launching t w ≡ launched t.engine t.memory w
   unfolding written
   fits-launched f = rw (le-ltb _ _ f.limit, eq-eqb _ _ f.opened, launch-80)
 
   -- a word that the verdict refuses
-  pub verdict-stops : Fits t → {n : ℕ} → n ≡ (starting t.engine.bank t.engine.blit t.memory w).verdict → (n ≡ 0 → ⊥) → halted t n ≡ worded t w
-  unfolding worded
+  pub verdict-stops : Fits t → {n : ℕ} → n ≡ (starting t.engine.bank t.engine.blit t.memory w).verdict → (n ≡ 0 → ⊥) → halted t (number_in (refusal n)) ≡ worded t w
+  unfolding worded launched
   verdict-stops f {n} e no' =
-      let same : n ≡ number_of (launching t w).answer = e ∙ sym (ap (λ (s : Step). number_of s.answer) (fits-launched f) ∙ launched-number t.engine t.memory w) in
-      rw (ne_eqb (number_of (launching t w).answer) 0 (λ z. no' (same ∙ z))) (ap (halted t) same)
+      let here : launching t w ≡ step t.engine t.memory (Err (refusal n)) = fits-launched f ∙ rw (e, ne_eqb _ 0 (λ z. no' (e ∙ z))) in
+      rw (here, ne_eqb (number_in (refusal n)) 0 (no_zero (refused-number n)))
 
 -- ---- a word that starts a command
 judged-verdict : (d : Deed) (b : Bank) (k : Blit) (m : List ℕ) → (judged d b k m).verdict ≡ d.verdict
@@ -91,12 +93,12 @@ module _ (t : Ran) (w : ℕ) (fits : Fits t) (other : number (regs t.engine) ≡
   begun-number = ap (λ (d : Deed). d.verdict) begun-judged ∙ judged-verdict begun (aimed t.engine.bank w) t.engine.blit t.memory
 
   pub start-stops : (a.number ≡ 0 → ⊥)
-      → record { engine = t.engine; memory = m'; number = a.number; taken = t.taken; count = t.count; changed = t.changed } ≡ worded t w
+      → record { engine = t.engine; memory = m'; number = number_in (refusal a.number); taken = t.taken; count = t.count; changed = t.changed } ≡ worded t w
   unfolding begun judged
   start-stops no' =
       let undone : (judged begun (aimed t.engine.bank w) t.engine.blit t.memory).makes.left.mem ≡ t.memory = rw (ne_eqb begun.verdict 0 (λ z. no' (begun-number ∙ z))) in
       let same : m' ≡ t.memory = ap (λ (d : Deed). d.makes.left.mem) begun-judged ∙ undone in
-      ap (λ (m : List ℕ). record { engine = t.engine; memory = m; number = a.number; taken = t.taken; count = t.count; changed = t.changed }) same
+      ap (λ (m : List ℕ). record { engine = t.engine; memory = m; number = number_in (refusal a.number); taken = t.taken; count = t.count; changed = t.changed }) same
       ∙ verdict-stops t w fits begun-number no'
 
   pub start-goes : a.number ≡ 0

@@ -1,8 +1,9 @@
 -- A run of words for the launch area: launch writes in order, up to the first that is refused.
 -- Assumes nothing.
-use Rattle.std.specs.Prelude.{ℕ, ◌+◌, ◌%◌, ◌^◌, Bool, cond, List, [], ◌∷◌, ◌==◌}
+use Rattle.std.specs.Prelude.{ℕ, ◌+◌, ◌%◌, ◌^◌, Bool, cond, List, [], ◌∷◌, ◌==◌, Option, Some, None}
 use Rattle.engine.specs.declared.Engine.{Engine}
-use Rattle.engine.specs.Step.{Step, written, number_of, count_of, changed_of}
+use Rattle.engine.specs.declared.Refusal.{Refusal}
+use Rattle.engine.specs.Step.{Step, written, number_in, number_of, count_of, changed_of}
 use Rattle.words.specs.declared.Run.{Run}
 
 -- the engine and the memory after the words taken, the number of the answer that stopped the run, or 0, how many words were taken, and the sums of their counts
@@ -51,6 +52,11 @@ ran_from t (w ∷ ws) = cond (is_taken (launching t w)) (ran_from (further t (la
 abbrev pub ran : Engine → List ℕ → List ℕ → Ran
 ran e m ws = ran_from (started e m) ws
 
+-- the number of the refusal that stopped a run, or 0
+abbrev pub stop_number : Option Refusal → ℕ
+stop_number None = 0
+stop_number (Some r) = number_in r
+
 -- what a function of this crate left
 abbrev pub ran_of : Run → List ℕ → Ran
-ran_of r m = record { engine = r.engine; memory = m; number = r.number; taken = r.sums.taken; count = r.sums.count; changed = r.sums.changed }
+ran_of r m = record { engine = r.engine; memory = m; number = stop_number r.stopped; taken = r.sums.taken; count = r.sums.count; changed = r.sums.changed }

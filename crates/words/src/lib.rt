@@ -4,11 +4,8 @@
 ghost use Rattle.std.specs.Prelude.{◌≡◌, ◌+◌, ◌%◌, ◌^◌, ◌<◌};
 ghost use Rattle.words.specs.Words.{ran, ran_of};
 
-use acts::Blit;
-use bank::Bank;
-use engine::Engine;
+use engine::{Engine, Refusal};
 use paint::Tally;
-use rooms::Rooms;
 
 // How many words of a run were taken, and the sums of their two counts.
 #[derive(Clone, Copy)]
@@ -18,11 +15,11 @@ pub struct Sums {
     pub changed: u64,
 }
 
-// What became of a run: the engine after the words that were taken, the number of the answer that stopped it, or 0, and what is told of those words.
+// What became of a run: the engine after the words that were taken, the refusal that stopped it, if one did, and what is told of those words.
 #[derive(Clone, Copy)]
 pub struct Run {
     pub engine: Engine,
-    pub number: u32,
+    pub stopped: Option<Refusal>,
     pub sums: Sums,
 }
 
@@ -33,65 +30,65 @@ fn add(t: Sums, n: usize, tally: Tally) -> Sums
 {
     Sums {
         taken: t.taken + n,
-        count: std::num::wrapping_add_u64(t.count, tally.count as u64),
-        changed: std::num::wrapping_add_u64(t.changed, tally.changed as u64),
-    }
-}
-
-fn ended(bank: Bank, blit: Blit, opened: usize, rooms: Rooms, number: u32, sums: Sums) -> Run
-    ensures { result ≡ record { engine = record { bank = bank; blit = blit; opened = opened; rooms = rooms }; number = number; sums = sums } }
-{
-    Run {
-        engine: Engine {
-            bank: bank,
-            blit: blit,
-            opened: opened,
-            rooms: rooms,
-        },
-        number: number,
-        sums: sums,
+        count: t.count.wrapping_add(u64::from(tally.count)),
+        changed: t.changed.wrapping_add(u64::from(tally.changed)),
     }
 }
 
 // The words of a run, each a launch write: those up to the end of a host blit at a time, or one of another command.
-pub fn take_run(e: Engine, mem: &mut [u8], words: &[u32]) -> Run
+pub fn take_run(mut e: Engine, mem: &mut [u8], words: &[u32]) -> Run
     ensures { ran_of result mem.new ≡ ran e mem.old words.now }
 {
-    let opened = e.opened;
-    let rooms = e.rooms;
-    let mut bank = e.bank;
-    let mut blit = e.blit;
     let mut sums = Sums {
         taken: 0,
         count: 0,
         changed: 0,
     };
+    // while: a turn takes as many words as the host blit still needs.
     while sums.taken < words.len() {
-        let at = sums.taken;
-        if 0x100_0000 < mem.len() {
-            return ended(bank, blit, opened, rooms, 1, sums);
+        if 0x100_0000 < mem.len() || mem.len() != e.opened {
+            return Run {
+                engine: e,
+                stopped: Some(Refusal::Memory),
+                sums,
+            };
         }
-        if mem.len() != opened {
-            return ended(bank, blit, opened, rooms, 1, sums);
-        }
-        if bank.regs.command % 16 == 3 {
-            let fed = acts::feed_run(bank, blit, mem, &words[at..], rooms);
+        if e.bank.regs.command % 16 == 3 {
+            let fed = acts::feed_run(e.bank, e.blit, mem, &words[sums.taken..], e.rooms);
             if fed.number != 0 {
-                return ended(bank, blit, opened, rooms, fed.number, sums);
+                return Run {
+                    engine: e,
+                    stopped: Some(engine::refuse(fed.number)),
+                    sums,
+                };
             }
-            let rest = fed.blit;
-            bank = acts::end_feed(bank, rest);
-            blit = rest;
+            e.bank = acts::end_feed(e.bank, fed.blit);
+            e.blit = fed.blit;
             sums = add(sums, fed.used, fed.tally);
         } else {
-            let act = acts::start(bank.regs, &bank.pattern, blit, mem, words[at], rooms);
+            let act = acts::start(
+                e.bank.regs,
+                &e.bank.pattern,
+                e.blit,
+                mem,
+                words[sums.taken],
+                e.rooms,
+            );
             if act.number != 0 {
-                return ended(bank, blit, opened, rooms, act.number, sums);
+                return Run {
+                    engine: e,
+                    stopped: Some(engine::refuse(act.number)),
+                    sums,
+                };
             }
-            bank.regs = acts::with_ends(bank.regs, act.ends);
-            blit = act.blit;
+            e.bank.regs = acts::with_ends(e.bank.regs, act.ends);
+            e.blit = act.blit;
             sums = add(sums, 1, act.tally);
         }
     }
-    ended(bank, blit, opened, rooms, 0, sums)
+    Run {
+        engine: e,
+        stopped: None,
+        sums,
+    }
 }
