@@ -1,6 +1,6 @@
 -- The whole register state: fresh, after a store into a register or into the pattern, and what a read of an offset gives.
 -- Assumes nothing.
-use Rattle.std.specs.Prelude.{ℕ, ◌+◌, ◌*◌, ◌/◌, ◌%◌, ◌^◌, cond, List, leb, get_or, set, replicate, Option, Some, None}
+use Rattle.std.specs.Prelude.{ℕ, ◌+◌, ◌*◌, ◌/◌, ◌%◌, ◌^◌, cond, List, leb, get_or, set, replicate, Option, Some, None, unwrap_or}
 use Rattle.registers.specs.Regs.{no_regs, put_reg, get_reg}
 use Rattle.registers.specs.Kept.{kept}
 use Rattle.registers.specs.Offsets.{place_of}
@@ -50,5 +50,4 @@ read_number None = 2
 
 -- a refused read gives 0
 abbrev pub read_value : Option ℕ → ℕ
-read_value (Some v) = v
-read_value None = 0
+read_value r = unwrap_or r 0

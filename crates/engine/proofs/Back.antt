@@ -13,8 +13,7 @@ use Rattle.registers.specs.declared.Place.TheVariants.{Register, Pattern}
 use Rattle.registers.specs.Kept.{kept}
 use Rattle.registers.specs.Offsets.{place_of}
 use Rattle.bank.specs.declared.Bank.{Bank}
-use Rattle.bank.specs.declared.Reading.{Reading}
-use Rattle.bank.specs.declared.Reading.TheVariants.{Value}
+use Rattle.std.specs.Prelude.{Option, Some}
 use Rattle.bank.specs.Bank.{stored, read_at, read_number, read_value}
 use Rattle.bank.proofs.BackLaws.{stored-reads-back, stored-leaves, patterned-reads-back}
 use Rattle.command.specs.Decode.{feed_of}
@@ -29,7 +28,7 @@ use Rattle.engine.proofs.Laws.{judged-taken}
 
 -- a taken step has v at an offset
 abbrev Back : ℕ → ℕ → Step → Type 0
-Back o v s = number_of s.answer ≡ 0 → read_from s.engine o ≡ Value v
+Back o v s = number_of s.answer ≡ 0 → read_from s.engine o ≡ Some v
 
 -- ---- command, after the command was carried out
 abbrev Same : Bank → Bank → Type 0
@@ -50,7 +49,7 @@ command-same b k m =
     (λ _. picked (λ (k : Made). Same b k.bank) (ltb 0 (words_of (feed_of b.regs))) _ _ (λ _. refl) (λ _. rect-same b))
     (λ _. rect-same b) (λ _ _. line_same b _) (λ _. refl)
 
-carried-back : (old e : Engine) (m : List ℕ) (v : ℕ) → read_from e 0x70 ≡ Value v → Back 0x70 v (carried old e m)
+carried-back : (old e : Engine) (m : List ℕ) (v : ℕ) → read_from e 0x70 ≡ Some v → Back 0x70 v (carried old e m)
 unfolding carried
 carried-back old e m v h z =
     ap (λ (s : Step). read_from s.engine 0x70) (judged-taken old e m (carrying e.bank e.blit m) z) ∙ command-same e.bank e.blit m ∙ h
@@ -82,8 +81,8 @@ written_back p e m o d a v place h =
     picked (Back a v) (ltb (2 ^ 24) (length m)) _ _ (λ _. refused 1 (omega arith))
     (λ _. picked (Back a v) (eqb (length m) e.opened) _ _ (λ _. subst⁻¹ (λ (q : Place). Back a v (to_place q e m o d)) place h) (λ _. refused 1 (omega arith)))
 
-gives : (r : Reading) (v : ℕ) → r ≡ Value v → (read_number r ≡ 0) × (read_value r ≡ v)
-gives r v h = (ap (λ (r : Reading). read_number r) h, ap (λ (r : Reading). read_value r) h)
+gives : (r : Option ℕ) (v : ℕ) → r ≡ Some v → (read_number r ≡ 0) × (read_value r ≡ v)
+gives r v h = (ap (λ (r : Option ℕ). read_number r) h, ap (λ (r : Option ℕ). read_value r) h)
 
 pub register-back : RegisterBack
 register-back e m o d place z = gives _ (kept o d) (written_back Register e m o d o (kept o d) place (to-register e m o d place) z)

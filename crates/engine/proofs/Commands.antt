@@ -13,6 +13,7 @@ use native.Mathlib.Decide.{ℕ_discrete}
 use lib.Dec.{eqb, ltb}
 use lib.ListN.{length}
 use borrow.Author.Tests.{eq-eqb, ltb-true}
+use Rattle.std.specs.Prelude.{Ok, Err}
 use Rattle.surface.specs.Place.{same_surface}
 use Rattle.surface.specs.Pixels.{Px, origin}
 use Rattle.spans.specs.Span.{all_on, span_of, meet}
@@ -20,6 +21,7 @@ use Rattle.surface.proofs.Lists.{In, by_cases}
 use Rattle.surface.proofs.Rects.{rect-in}
 use Rattle.spans.proofs.Corner.{any-corner}
 use Rattle.sweep.specs.declared.Task.{Task}
+use Rattle.paint.specs.Tally.{tally}
 use Rattle.paint.specs.Paint.{state, Touch, paint}
 use Rattle.sweep.specs.Copy.{giving, in_turn}
 use Rattle.scale.specs.Stretch.{stretch_giving}
@@ -43,7 +45,7 @@ use Rattle.table.specs.Table.{target_fine, both_fine, host_fine, all_on_at, pixe
 use Rattle.table.proofs.Stretches.{stretch-can}
 use Rattle.table.proofs.Verdicts.{fill-can, copy-can, line-can, host-can}
 use Rattle.engine.specs.declared.Engine.{Engine}
-use Rattle.engine.specs.declared.Answer.TheVariants.{Taken, Memory, Waiting, NotBuilt}
+use Rattle.engine.specs.declared.Refusal.TheVariants.{Memory, Waiting, NotBuilt}
 use Rattle.acts.specs.Deed.{no_blit, rect_ended, Made, made, painted_by, idling, unbuilt, filling, copying, stretching, lining, opening, feeding, carrying, starting, by_number}
 use Rattle.engine.specs.Step.{Step, step, done, making, judging, number_of, count_of, changed_of, refusal, regs, idle, with_bank, stored_in, carried, launched, commanded, to_register, to_pattern, to_place, written}
 use Rattle.engine.specs.Orders.{launching, order_at, order, covered_by, carried_touches, launched_touches, touches_at, touches_of}
@@ -144,7 +146,7 @@ abbrev first : Bool → Bool → Bool → Bool → ℕ
 first a b c d = cond a 5 (cond b 6 (cond c 7 (cond d 8 0)))
 
 first-number : (a b c d : Bool) (old : Engine) (m : List ℕ) (s : Step) → number_of s.answer ≡ 0
-    → number_of (cond (eqb (first a b c d) 0) s (step old m (refusal (first a b c d)))).answer ≡ first a b c d
+    → number_of (cond (eqb (first a b c d) 0) s (step old m (Err (refusal (first a b c d))))).answer ≡ first a b c d
 unfolding refusal
 first-number true b c d old m s z = refl
 first-number false true c d old m s z = refl
@@ -154,7 +156,7 @@ first-number false false false false old m s z = z
 
 -- a command that its verdict refuses, or that paints
 judged : {r : Regs} {ts : List Touch} {m : List ℕ} (old : Engine) (s : Step) (a b c d : Bool) → command_row r (length m) ≡ first a b c d → number_of s.answer ≡ 0
-    → (first a b c d ≡ 0 → Painting r ts m s) → Carried r ts m (cond (eqb (first a b c d) 0) s (step old m (refusal (first a b c d))))
+    → (first a b c d ≡ 0 → Painting r ts m s) → Carried r ts m (cond (eqb (first a b c d) 0) s (step old m (Err (refusal (first a b c d)))))
 judged {r} {ts} {m} old s a b c d row zero' paints = record {
   number = first-number a b c d old m s zero' ∙ sym row;
   paints = λ z.
@@ -162,7 +164,7 @@ judged {r} {ts} {m} old s a b c d row zero' paints = record {
       picked (Painting r ts m) (eqb (first a b c d) 0) _ _ (λ _. paints v) (λ no'. absurd (true≢false (sym (eq-eqb (first a b c d) 0 v) ∙ no')));
 }
 
-nothing : (r : Regs) (e : Engine) (m : List ℕ) → Painting r [] m (step e m (Taken 0 0))
+nothing : (r : Regs) (e : Engine) (m : List ℕ) → Painting r [] m (step e m (Ok (tally 0 0)))
 unfolding paint
 nothing r e m = record { memory = refl; count = refl; changed = refl; touched = λ p i. absurd (Memᴰ.not-nil i) }
 
@@ -303,10 +305,10 @@ fed-carried e m d n =
     (λ t. nothing r (after_rect (idle e)) m))
 
 -- ---- by the number
-idle-carried : (r : Regs) (e : Engine) (m : List ℕ) → number r ≡ 0 → Carried r [] m (step e m (Taken 0 0))
+idle-carried : (r : Regs) (e : Engine) (m : List ℕ) → number r ≡ 0 → Carried r [] m (step e m (Ok (tally 0 0)))
 idle-carried r e m n = record { number = sym (row-nop r (length m) n); paints = λ _. nothing r e m }
 
-unbuilt-carried : (r : Regs) (e : Engine) (m : List ℕ) → Unbuilt (number r) → Carried r [] m (step e m NotBuilt)
+unbuilt-carried : (r : Regs) (e : Engine) (m : List ℕ) → Unbuilt (number r) → Carried r [] m (step e m (Err NotBuilt))
 unbuilt-carried r e m u = record {
   number = sym (row_other r (length m) u);
   paints = λ z. let four : ◌≡◌ {A = ℕ} 4 0 = sym (row_other r (length m) u) ∙ z in absurd (omega arith);
@@ -339,26 +341,6 @@ launched-carried e m d =
     (number (regs e)) (idle-carried (regs e) e m) (copied-carried e to_source m) (stretched-carried e to_source m) (fed-carried e m d) (filled-carried e to_target m)
     (lined-carried e to_target m) (unbuilt-carried (regs e) e m)
 
--- its number is the verdict's
-pub launched-number : (e : Engine) (m : List ℕ) (d : ℕ) → number_of (launched e m d).answer ≡ (starting e.bank e.blit m d).verdict
-unfolding launched starting copy_verdict stretch_verdict host_verdict fill_verdict line_verdict refusal
-launched-number e m d =
-    let to_source = stored e.bank 0x5c d in
-    let to_target = stored e.bank 0x6c d in
-    let s = to_source.regs in
-    let r = regs e in
-    let t = to_target.regs in
-    let len = length m in
-    by_tests
-    (λ a b c f g h. let started = pick a b c f g h (idling e.bank e.blit m) (copying to_source e.blit m) (stretching to_source e.blit m) (feeding e.bank e.blit m d)
-    (filling to_target e.blit m) (lining to_target e.blit m) (unbuilt e.bank e.blit m) in
-    number_of (judging e e m started).answer ≡ started.verdict)
-    (number r) (λ _. refl) (λ _. first-number (not (both_fine s)) false (not (all_on (target s) len (covered (copy_cut s))) || copy_off s len) (copy_meets s len) e m _ refl)
-    (λ _. first-number (not (both_fine s)) (stretch_fault s) (not (all_on (target s) len (covered (fill_cut s))) || stretch_off s len) (stretch_meets s len) e m _ refl)
-    (λ _. first-number (not (host_fine r)) (host_fault r) (not (all_on (target r) len (covered (fill_cut r)))) false e m _ refl)
-    (λ _. first-number (not (target_fine t)) false (not (all_on (target t) len (covered (fill_cut t)))) false e m _ refl)
-    (λ _ _. first-number (not (target_fine t)) false (line_off (target t) len (clip_of t) (points (line_of t))) false e m _ refl) (λ _. refl)
-
 -- ---- any write: `two` and `three` say whether rows 2 and 3 apply
 abbrev pub PaintingOf : Option Regs → List Touch → List ℕ → Step → Type 0
 PaintingOf none ts m s = (s.memory ≡ m) × (count_of s.answer ≡ 0) × (changed_of s.answer ≡ 0)
@@ -372,11 +354,11 @@ pub record Placed (two three : Bool) (r : Option Regs) (ts : List Touch) (m : Li
   pub paints : number_of s.answer ≡ 0 → PaintingOf r ts m s
 
 -- one that has no command carried out
-no-command : (e : Engine) (m : List ℕ) (ts : List Touch) → Placed false false none ts m (step e m (Taken 0 0))
+no-command : (e : Engine) (m : List ℕ) (ts : List Touch) → Placed false false none ts m (step e m (Ok (tally 0 0)))
 unfolding first_of
 no-command e m ts = record { number = refl; paints = λ _. (refl, refl, refl) }
 
-held_up : (e : Engine) (m : List ℕ) (ts : List Touch) → Placed false true none ts m (step e m Waiting)
+held_up : (e : Engine) (m : List ℕ) (ts : List Touch) → Placed false true none ts m (step e m (Err Waiting))
 unfolding first_of
 held_up e m ts = record { number = refl; paints = λ _. (refl, refl, refl) }
 
@@ -387,7 +369,7 @@ one-command c = record { number = c.number; paints = λ z. c.paints (sym c.numbe
 -- a write to a register: command, with bit 8 or without, or another, while a blit waits or not
 register-placed : (waits command starts : Bool) {r : Regs} {ts : List Touch} {m : List ℕ} {s : Step} (e after next : Engine) → Carried r ts m s
     → Placed false (waits && not command) (cond (command && starts) (some r) none) (cond (command && starts) ts []) m
-    (cond command (cond starts s (step after m (Taken 0 0))) (cond waits (step e m Waiting) (step next m (Taken 0 0))))
+    (cond command (cond starts s (step after m (Ok (tally 0 0)))) (cond waits (step e m (Err Waiting)) (step next m (Ok (tally 0 0)))))
 register-placed true true true {m = m} e after next c = one-command c
 register-placed false true true {m = m} e after next c = one-command c
 register-placed true true false {m = m} e after next c = no-command after m []
@@ -402,7 +384,7 @@ place-placed Register e m o d =
     register-placed e.blit.waiting (eqb o 0x70) (bit d 8) e after (stored_in e o d) (carried-carried e after m)
 place-placed (Pattern i) e m o d =
     let next = with_bank e (patterned e.bank i d) in
-    by-test (λ t. Placed false t none [] m (cond t (step e m Waiting) (step next m (Taken 0 0)))) e.blit.waiting (λ _. held_up e m []) (λ _. no-command next m [])
+    by-test (λ t. Placed false t none [] m (cond t (step e m (Err Waiting)) (step next m (Ok (tally 0 0))))) e.blit.waiting (λ _. held_up e m []) (λ _. no-command next m [])
 place-placed Launch e m o d = one-command (launched-carried e m d)
 place-placed Nowhere e m o d = record { number = refl; paints = λ _. (refl, refl, refl) }
 
@@ -412,7 +394,7 @@ pub record Written (one : Bool) (later : List Bool) (r : Option Regs) (ts : List
   pub paints : number_of s.answer ≡ 0 → PaintingOf r ts m s
 
 memory-written : (big fits : Bool) {two three : Bool} {r : Option Regs} {ts : List Touch} {m : List ℕ} {s : Step} (e : Engine) → Placed two three r ts m s
-    → Written (big || not fits) (later_rows two three r (length m)) r ts m (cond big (step e m Memory) (cond fits s (step e m Memory)))
+    → Written (big || not fits) (later_rows two three r (length m)) r ts m (cond big (step e m (Err Memory)) (cond fits s (step e m (Err Memory))))
 unfolding first_of
 memory-written true fits e p = record { number = refl; paints = λ z. let one : ◌≡◌ {A = ℕ} 1 0 = z in absurd (omega arith) }
 memory-written false true e p = record { number = p.number; paints = p.paints }

@@ -25,8 +25,7 @@ use Rattle.acts.specs.declared.Blit.{Blit}
 use Rattle.acts.specs.Deed.{rect_ended, line_ended, Made, Deed, carrying, starting}
 use Rattle.acts.proofs.Cases.{picked, by-number}
 use Rattle.engine.specs.declared.Engine.{Engine}
-use Rattle.engine.specs.declared.Answer.{Answer}
-use Rattle.engine.specs.Step.{Step, step, judging, fresh_engine, regs, idle, stored_in, carried, launched, commanded, to_register, to_pattern, to_place, written}
+use Rattle.engine.specs.Step.{Answer, Step, step, judging, fresh_engine, regs, idle, stored_in, carried, launched, commanded, to_register, to_pattern, to_place, written}
 use Rattle.engine.specs.Writes.{Lent, lent_to, by}
 use Rattle.engine.specs.Promises.{KeptFresh, KeptAlways, KeptEver, RoomHolds, keeping, KeptAside}
 

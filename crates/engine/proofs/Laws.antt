@@ -8,16 +8,17 @@ use native.Mathlib.Omega.{arith}
 use lib.Dec.{eqb}
 use Rattle.registers.specs.declared.Regs.{Regs}
 use Rattle.bank.specs.declared.Bank.{Bank}
+use Rattle.std.specs.Prelude.{Ok, Err}
 use Rattle.paint.specs.Paint.{state}
 use Rattle.acts.specs.declared.Blit.{Blit}
 use Rattle.acts.specs.declared.Act.{Act}
 use Rattle.acts.specs.Deed.{made, bank_of, with_ends, Deed, deed, judged}
 use Rattle.acts.proofs.Cases.{by-test, picked}
 use Rattle.engine.specs.declared.Engine.{Engine}
-use Rattle.engine.specs.declared.Answer.{Answer}
-use Rattle.engine.specs.declared.Answer.TheVariants.{Taken, NotBuilt, Format, Host, Off, Meet}
+use Rattle.engine.specs.declared.Refusal.{Refusal}
+use Rattle.engine.specs.declared.Refusal.TheVariants.{NotBuilt, Format, Host, Off, Meet}
 use Rattle.engine.specs.declared.Outcome.{Outcome}
-use Rattle.engine.specs.Step.{Step, step, number_of, count_of, changed_of, refusal, making, judging, settled}
+use Rattle.engine.specs.Step.{Step, step, number_in, number_of, refusal, making, judging, settled}
 
 -- ---- what a command left, settled
 abbrev pub outcome : Outcome → List ℕ → Step
@@ -25,21 +26,21 @@ outcome r m = step r.engine m r.answer
 
 -- the same from a deed, whose memory is the one that it left
 abbrev settling : Engine → Deed → Step
-settling e d = cond (eqb d.verdict 0) (making e d.makes) (step e d.makes.left.mem (refusal d.verdict))
+settling e d = cond (eqb d.verdict 0) (making e d.makes) (step e d.makes.left.mem (Err (refusal d.verdict)))
 
 settled-deed : (e : Engine) (r : Regs) (a : Act) (m : List ℕ) → outcome (settled e r a) m ≡ settling e (deed (bank_of r e.bank.pattern) a m)
 unfolding settled
 settled-deed e r a m =
     let b = bank_of r e.bank.pattern in
     by-test
-    (λ t. outcome (cond t (record { engine = record { bank = with_ends b a.ends; blit = a.blit; opened = e.opened; rooms = e.rooms }; answer = Taken a.tally.count a.tally.changed }) (record { engine = e; answer = refusal a.number })) m ≡ cond t (making e (deed b a m).makes) (step e m (refusal a.number))) (eqb a.number 0)
+    (λ t. outcome (cond t (record { engine = record { bank = with_ends b a.ends; blit = a.blit; opened = e.opened; rooms = e.rooms }; answer = Ok a.tally }) (record { engine = e; answer = Err (refusal a.number) })) m ≡ cond t (making e (deed b a m).makes) (step e m (Err (refusal a.number)))) (eqb a.number 0)
     (λ _. refl) (λ _. refl)
 
 judged-settling : (e : Engine) (d : Deed) (b : Bank) (k : Blit) (m : List ℕ) → settling e (judged d b k m) ≡ judging e e m d
 unfolding judged
 judged-settling e d b k m =
     by-test
-    (λ t. eqb d.verdict 0 ≡ t → settling e (cond t d (record { verdict = d.verdict; makes = made b k (state m 0 0) })) ≡ cond t (making e d.makes) (step e m (refusal d.verdict)))
+    (λ t. eqb d.verdict 0 ≡ t → settling e (cond t d (record { verdict = d.verdict; makes = made b k (state m 0 0) })) ≡ cond t (making e d.makes) (step e m (Err (refusal d.verdict))))
     (eqb d.verdict 0) (λ _ h. rw h) (λ _ h. rw h) refl
 
 pub settled-as : (e : Engine) (r : Regs) (a : Act) (left : List ℕ) (d : Deed) (b : Bank) (k : Blit) (m : List ℕ) {o : Outcome} → o ≡ settled e r a
@@ -47,18 +48,15 @@ pub settled-as : (e : Engine) (r : Regs) (a : Act) (left : List ℕ) (d : Deed) 
 settled-as e r a left d b k m p q =
     ap (λ (o : Outcome). outcome o left) p ∙ settled-deed e r a left ∙ ap (settling e) q ∙ judged-settling e d b k m
 
--- ---- a refusal counts nothing and changed nothing, and its number is not 0
-refusal-each : (P : Answer → Type 0) (n : ℕ) → P NotBuilt → P Format → P Host → P Off → P Meet → P (refusal n)
+-- ---- the number of a refusal is not 0
+refusal-each : (P : Refusal → Type 0) (n : ℕ) → P NotBuilt → P Format → P Host → P Off → P Meet → P (refusal n)
 unfolding refusal
 refusal-each P n four five six seven eight =
     picked P (eqb n 4) _ _ (λ _. four)
     (λ _. picked P (eqb n 5) _ _ (λ _. five) (λ _. picked P (eqb n 6) _ _ (λ _. six) (λ _. picked P (eqb n 7) _ _ (λ _. seven) (λ _. eight))))
 
-pub refused_none : (n : ℕ) → (count_of (refusal n) ≡ 0) × (changed_of (refusal n) ≡ 0)
-refused_none n = refusal-each (λ a. (count_of a ≡ 0) × (changed_of a ≡ 0)) n (refl, refl) (refl, refl) (refl, refl) (refl, refl) (refl, refl)
-
-refused-number : (n : ℕ) → 0 < number_of (refusal n)
-refused-number n = refusal-each (λ a. 0 < number_of a) n (omega arith) (omega arith) (omega arith) (omega arith) (omega arith)
+pub refused-number : (n : ℕ) → 0 < number_in (refusal n)
+refused-number n = refusal-each (λ r. 0 < number_in r) n (omega arith) (omega arith) (omega arith) (omega arith) (omega arith)
 
 -- a command that is answered 0 was carried out
 pub judged-taken : (old e : Engine) (m : List ℕ) (d : Deed) → number_of (judging old e m d).answer ≡ 0 → judging old e m d ≡ making e d.makes

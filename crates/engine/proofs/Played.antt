@@ -5,8 +5,7 @@ use mathlib.Core.List.{List, [], ◌∷◌, ◌++◌}
 use Prim.Native.Nat.{ℕ, ◌+◌}
 use native.Mathlib.Omega.{arith}
 use Rattle.engine.specs.declared.Engine.{Engine}
-use Rattle.engine.specs.declared.Answer.{Answer}
-use Rattle.engine.specs.Step.{count_of, changed_of}
+use Rattle.engine.specs.Step.{Answer, count_of, changed_of}
 use Rattle.engine.specs.Writes.{Write, by, run, before, played, counted, changes}
 
 pub played-last : (e : Engine) (m : List ℕ) (ws : List Write) (w : Write)

@@ -33,8 +33,7 @@ use Rattle.acts.specs.declared.Blit.{Blit}
 use Rattle.acts.specs.Deed.{Made, feeding, starting, touched_by_word}
 use Rattle.acts.proofs.Cases.{picked}
 use Rattle.engine.specs.declared.Engine.{Engine}
-use Rattle.engine.specs.declared.Answer.{Answer}
-use Rattle.engine.specs.Step.{Step, number_of, count_of, changed_of, making, regs, with_blit, launched, to_place, written}
+use Rattle.engine.specs.Step.{Answer, Step, number_of, count_of, changed_of, making, regs, with_blit, launched, to_place, written}
 use Rattle.engine.specs.Writes.{Run, run, played, counted, changes, sent}
 use Rattle.engine.specs.Promises.{Sends, AllWords, WaitingWhole, OpenedWhole}
 use Rattle.engine.proofs.Short.{word_touches}

@@ -2,6 +2,7 @@
 -- engine, the memory and the answer are what it gives, for every engine, memory, offset and word. Each promise is proved in proofs/, in the file of its heading.
 -- Assumes nothing.
 use Rattle.std.specs.Prelude.{◌≡◌, Bool, true, false, cond, not, ◌&&◌, ◌||◌, ℕ, zero, suc, ◌+◌, ◌-◌, ◌/◌, ◌%◌, ◌^◌, ◌<◌, ◌≤◌, eqb, ltb, length, get_or}
+use Rattle.std.specs.Prelude as prelude
 use mathlib.Core.List.{List, [], ◌∷◌, map, Memᴰ}
 use Rattle.std.proofs.Math.Option.{Option, none, some}
 use Rattle.surface.specs.declared.Surface.{Surface}
@@ -13,7 +14,6 @@ use Rattle.paint.specs.Clip.{in_clip}
 use Rattle.paint.specs.Paint.{state, Touch, paint, wrote, altered, changing, summed}
 use Rattle.sweep.specs.Copy.{as_before}
 use Rattle.registers.specs.declared.Regs.{Regs}
-use Rattle.bank.specs.declared.Reading.{Reading}
 use Rattle.bank.specs.Bank.{read_number, read_value}
 use Rattle.registers.specs.Kept.{kept}
 use Rattle.rooms.specs.declared.Rooms.{Rooms}
@@ -31,8 +31,7 @@ use Rattle.cuts.specs.Cut.{bit, number, clip_of, fill_cut, copy_cut, covered, ne
 use Rattle.table.specs.Table.{target_fine, both_fine, host_fine, all_on_at, pixels, stretch_needed, stretch_fault, host_fault, host_verdict}
 use Rattle.acts.specs.Deed.{no_blit, by_number}
 use Rattle.engine.specs.declared.Engine.{Engine}
-use Rattle.engine.specs.declared.Answer.{Answer}
-use Rattle.engine.specs.Step.{Step, written, number_of, count_of, changed_of, regs, fresh_engine, read_from}
+use Rattle.engine.specs.Step.{Answer, Step, written, number_of, count_of, changed_of, regs, fresh_engine, read_from}
 use Rattle.engine.specs.Orders.{order, covered_by, touches_of}
 use Rattle.engine.specs.Writes.{Run, played, counted, changes, sent, Lent, lent_to}
 
@@ -50,7 +49,7 @@ abbrev pub OneFresh : Type 0
 OneFresh = (len : ℕ) (x y : Engine) → x ≡ fresh_engine len → y ≡ fresh_engine len → x ≡ y
 
 abbrev pub OneReading : Type 0
-OneReading = (e : Engine) (o : ℕ) (x y : Reading) → x ≡ read_from e o → y ≡ read_from e o → x ≡ y
+OneReading = (e : Engine) (o : ℕ) (x y : prelude.Option ℕ) → x ≡ read_from e o → y ≡ read_from e o → x ≡ y
 
 -- the two functions of the row view: its bytes and its place, in a memory that begins at `place`
 abbrev pub OneView : Type 0

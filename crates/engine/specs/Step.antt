@@ -1,10 +1,11 @@
 -- One register write: the whole outcome, engine, memory and answer, as one function.
 -- Assumes nothing.
-use Rattle.std.specs.Prelude.{cond, List, ℕ, ◌^◌, eqb, ltb, length}
+use Rattle.std.specs.Prelude.{cond, List, ℕ, ◌^◌, eqb, ltb, length, Option, Result, Ok, Err}
+use Rattle.paint.specs.declared.Tally.{Tally}
+use Rattle.paint.specs.Tally.{tally}
 use Rattle.paint.specs.Paint.{State}
 use Rattle.registers.specs.declared.Regs.{Regs}
 use Rattle.bank.specs.declared.Bank.{Bank}
-use Rattle.bank.specs.declared.Reading.{Reading}
 use Rattle.registers.specs.declared.Place.{Place}
 use Rattle.registers.specs.declared.Place.TheVariants.{Register, Pattern, Launch, Nowhere}
 use Rattle.bank.specs.Bank.{fresh_bank, stored, patterned, read_at}
@@ -16,45 +17,38 @@ use Rattle.acts.specs.declared.Act.{Act}
 use Rattle.acts.specs.Deed.{no_blit, Made, bank_of, with_ends, Deed, carrying, starting}
 use Rattle.engine.specs.declared.Outcome.{Outcome}
 use Rattle.engine.specs.declared.Engine.{Engine}
-use Rattle.engine.specs.declared.Answer.{Answer}
-use Rattle.engine.specs.declared.Answer.TheVariants.{Taken, Memory, Offset, Waiting, NotBuilt, Format, Host, Off, Meet}
+use Rattle.engine.specs.declared.Refusal.{Refusal}
+use Rattle.engine.specs.declared.Refusal.TheVariants.{Memory, Offset, Waiting, NotBuilt, Format, Host, Off, Meet}
 
--- ---- answers: document 01's number and count of each, and how many of the pixels counted have other bytes than just before they were written
+-- ---- answers: what was drawn, or a refusal; document 01's number and count of each, and how many of the pixels counted have other bytes than just before they
+-- were written
+abbrev pub Answer : Type 0
+Answer = Result Tally Refusal
+
+abbrev pub number_in : Refusal → ℕ
+number_in Memory = 1
+number_in Offset = 2
+number_in Waiting = 3
+number_in NotBuilt = 4
+number_in Format = 5
+number_in Host = 6
+number_in Off = 7
+number_in Meet = 8
+
 abbrev pub number_of : Answer → ℕ
-number_of (Taken n c) = 0
-number_of Memory = 1
-number_of Offset = 2
-number_of Waiting = 3
-number_of NotBuilt = 4
-number_of Format = 5
-number_of Host = 6
-number_of Off = 7
-number_of Meet = 8
+number_of (Ok t) = 0
+number_of (Err r) = number_in r
 
 abbrev pub count_of : Answer → ℕ
-count_of (Taken n c) = n
-count_of Memory = 0
-count_of Offset = 0
-count_of Waiting = 0
-count_of NotBuilt = 0
-count_of Format = 0
-count_of Host = 0
-count_of Off = 0
-count_of Meet = 0
+count_of (Ok t) = t.count
+count_of (Err r) = 0
 
 abbrev pub changed_of : Answer → ℕ
-changed_of (Taken n c) = c
-changed_of Memory = 0
-changed_of Offset = 0
-changed_of Waiting = 0
-changed_of NotBuilt = 0
-changed_of Format = 0
-changed_of Host = 0
-changed_of Off = 0
-changed_of Meet = 0
+changed_of (Ok t) = t.changed
+changed_of (Err r) = 0
 
--- the answer of a row from 4 to 8
-unfoldable pub refusal : ℕ → Answer
+-- the refusal of a row from 4 to 8
+unfoldable pub refusal : ℕ → Refusal
 refusal n = cond (eqb n 4) NotBuilt (cond (eqb n 5) Format (cond (eqb n 6) Host (cond (eqb n 7) Off Meet)))
 
 -- ---- the engine
@@ -92,14 +86,14 @@ step e m a = record { engine = e; memory = m; answer = a }
 
 -- carried out: the engine, with the memory and the tally that painting left
 abbrev pub done : Engine → State → Step
-done e st = step e st.mem (Taken st.tally.count st.tally.changed)
+done e st = step e st.mem (Ok st.tally)
 
 -- ---- the commands: a refusal gives back the engine as it was before the write
 abbrev pub making : Engine → Made → Step
 making e k = done (record { bank = k.bank; blit = k.blit; opened = e.opened; rooms = e.rooms }) k.left
 
 abbrev pub judging : Engine → Engine → List ℕ → Deed → Step
-judging old e m d = cond (eqb d.verdict 0) (making e d.makes) (step old m (refusal d.verdict))
+judging old e m d = cond (eqb d.verdict 0) (making e d.makes) (step old m (Err (refusal d.verdict)))
 
 -- the command that e holds is carried out
 unfoldable pub carried : Engine → Engine → List ℕ → Step
@@ -114,30 +108,30 @@ launched e m d = judging e e m (starting e.bank e.blit m d)
 -- a write to command abandons what waits, and runs with bit 8
 unfoldable pub commanded : Engine → List ℕ → ℕ → Step
 commanded e m d =
-    cond (bit d 8) (carried e (idle (stored_in e 0x70 d)) m) (step (idle (stored_in e 0x70 d)) m (Taken 0 0))
+    cond (bit d 8) (carried e (idle (stored_in e 0x70 d)) m) (step (idle (stored_in e 0x70 d)) m (Ok (tally 0 0)))
 
 unfoldable pub to_register : Engine → List ℕ → ℕ → ℕ → Step
 to_register e m o d =
     cond (eqb o 0x70) (commanded e m d)
-    (cond e.blit.waiting (step e m Waiting) (step (stored_in e o d) m (Taken 0 0)))
+    (cond e.blit.waiting (step e m (Err Waiting)) (step (stored_in e o d) m (Ok (tally 0 0))))
 
 unfoldable pub to_pattern : Engine → List ℕ → ℕ → ℕ → Step
-to_pattern e m i d = cond e.blit.waiting (step e m Waiting) (step (with_bank e (patterned e.bank i d)) m (Taken 0 0))
+to_pattern e m i d = cond e.blit.waiting (step e m (Err Waiting)) (step (with_bank e (patterned e.bank i d)) m (Ok (tally 0 0)))
 
 abbrev pub to_place : Place → Engine → List ℕ → ℕ → ℕ → Step
 to_place Register e m o d = to_register e m o d
 to_place (Pattern i) e m o d = to_pattern e m i d
 to_place Launch e m o d = launched e m d
-to_place Nowhere e m o d = step e m Offset
+to_place Nowhere e m o d = step e m (Err Offset)
 
 unfoldable pub written : Engine → List ℕ → ℕ → ℕ → Step
 written e m o d =
-    cond (ltb (2 ^ 24) (length m)) (step e m Memory)
+    cond (ltb (2 ^ 24) (length m)) (step e m (Err Memory))
     (cond (eqb (length m) e.opened) (to_place (place_of o) e m o d)
-    (step e m Memory))
+    (step e m (Err Memory)))
 
 -- ---- reading back
-abbrev pub read_from : Engine → ℕ → Reading
+abbrev pub read_from : Engine → ℕ → Option ℕ
 read_from e o = read_at e.bank o
 
 -- ---- what a command that had these registers left of the engine
@@ -146,6 +140,6 @@ settled e r a =
     cond (eqb a.number 0)
     (record {
       engine = record { bank = with_ends (bank_of r e.bank.pattern) a.ends; blit = a.blit; opened = e.opened; rooms = e.rooms };
-      answer = Taken a.tally.count a.tally.changed;
+      answer = Ok a.tally;
     })
-    (record { engine = e; answer = refusal a.number })
+    (record { engine = e; answer = Err (refusal a.number) })

@@ -7,8 +7,7 @@ use Rattle.registers.specs.declared.Place.{Place}
 use Rattle.registers.specs.declared.Place.TheVariants.{Register, Pattern, Launch, Nowhere}
 use Rattle.registers.specs.Offsets.{place_of}
 use Rattle.engine.specs.declared.Engine.{Engine}
-use Rattle.engine.specs.declared.Answer.{Answer}
-use Rattle.engine.specs.Step.{Step, count_of, changed_of, written}
+use Rattle.engine.specs.Step.{Answer, Step, count_of, changed_of, written}
 use Rattle.engine.specs.Orders.{order_at}
 
 pub record Write : Type 0 where

@@ -2,12 +2,15 @@
 #![tactic(auto)]
 
 ghost use Rattle.std.specs.Prelude.{◌≡◌, ◌^◌, ◌≤◌};
-ghost use Rattle.engine.specs.Step.{number_of, count_of, changed_of, refusal, fresh_engine, settled, step, launched, commanded, to_register, to_pattern, written, read_from};
+ghost use Rattle.engine.specs.Step.{number_in, number_of, count_of, changed_of, refusal, fresh_engine, settled, step, launched, commanded, to_register, to_pattern, written, read_from};
 
 use acts::{Act, Blit};
-use bank::{Bank, Reading};
+use bank::Bank;
+use paint::Tally;
 use registers::{Place, Regs};
 use rooms::Rooms;
+use std::error::Error;
+use std::fmt;
 
 // The register state, the host blit, the length of the memory that the engine was opened for, and what is kept of both surfaces beside the registers.
 #[derive(Clone, Copy)]
@@ -18,71 +21,76 @@ pub struct Engine {
     pub rooms: Rooms,
 }
 
-// The answers of document 01's table, 0 to 8 in this order; 0 has the count of pixels written, and how many of them changed.
-#[derive(Clone, Copy)]
-pub enum Answer {
-    Taken(u32, u32),
-    Memory,
-    Offset,
-    Waiting,
-    NotBuilt,
-    Format,
-    Host,
-    Off,
-    Meet,
+// The refusals of document 01's table, by their numbers there.
+#[derive(Clone, Copy, PartialEq, Eq, Debug)]
+pub enum Refusal {
+    Memory = 1,
+    Offset = 2,
+    Waiting = 3,
+    NotBuilt = 4,
+    Format = 5,
+    Host = 6,
+    Off = 7,
+    Meet = 8,
 }
 
-impl Answer {
-    // Its number in that table.
+impl Refusal {
     pub fn number(self) -> u32
-        ensures { result ≡ number_of self }
+        ensures { result ≡ number_in self }
     {
-        match self {
-            Answer::Taken(_, _) => 0,
-            Answer::Memory => 1,
-            Answer::Offset => 2,
-            Answer::Waiting => 3,
-            Answer::NotBuilt => 4,
-            Answer::Format => 5,
-            Answer::Host => 6,
-            Answer::Off => 7,
-            Answer::Meet => 8,
-        }
+        self as u32
     }
+}
 
-    // The count of pixels written, 0 for a refusal.
-    pub fn count(self) -> u32
-        ensures { result ≡ count_of self }
-    {
-        match self {
-            Answer::Taken(n, _) => n,
-            Answer::Memory => 0,
-            Answer::Offset => 0,
-            Answer::Waiting => 0,
-            Answer::NotBuilt => 0,
-            Answer::Format => 0,
-            Answer::Host => 0,
-            Answer::Off => 0,
-            Answer::Meet => 0,
-        }
+impl fmt::Display for Refusal {
+    fn fmt<W: fmt::Write>(&self, f: &mut fmt::Formatter<W>) -> fmt::Result {
+        f.write_str(match self {
+            Refusal::Memory =>
+                "the memory is too long, or not of the length that the engine was opened with",
+            Refusal::Offset => "the offset names no register",
+            Refusal::Waiting =>
+                "a host blit waits for its data, and this write is neither launch data nor to command",
+            Refusal::NotBuilt => "the command is not built",
+            Refusal::Format =>
+                "a surface it uses has a format that is not listed, or the conversion is not allowed, \
+                 or a source that is mono, packed or a host blit's is tiled",
+            Refusal::Host =>
+                "host blit: swizzle bits, direction bits or srcXY not 0, or a stride below the row's bytes; \
+                 stretch copy: a source of no width or no height, and a target that has both",
+            Refusal::Off => "a covered pixel, or a source pixel that it needs, is off its surface",
+            Refusal::Meet =>
+                "a screen copy between different surfaces, or a stretch copy, whose spans meet",
+        })
     }
+}
 
-    // How many of them have other bytes than just before they were written, 0 for a refusal.
-    pub fn changed(self) -> u32
-        ensures { result ≡ changed_of self }
-    {
-        match self {
-            Answer::Taken(_, n) => n,
-            Answer::Memory => 0,
-            Answer::Offset => 0,
-            Answer::Waiting => 0,
-            Answer::NotBuilt => 0,
-            Answer::Format => 0,
-            Answer::Host => 0,
-            Answer::Off => 0,
-            Answer::Meet => 0,
-        }
+impl Error for Refusal {}
+
+// What a write is answered: how many pixels it wrote, and how many of them have other bytes than just before; or why it is refused.
+pub type Answer = Result<Tally, Refusal>;
+
+// An answer's number in the table: 0 where the write is taken.
+pub fn number_of(answer: Answer) -> u32
+    ensures { result ≡ number_of answer }
+{
+    match answer {
+        Ok(_) => 0,
+        Err(refusal) => refusal.number(),
     }
+}
+
+// The count of pixels written, 0 for a refusal.
+pub fn count_of(answer: Answer) -> u32
+    ensures { result ≡ count_of answer }
+{
+    answer.map_or(0, |tally| tally.count)
+}
+
+// How many of them changed, 0 for a refusal.
+pub fn changed_of(answer: Answer) -> u32
+    ensures { result ≡ changed_of answer }
+{
+    answer.map_or(0, |tally| tally.changed)
 }
 
 #[derive(Clone, Copy)]
@@ -91,20 +99,28 @@ pub struct Outcome {
     pub answer: Answer,
 }
 
-fn refuse(n: u32) -> Answer
+const NOTHING: Tally = Tally {
+    count: 0,
+    changed: 0,
+};
+
+// The refusal of a row from 4 to 8.
+#[tactic(auto, unfolding(crate::specs::Step::refusal))]
+pub fn refuse(n: u32) -> Refusal
     ensures { result ≡ refusal n }
 {
     match n {
-        4 => Answer::NotBuilt,
-        5 => Answer::Format,
-        6 => Answer::Host,
-        7 => Answer::Off,
-        _ => Answer::Meet,
+        4 => Refusal::NotBuilt,
+        5 => Refusal::Format,
+        6 => Refusal::Host,
+        7 => Refusal::Off,
+        _ => Refusal::Meet,
     }
 }
 
 impl Engine {
     // A fresh engine for a memory of len bytes.
+    #[tactic(auto, unfolding(crate::specs::Step::fresh_engine))]
     pub fn open(len: usize) -> Engine
         ensures { result ≡ fresh_engine len }
     {
@@ -117,77 +133,77 @@ impl Engine {
     }
 
     // What a register holds.
-    pub fn read(self, offset: u32) -> Reading
+    pub fn read(self, offset: u32) -> Option<u32>
         ensures { result ≡ read_from self offset }
     {
-        let bank = self.bank;
-        bank.read(offset)
+        self.bank.read(offset)
+    }
+
+    fn answered(self, answer: Answer) -> Outcome
+        ensures { result ≡ record { engine = self; answer = answer } }
+    {
+        Outcome {
+            engine: self,
+            answer,
+        }
     }
 
     // What becomes of the engine by a command that had these registers: refused, it stays.
+    #[tactic(auto, unfolding(crate::specs::Step::settled))]
     fn settle(self, regs: Regs, act: Act) -> Outcome
         ensures { result ≡ settled self regs act }
     {
         if act.number != 0 {
-            return Outcome {
-                engine: self,
-                answer: refuse(act.number),
-            };
+            return self.answered(Err(refuse(act.number)));
         }
-        let next = acts::with_ends(regs, act.ends);
-        let pattern = self.bank.pattern;
-        let blit = act.blit;
-        let rooms = self.rooms;
-        Outcome {
-            engine: Engine {
-                bank: Bank {
-                    regs: next,
-                    pattern: pattern,
-                },
-                blit: blit,
-                opened: self.opened,
-                rooms: rooms,
-            },
-            answer: Answer::Taken(act.tally.count, act.tally.changed),
+        let bank = Bank {
+            regs: acts::with_ends(regs, act.ends),
+            ..self.bank
+        };
+        Engine {
+            bank,
+            blit: act.blit,
+            ..self
         }
+        .answered(Ok(act.tally))
     }
 
     fn launch(self, mem: &mut [u8], word: u32) -> Outcome
         ensures { step result.engine mem.new result.answer ≡ launched self mem.old word }
     {
-        let regs = self.bank.regs;
-        let pattern = self.bank.pattern;
-        let blit = self.blit;
-        let rooms = self.rooms;
-        let act = acts::launch(regs, pattern, blit, mem, word, rooms);
-        self.settle(regs, act)
+        let act = acts::launch(
+            self.bank.regs,
+            self.bank.pattern,
+            self.blit,
+            mem,
+            word,
+            self.rooms,
+        );
+        self.settle(self.bank.regs, act)
     }
 
     fn take_command(self, mem: &mut [u8], word: u32) -> Outcome
         ensures { step result.engine mem.new result.answer ≡ commanded self mem.old word }
     {
-        let old = self.bank;
-        let bank = old.store(0x70, word);
-        let resting = acts::no_blit();
-        let rooms = self.rooms;
         let next = Engine {
-            bank: bank,
-            blit: resting,
-            opened: self.opened,
-            rooms: rooms,
+            bank: self.bank.store(0x70, word),
+            blit: acts::no_blit(),
+            ..self
         };
         if word / 0x100 % 2 == 1 {
-            let regs = bank.regs;
-            let pattern = self.bank.pattern;
-            let act = acts::carry(regs, &pattern, resting, mem, rooms);
-            return self.settle(regs, act);
+            let act = acts::carry(
+                next.bank.regs,
+                &self.bank.pattern,
+                next.blit,
+                mem,
+                next.rooms,
+            );
+            return self.settle(next.bank.regs, act);
         }
-        Outcome {
-            engine: next,
-            answer: Answer::Taken(0, 0),
-        }
+        next.answered(Ok(NOTHING))
     }
 
+    #[tactic(auto, unfolding(crate::specs::Step::to_register, crate::specs::Step::stored_in))]
     fn take_register(self, mem: &mut [u8], offset: u32, word: u32) -> Outcome
         requires { self.opened ≤ 2 ^ 24 }
         ensures { step result.engine mem.new result.answer ≡ to_register self mem.old offset word }
@@ -196,42 +212,27 @@ impl Engine {
             return self.take_command(mem, word);
         }
         if self.blit.waiting {
-            return Outcome {
-                engine: self,
-                answer: Answer::Waiting,
-            };
+            return self.answered(Err(Refusal::Waiting));
         }
-        let old = self.bank;
-        let bank = old.store(offset, word);
-        let regs = bank.regs;
-        let kept = self.rooms;
-        let rooms = rooms::follow(self.opened as u32, offset, regs, kept);
-        let mut next = self;
-        next.bank = bank;
-        next.rooms = rooms;
-        Outcome {
-            engine: next,
-            answer: Answer::Taken(0, 0),
+        let bank = self.bank.store(offset, word);
+        let rooms = rooms::follow(self.opened as u32, offset, bank.regs, self.rooms);
+        Engine {
+            bank,
+            rooms,
+            ..self
         }
+        .answered(Ok(NOTHING))
     }
 
+    #[tactic(auto, unfolding(crate::specs::Step::to_pattern))]
     fn take_pattern(self, mem: &[u8], at: usize, word: u32) -> Outcome
         ensures { step result.engine mem.now result.answer ≡ to_pattern self mem.now at word }
     {
         if self.blit.waiting {
-            return Outcome {
-                engine: self,
-                answer: Answer::Waiting,
-            };
+            return self.answered(Err(Refusal::Waiting));
         }
-        let old = self.bank;
-        let bank = old.store_pattern(at, word);
-        let mut next = self;
-        next.bank = bank;
-        Outcome {
-            engine: next,
-            answer: Answer::Taken(0, 0),
-        }
+        let bank = self.bank.store_pattern(at, word);
+        Engine { bank, ..self }.answered(Ok(NOTHING))
     }
 
     // One register write: the engine after it, and the answer.
@@ -240,27 +241,14 @@ impl Engine {
         ensures { step result.engine mem.new result.answer ≡ written self mem.old offset word }
     {
         let len = mem.len();
-        if 0x100_0000 < len {
-            return Outcome {
-                engine: self,
-                answer: Answer::Memory,
-            };
+        if 0x100_0000 < len || len != self.opened {
+            return self.answered(Err(Refusal::Memory));
         }
-        if len != self.opened {
-            return Outcome {
-                engine: self,
-                answer: Answer::Memory,
-            };
-        }
-        let place = registers::find_place(offset);
-        match place {
+        match registers::find_place(offset) {
             Place::Register => self.take_register(mem, offset, word),
             Place::Pattern(at) => self.take_pattern(mem, at, word),
             Place::Launch => self.launch(mem, word),
-            Place::Nowhere => Outcome {
-                engine: self,
-                answer: Answer::Offset,
-            },
+            Place::Nowhere => self.answered(Err(Refusal::Offset)),
         }
     }
 }

@@ -4,8 +4,7 @@ use Rattle.std.specs.Prelude.{List, ℕ}
 use Rattle.packets.specs.Delivery.{Note, note, Wrote, wrote, Writer}
 use Rattle.packets.specs.Answers.{lent, Call, call}
 use Rattle.engine.specs.declared.Engine.{Engine}
-use Rattle.engine.specs.declared.Answer.{Answer}
-use Rattle.engine.specs.Step.{Step, number_of, count_of, changed_of, written}
+use Rattle.engine.specs.Step.{Answer, Step, number_of, count_of, changed_of, written}
 use Rattle.intake.specs.declared.Fed.{Fed}
 
 -- the engine with the memory that it is lent

@@ -6,7 +6,7 @@ ghost use Rattle.std.specs.Prelude.{◌≡◌, ◌*◌, ◌≤◌, length};
 ghost use Rattle.packets.specs.Answers.{lent, call, noting, called};
 ghost use Rattle.intake.specs.Intake.{machine, by_engine, fed_of};
 
-use engine::Engine;
+use engine::{Engine, Outcome, changed_of, count_of, number_of};
 use packets::{Event, Reader};
 
 // What a piece left: reader and engine, how many of its bytes were used, and how many answers were given.
@@ -32,32 +32,29 @@ fn tell(
 {
     match event {
         Event::Nothing => Fed {
-            reader: reader,
-            engine: engine,
-            used: used,
-            answered: answered,
+            reader,
+            engine,
+            used,
+            answered,
         },
         Event::Write(offset, word) => {
-            let out = engine.write(mem, offset, word);
-            let next = out.engine;
-            let answer = out.answer;
+            let Outcome { engine, answer } = engine.write(mem, offset, word);
+            let (number, count, changed) = (
+                number_of(answer),
+                count_of(answer),
+                changed_of(answer),
+            );
             Fed {
-                reader: reader,
-                engine: next,
-                used: used,
-                answered: packets::put_answer(
-                    answers,
-                    answered,
-                    answer.number(),
-                    answer.count(),
-                    answer.changed(),
-                ),
+                reader,
+                engine,
+                used,
+                answered: packets::put_answer(answers, answered, number, count, changed),
             }
         }
         Event::Closed => Fed {
-            reader: reader,
-            engine: engine,
-            used: used,
+            reader,
+            engine,
+            used,
             answered: packets::put_answer(answers, answered, 9, 0, 0),
         },
     }
@@ -76,22 +73,21 @@ pub fn feed(
     ensures within { (result.used ≤ length piece.now) × (result.answered * 3 ≤ length answers.new) }
 {
     let mut f = Fed {
-        reader: reader,
-        engine: engine,
+        reader,
+        engine,
         used: 0,
         answered: 0,
     };
+    // while: a turn uses as many bytes as the reader takes at once.
     while f.used < piece.len() {
         let room = packets::has_room(answers.len(), f.answered);
-        let r = f.reader;
-        if (2 < r.held) & !room {
+        if (2 < f.reader.held) & !room {
             return f;
         }
-        let n = r.next(piece, f.used, room);
-        let after = n.reader;
-        let event = n.event;
-        let e = f.engine;
-        f = tell(after, e, mem, answers, f.answered, event, n.used);
+        let n = f.reader.next(piece, f.used, room);
+        f = tell(
+            n.reader, f.engine, mem, answers, f.answered, n.event, n.used,
+        );
     }
     f
 }

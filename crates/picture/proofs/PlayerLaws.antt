@@ -3,8 +3,7 @@
 use Rattle.std.proofs.Common.{◌≡◌, ℕ, ◌+◌, ◌/◌, ◌%◌, ◌^◌, Bool, true, false, cond, eqb, ltb, List, [], ◌∷◌, length, refl, ◌∙◌}
 use lib.ListN.{length-replicate}
 use Rattle.engine.specs.declared.Engine.{Engine}
-use Rattle.engine.specs.declared.Answer.{Answer}
-use Rattle.engine.specs.Step.{Step, step, number_of, written}
+use Rattle.engine.specs.Step.{Answer, Step, step, number_of, written}
 use Rattle.engine.proofs.Frame.{write-left}
 use Rattle.picture.specs.declared.Player.{Player}
 use Rattle.basics.specs.Each.{each}

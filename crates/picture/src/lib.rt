@@ -6,7 +6,7 @@ ghost use Rattle.engine.specs.Step.{written};
 ghost use Rattle.ppm.specs.Text.{page, said};
 ghost use Rattle.picture.specs.Player.{sheet, fresh_player, shifted, counted, wrote, arrived, taken, fed, refusal, printed};
 
-use engine::Engine;
+use engine::{Engine, Outcome};
 
 // The engine, the last eight bytes that came and how many of them are of an unfinished pair, the number of pairs taken, and the number of
 // the refusal met, or 0.
@@ -19,20 +19,22 @@ pub struct Player {
     pub refused: u32,
 }
 
+#[tactic(auto, unfolding(crate::specs::Player::counted))]
 fn count(number: u32, played: u64) -> u64
     ensures { result ≡ counted number played }
 {
     if number == 0 {
-        return std::num::wrapping_add_u64(played, 1);
+        played.wrapping_add(1)
+    } else {
+        played
     }
-    played
 }
 
 fn say_refusal(out: &mut [u8], at: usize, number: u32, index: u64) -> usize
     ensures { page out.new result ≡ said (refusal number index) (page out.old at) }
 {
     let first = ppm::say(out, at, b"refused ");
-    let second = ppm::say_number(out, first, ppm::wide(number), b' ');
+    let second = ppm::say_number(out, first, u64::from(number), b' ');
     let third = ppm::say(out, second, b"at ");
     ppm::say_number(out, third, index, b'\n')
 }
@@ -41,11 +43,12 @@ fn say_refusal(out: &mut [u8], at: usize, number: u32, index: u64) -> usize
 fn shift(window: u64, byte: u8) -> u64
     ensures { result ≡ shifted window byte }
 {
-    window / 0x100 + (byte as u64) * 0x100_0000_0000_0000
+    window / 0x100 + u64::from(byte) * 0x100_0000_0000_0000
 }
 
 impl Player {
     // Nothing played, for a memory of len bytes.
+    #[tactic(auto, unfolding(crate::specs::Player::fresh_player))]
     pub fn open(len: usize) -> Player
         ensures { result ≡ fresh_player len }
     {
@@ -62,49 +65,44 @@ impl Player {
     fn play(self, mem: &mut [u8], window: u64) -> Player
         ensures { sheet result mem.new ≡ wrote self window (written self.engine mem.old (window % 2 ^ 32) (window / 2 ^ 32)) }
     {
-        let engine = self.engine;
-        let out = engine.write(
-            mem,
-            (window % 0x1_0000_0000) as u32,
-            (window / 0x1_0000_0000) as u32,
-        );
-        let next = out.engine;
-        let answer = out.answer;
-        let n = answer.number();
+        let offset = (window % 0x1_0000_0000) as u32;
+        let word = (window / 0x1_0000_0000) as u32;
+        let Outcome { engine, answer } = self.engine.write(mem, offset, word);
+        let refused = engine::number_of(answer);
         Player {
-            engine: next,
-            window: window,
+            engine,
+            window,
             held: 0,
-            played: count(n, self.played),
-            refused: n,
+            played: count(refused, self.played),
+            refused,
         }
     }
 
+    #[tactic(auto, unfolding(crate::specs::Player::arrived))]
     fn arrive(self, mem: &mut [u8], window: u64) -> Player
         ensures { sheet result mem.new ≡ arrived (sheet self mem.old) window }
     {
-        let held = self.held;
-        if held < 7 {
-            let engine = self.engine;
+        if self.held < 7 {
             return Player {
-                engine: engine,
-                window: window,
-                held: held + 1,
-                played: self.played,
+                window,
+                held: self.held + 1,
                 refused: 0,
+                ..self
             };
         }
         self.play(mem, window)
     }
 
     // One byte of the stream.
+    #[tactic(auto, unfolding(crate::specs::Player::taken))]
     pub fn take(self, mem: &mut [u8], byte: u8) -> Player
         ensures { sheet result mem.new ≡ taken byte (sheet self mem.old) }
     {
-        if 0 < self.refused {
-            return self;
+        if self.refused == 0 {
+            self.arrive(mem, shift(self.window, byte))
+        } else {
+            self
         }
-        self.arrive(mem, shift(self.window, byte))
     }
 
     // Some bytes of the stream.
@@ -112,10 +110,8 @@ impl Player {
         ensures { sheet result mem.new ≡ fed chunk.now (sheet self mem.old) }
     {
         let mut p = self;
-        let mut i = 0;
-        while i < chunk.len() {
-            p = p.take(mem, chunk[i]);
-            i += 1;
+        for &byte in chunk {
+            p = p.take(mem, byte);
         }
         p
     }
@@ -125,16 +121,12 @@ impl Player {
         ensures result_after { page out.new result ≡ said (printed (sheet self mem.now)) (page out.old 0) }
         ensures within { result ≤ length out.new }
     {
-        let refused = self.refused;
-        if 0 < refused {
-            return say_refusal(out, 0, refused, self.played);
+        if self.refused != 0 {
+            return say_refusal(out, 0, self.refused, self.played);
         }
-        if 0 < self.held {
+        if self.held != 0 {
             return ppm::say(out, 0, b"short write\n");
         }
-        let engine = self.engine;
-        let bank = engine.bank;
-        let regs = bank.regs;
-        ppm::say_picture(out, 0, mem, regs)
+        ppm::say_picture(out, 0, mem, self.engine.bank.regs)
     }
 }

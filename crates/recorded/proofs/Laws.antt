@@ -1,8 +1,8 @@
 -- Registers read back one after the other, as a loop does it; the bytes at the start are settled.
 -- Assumes nothing.
-use mathlib.Core.Path.{◌≡◌, refl, sym, ◌∙◌}
+use mathlib.Core.Path.{◌≡◌, sym, ◌∙◌}
 use mathlib.Core.List.{List}
-use Prim.Native.Nat.{ℕ, zero, suc, ◌+◌, ◌-◌, ◌<◌, ◌≤◌}
+use Prim.Native.Nat.{ℕ, suc, ◌+◌, ◌-◌, ◌*◌, ◌<◌, ◌≤◌}
 use native.Mathlib.Omega.{arith}
 use lib.Seq.{ext_get_or}
 use Rattle.basics.specs.Each.{each}
@@ -12,15 +12,17 @@ use Rattle.engine.specs.Step.{read_from}
 use Rattle.recorded.specs.Recorded.{Started, mixed_word, reads_from}
 
 module _ (e : Engine) (o : ℕ) where
-  pub reads-again : (n sum : ℕ) → 0 < n → each mixed_word (reads_from e (o + 4) (n - 1)) (mixed_word (read_value (read_from e o)) sum) ≡ each mixed_word (reads_from e o n) sum
+  pub reads_again : (i n sum : ℕ) → i < n
+      → each mixed_word (reads_from e (o + 4 * (i + 1)) (n - (i + 1))) (mixed_word (read_value (read_from e (o + 4 * i))) sum) ≡ each mixed_word (reads_from e (o + 4 * i) (n - i)) sum
   unfolding reads_from each
-  reads-again zero sum h = absurd (omega arith)
-  reads-again (suc n) sum h = let f : suc n - 1 ≡ n = omega arith in rw f
+  reads_again i n sum h =
+      let left : n - i ≡ suc (n - (i + 1)) = omega arith in
+      let at : o + 4 * (i + 1) ≡ o + 4 * i + 4 = omega arith in
+      rw (left, at)
 
-  pub reads_end : (n sum : ℕ) → n ≤ 0 → sum ≡ each mixed_word (reads_from e o n) sum
+  pub reads_end : (i n sum : ℕ) → n ≤ i → sum ≡ each mixed_word (reads_from e (o + 4 * i) (n - i)) sum
   unfolding reads_from each
-  reads_end zero sum h = refl
-  reads_end (suc n) sum h = absurd (omega arith)
+  reads_end i n sum h = let none : n - i ≡ 0 = omega arith in rw none
 
 -- the memory at the start is settled byte by byte
 pub started-once : (len seed : ℕ) {a b : List ℕ} → Started a len seed → Started b len seed → a ≡ b

@@ -3,10 +3,8 @@
 
 ghost use Rattle.std.specs.Prelude.{◌≡◌, ◌+◌, ◌*◌, ◌/◌, ◌%◌, ◌^◌, ◌≤◌, ◌<◌, length};
 ghost use Rattle.basics.specs.Each.{each};
-ghost use Rattle.bank.specs.Bank.{read_value};
 ghost use Rattle.recorded.specs.Recorded.{start_byte, Started, lent_of, least_of, mixed, mixed_word, memory_sum, reads_from, room_words, register_sum};
 
-use bank::Reading;
 use engine::Engine;
 use rooms::Rooms;
 
@@ -21,10 +19,8 @@ fn start_byte(i: usize, seed: u32) -> u8
 pub fn fill(mem: &mut [u8], seed: u32)
     ensures { Started mem.new (length mem.old) seed }
 {
-    let mut i = 0;
-    while i < mem.len() {
+    for i in 0..mem.len() {
         mem[i] = start_byte(i, seed);
-        i += 1;
     }
 }
 
@@ -32,72 +28,54 @@ pub fn fill(mem: &mut [u8], seed: u32)
 pub fn lent(len: usize, kind: u32) -> usize
     ensures { (result ≡ lent_of len kind) × (result ≤ len) }
 {
-    if kind != 1 {
-        return len;
+    if kind == 1 {
+        len.saturating_sub(1)
+    } else {
+        len
     }
-    if len == 0 {
-        return 0;
-    }
-    len - 1
 }
 
 pub fn least(a: usize, b: usize) -> usize
     ensures { (result ≡ least_of a b) × (result ≤ b) }
 {
-    if a < b { a } else { b }
+    a.min(b)
 }
 
-// The checksum after one byte more, the low one of a word.
-fn mix_byte(sum: u64, word: u32) -> u64
-    ensures { result ≡ mixed (word % 2 ^ 8) sum }
+// The checksum after one byte more.
+fn mix_byte(sum: u64, byte: u8) -> u64
+    ensures { result ≡ mixed byte sum }
 {
-    (sum ^ (word % 0x100) as u64) % 0x1_0000_0000 * 16777619 % 0x1_0000_0000
+    (sum ^ u64::from(byte)) % 0x1_0000_0000 * 16777619 % 0x1_0000_0000
 }
 
+// After a word's four bytes, low byte first.
 fn mix_word(sum: u64, word: u32) -> u64
     ensures { result ≡ mixed_word word sum }
 {
-    let one = mix_byte(sum, word);
-    let two = mix_byte(one, word / 0x100);
-    let three = mix_byte(two, word / 0x1_0000);
-    mix_byte(three, word / 0x100_0000)
-}
-
-fn value(r: Reading) -> u32
-    ensures { result ≡ read_value r }
-{
-    match r {
-        Reading::Value(word) => word,
-        Reading::Refused => 0,
-    }
+    let [a, b, c, d] = word.to_le_bytes();
+    mix_byte(mix_byte(mix_byte(mix_byte(sum, a), b), c), d)
 }
 
 // The checksum after so many words that are read back from an offset on.
+#[tactic(auto, using(crate::proofs::Laws::reads_again, crate::proofs::Laws::reads_end))]
 fn mix_reads(e: Engine, sum: u64, offset: u32, words: u32) -> u64
     requires { offset + 4 * words ≤ 0x200 }
     ensures { result ≡ each mixed_word (reads_from e offset words) sum }
 {
     let mut h = sum;
-    let mut at = offset;
-    let mut left = words;
-    while 0 < left {
-        h = mix_word(h, value(e.read(at)));
-        at += 4;
-        left -= 1;
+    for i in 0..words {
+        h = mix_word(h, e.read(offset + 4 * i).unwrap_or(0));
     }
     h
 }
 
 // After what is kept of source and target.
+#[tactic(auto, unfolding(basics::specs::Each::each))]
 fn mix_rooms(sum: u64, k: Rooms) -> u64
     ensures { result ≡ each mixed_word (room_words k) sum }
 {
-    let source = k.source;
-    let target = k.target;
-    let one = mix_word(sum, source.pixels);
-    let two = mix_word(one, source.rows);
-    let three = mix_word(two, target.pixels);
-    mix_word(three, target.rows)
+    let source = mix_word(mix_word(sum, k.source.pixels), k.source.rows);
+    mix_word(mix_word(source, k.target.pixels), k.target.rows)
 }
 
 pub fn sum_registers(e: Engine) -> u64
@@ -105,28 +83,15 @@ pub fn sum_registers(e: Engine) -> u64
 {
     let registers = mix_reads(e, 2166136261, 0x08, 27);
     let pattern = mix_reads(e, registers, 0x100, 64);
-    let waiting = e.blit.waiting;
-    let rooms = e.rooms;
-    if waiting {
-        return mix_rooms(mix_byte(pattern, 1), rooms);
-    }
-    mix_rooms(mix_byte(pattern, 0), rooms)
-}
-
-fn wide(x: u8) -> u32
-    ensures { (result ≡ x) × (result < 256) }
-{
-    x as u32
+    mix_rooms(mix_byte(pattern, u8::from(e.blit.waiting)), e.rooms)
 }
 
 pub fn sum_memory(mem: &[u8]) -> u64
     ensures { result ≡ memory_sum mem.now }
 {
     let mut h = 2166136261;
-    let mut i = 0;
-    while i < mem.len() {
-        h = mix_byte(h, wide(mem[i]));
-        i += 1;
+    for &byte in mem {
+        h = mix_byte(h, byte);
     }
     h
 }

@@ -1,8 +1,8 @@
 -- `intake::feed` meets its contract: what the bytes that are left make of the call now is what all of them make of it at the start.
 -- Assumes nothing.
-use mathlib.Core.Path.{◌≡◌, refl, ap, ◌∙◌}
+use mathlib.Core.Path.{◌≡◌, ap, ◌∙◌}
 use mathlib.Core.List.{List}
-use Prim.Native.Nat.{ℕ, ◌-◌, ◌*◌, ◌≤◌}
+use Prim.Native.Nat.{ℕ, ◌*◌, ◌≤◌}
 use native.Mathlib.Omega.{arith}
 use lib.ListN.{length, drop}
 use Rattle.basics.proofs.EachLaws.{each-ends}
@@ -19,17 +19,14 @@ ending : (r : Reader) (s : Machine) (piece run : List ℕ) {c : Call Machine} �
     → (c ≡ called by_engine r s piece run) × ((c.used ≤ length piece) × (c.lent.answered * 3 ≤ length c.lent.run))
 ending r s piece run e = (e, called-within by_engine r s piece run e)
 
-pub loop-f-init : goal.loop-f-init
-loop-f-init c = (refl, (refl, refl))
-
-pub returns-then-r-room : goal.returns-then-r-room
-returns-then-r-room c =
+pub returns-then-f-room : goal.returns-then-f-room
+returns-then-f-room c =
     let k = c.loop-f in
     let a = c.args in
     let e =
     ending a.reader (machine a.engine a.mem.now) a.piece.now a.answers.now (
     full-stays by_engine (drop k.f.used c.args.piece.now) (fed_of k.f k.mem k.answers)
-    (tested by_engine k.f.reader (machine k.f.engine k.mem) (lent k.answers k.f.answered) k.f.used c.has_room-room.ensures c.if-r-room.true) ∙ k.invariant.0) in
+    (tested by_engine k.f.reader (machine k.f.engine k.mem) (lent k.answers k.f.answered) k.f.used c.has_room-room.ensures c.if-f-room.true) ∙ k.invariant.0) in
     record { answers_after = e.0; within = e.1 }
 
 turn : (c : goal.After-slice_known-in-loop-f-2-1)
@@ -39,7 +36,7 @@ turn c =
     let k = c.loop-f in
     let piece = c.args.piece.now in
     turned by_engine piece k.f.reader (machine k.f.engine k.mem) (lent k.answers k.f.answered) k.f.used c.loop-f-test.true
-    (tested by_engine k.f.reader (machine k.f.engine k.mem) (lent k.answers k.f.answered) k.f.used c.has_room-room.ensures c.if-r-room.false)
+    (tested by_engine k.f.reader (machine k.f.engine k.mem) (lent k.answers k.f.answered) k.f.used c.has_room-room.ensures c.if-f-room.false)
     (c.next-n.ensures ∙ ap (next_of k.f.reader piece k.f.used) c.has_room-room.ensures) c.tell-f.ensures
 
 pub loop-f-smaller : goal.loop-f-smaller

@@ -15,10 +15,10 @@ returns-in-Nothing c =
 pub returns-in-Write : goal.returns-in-Write
 returns-in-Write c =
     let a = c.args in
-    let out = c.write-out in
+    let out = c.write-answer in
     noting-by by_engine a.reader a.used
     (write_done by_engine (machine a.engine a.mem.now) (lent a.answers.now a.answered) c.in-Write.is
-    (rw (c.number.ensures, c.count.ensures, c.changed.ensures) (ap stepped out.ensures)) c.put_answer.ensures)
+    (rw (c.number_of-number.ensures, c.count_of-count.ensures, c.changed_of-changed.ensures) (ap stepped out.ensures)) c.put_answer.ensures)
 
 pub returns-in-Closed : goal.returns-in-Closed
 returns-in-Closed c =

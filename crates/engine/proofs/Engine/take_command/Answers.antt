@@ -6,8 +6,7 @@ use Rattle.bank.specs.declared.Bank.{Bank}
 use Rattle.bank.specs.Bank.{stored}
 use Rattle.acts.specs.declared.Blit.{Blit}
 use Rattle.acts.specs.Deed.{bank_of, carrying}
-use Rattle.engine.specs.declared.Answer.TheVariants.{Taken}
-use Rattle.engine.specs.Step.{stored_in, step, judging, carried, commanded}
+use Rattle.engine.specs.Step.{stored_in, judging, carried, commanded}
 use Rattle.engine.proofs.Laws.{settled-as}
 use Rattle.engine.proofs.Engine.take_command.Goals as goal
 
@@ -16,17 +15,14 @@ unfolding commanded carried stored_in stored
 returns-then-word-eq1 c =
     let a = c.args in
     let e = a.self in
-    let regs = c.store-bank.result.regs in
-    let resting = c.no_blit-resting.result in
+    let regs = c.store.result.regs in
+    let resting = c.no_blit.result in
     let next = bank_of regs e.bank.pattern in
-    let kept : next ≡ stored e.bank 0x70 a.word = ap (λ (b : Bank). bank_of b.regs e.bank.pattern) c.store-bank.ensures in
+    let kept : next ≡ stored e.bank 0x70 a.word = ap (λ (b : Bank). bank_of b.regs e.bank.pattern) c.store.ensures in
     rw (eq-eqb _ _ c.if-word-eq1.true)
     (settled-as e regs c.carry-act.result _ (carrying next resting a.mem.now) next resting a.mem.now c.settle.ensures c.carry-act.ensures
-    ∙ ap₂ (λ (b : Bank) (k : Blit). judging e e a.mem.now (carrying b k a.mem.now)) kept c.no_blit-resting.ensures)
+    ∙ ap₂ (λ (b : Bank) (k : Blit). judging e e a.mem.now (carrying b k a.mem.now)) kept c.no_blit.ensures)
 
 pub returns : goal.returns
 unfolding commanded stored_in
-returns c =
-    let a = c.args in
-    rw (ne_eqb _ _ c.if-word-eq1.false)
-    (ap₂ (λ (b : Bank) (k : Blit). step (record { bank = b; blit = k; opened = a.self.opened; rooms = a.self.rooms }) a.mem.now (Taken 0 0)) c.store-bank.ensures c.no_blit-resting.ensures)
+returns c = simp (c.answered.ensures, ne_eqb _ _ c.if-word-eq1.false, c.store.ensures, c.no_blit.ensures)

@@ -6,5 +6,5 @@ use Rattle.picture.proofs.Player.play.Goals as goal
 pub returns : goal.returns
 returns c =
     let a = c.args in
-    wrote_by a.self a.window c.write-out.result.engine c.write-out.new.mem c.write-out.result.answer c.number-n.result c.count.result _
-    c.write-out.ensures c.number-n.ensures c.count.ensures
+    wrote_by a.self a.window c.write-answer.result.engine c.write-answer.new.mem c.write-answer.result.answer c.number_of-refused.result c.count.result _
+    c.write-answer.ensures c.number_of-refused.ensures c.count.ensures
