@@ -8,7 +8,12 @@ use native.Mathlib.Omega.{arith}
 use lib.Dec.{eqb}
 use Rattle.registers.specs.declared.Regs.{Regs}
 use Rattle.bank.specs.declared.Bank.{Bank}
-use Rattle.std.specs.Prelude.{Ok, Err}
+use Rattle.std.specs.Prelude.{Result, Ok, Err}
+use Rattle.table.specs.declared.Fault.{Fault}
+use Rattle.table.specs.Fault.{fault_number}
+use Rattle.acts.specs.declared.Ends.{Ends}
+use Rattle.acts.proofs.Laws.{fault-some}
+use borrow.Author.Tests.{ne_eqb}
 use Rattle.paint.specs.Paint.{state}
 use Rattle.acts.specs.declared.Blit.{Blit}
 use Rattle.acts.specs.declared.Act.{Act}
@@ -28,13 +33,10 @@ outcome r m = step r.engine m r.answer
 abbrev settling : Engine → Deed → Step
 settling e d = cond (eqb d.verdict 0) (making e d.makes) (step e d.makes.left.mem (Err (refusal d.verdict)))
 
-settled-deed : (e : Engine) (r : Regs) (a : Act) (m : List ℕ) → outcome (settled e r a) m ≡ settling e (deed (bank_of r e.bank.pattern) a m)
-unfolding settled
-settled-deed e r a m =
-    let b = bank_of r e.bank.pattern in
-    by-test
-    (λ t. outcome (cond t (record { engine = record { bank = with_ends b a.ends; blit = a.blit; opened = e.opened; rooms = e.rooms }; answer = Ok a.tally }) (record { engine = e; answer = Err (refusal a.number) })) m ≡ cond t (making e (deed b a m).makes) (step e m (Err (refusal a.number)))) (eqb a.number 0)
-    (λ _. refl) (λ _. refl)
+settled-deed : (e : Engine) (r : Regs) (x : Result Act Fault) (b : Bank) (k : Blit) (m : List ℕ) → ((a : Ends) → with_ends b a ≡ with_ends (bank_of r e.bank.pattern) a)
+    → outcome (settled e r x) m ≡ settling e (deed b k x m)
+settled-deed e r (Ok a) b k m same = rw (same a.ends)
+settled-deed e r (Err f) b k m same = rw (ne_eqb (fault_number f) 0 (fault-some f))
 
 judged-settling : (e : Engine) (d : Deed) (b : Bank) (k : Blit) (m : List ℕ) → settling e (judged d b k m) ≡ judging e e m d
 unfolding judged
@@ -43,10 +45,10 @@ judged-settling e d b k m =
     (λ t. eqb d.verdict 0 ≡ t → settling e (cond t d (record { verdict = d.verdict; makes = made b k (state m 0 0) })) ≡ cond t (making e d.makes) (step e m (Err (refusal d.verdict))))
     (eqb d.verdict 0) (λ _ h. rw h) (λ _ h. rw h) refl
 
-pub settled-as : (e : Engine) (r : Regs) (a : Act) (left : List ℕ) (d : Deed) (b : Bank) (k : Blit) (m : List ℕ) {o : Outcome} → o ≡ settled e r a
-    → deed (bank_of r e.bank.pattern) a left ≡ judged d b k m → outcome o left ≡ judging e e m d
-settled-as e r a left d b k m p q =
-    ap (λ (o : Outcome). outcome o left) p ∙ settled-deed e r a left ∙ ap (settling e) q ∙ judged-settling e d b k m
+pub settled-as : (e : Engine) (r : Regs) (x : Result Act Fault) (left : List ℕ) (d : Deed) (b : Bank) (k : Blit) (m : List ℕ) {o : Outcome}
+    → ((a : Ends) → with_ends b a ≡ with_ends (bank_of r e.bank.pattern) a) → o ≡ settled e r x → deed b k x left ≡ judged d b k m → outcome o left ≡ judging e e m d
+settled-as e r x left d b k m same p q =
+    ap (λ (o : Outcome). outcome o left) p ∙ settled-deed e r x b k left same ∙ ap (settling e) q ∙ judged-settling e d b k m
 
 -- ---- the number of a refusal is not 0
 refusal-each : (P : Refusal → Type 0) (n : ℕ) → P NotBuilt → P Format → P Host → P Off → P Meet → P (refusal n)

@@ -12,6 +12,8 @@ use Rattle.bank.specs.Bank.{fresh_bank, stored, patterned, read_at}
 use Rattle.registers.specs.Offsets.{place_of}
 use Rattle.cuts.specs.Cut.{bit}
 use Rattle.rooms.specs.Room.{no_rooms, after}
+use Rattle.table.specs.declared.Fault.{Fault}
+use Rattle.table.specs.Fault.{fault_number}
 use Rattle.acts.specs.declared.Blit.{Blit}
 use Rattle.acts.specs.declared.Act.{Act}
 use Rattle.acts.specs.Deed.{no_blit, Made, bank_of, with_ends, Deed, carrying, starting}
@@ -134,12 +136,10 @@ written e m o d =
 abbrev pub read_from : Engine → ℕ → Option ℕ
 read_from e o = read_at e.bank o
 
--- ---- what a command that had these registers left of the engine
-unfoldable pub settled : Engine → Regs → Act → Outcome
-settled e r a =
-    cond (eqb a.number 0)
-    (record {
-      engine = record { bank = with_ends (bank_of r e.bank.pattern) a.ends; blit = a.blit; opened = e.opened; rooms = e.rooms };
-      answer = Ok a.tally;
-    })
-    (record { engine = e; answer = Err (refusal a.number) })
+-- ---- what a command that had these registers left of the engine; refused, it stays
+abbrev pub settled : Engine → Regs → Result Act Fault → Outcome
+settled e r (Ok a) = record {
+  engine = record { bank = with_ends (bank_of r e.bank.pattern) a.ends; blit = a.blit; opened = e.opened; rooms = e.rooms };
+  answer = Ok a.tally;
+}
+settled e r (Err f) = record { engine = e; answer = Err (refusal (fault_number f)) }

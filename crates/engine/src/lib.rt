@@ -2,6 +2,7 @@
 #![tactic(auto)]
 
 ghost use Rattle.std.specs.Prelude.{◌≡◌, ◌^◌, ◌≤◌};
+ghost use Rattle.table.specs.Fault.{fault_number};
 ghost use Rattle.engine.specs.Step.{number_in, number_of, count_of, changed_of, refusal, fresh_engine, settled, step, launched, commanded, to_register, to_pattern, written, read_from};
 
 use acts::{Act, Blit};
@@ -11,6 +12,7 @@ use registers::{Place, Regs};
 use rooms::Rooms;
 use std::error::Error;
 use std::fmt;
+use table::Fault;
 
 // The register state, the host blit, the length of the memory that the engine was opened for, and what is kept of both surfaces beside the registers.
 #[derive(Clone, Copy)]
@@ -66,6 +68,21 @@ impl fmt::Display for Refusal {
 
 impl Error for Refusal {}
 
+impl From<Fault> for Refusal {
+    ghost from_gives = { λ fault refused. refused ≡ refusal (fault_number fault) };
+
+    #[tactic(auto, unfolding(crate::specs::Step::refusal))]
+    fn from(fault: Fault) -> Refusal {
+        match fault {
+            Fault::NotBuilt => Refusal::NotBuilt,
+            Fault::Format => Refusal::Format,
+            Fault::Host => Refusal::Host,
+            Fault::Off => Refusal::Off,
+            Fault::Meet => Refusal::Meet,
+        }
+    }
+}
+
 // What a write is answered: how many pixels it wrote, and how many of them have other bytes than just before; or why it is refused.
 pub type Answer = Result<Tally, Refusal>;
 
@@ -104,20 +121,6 @@ const NOTHING: Tally = Tally {
     changed: 0,
 };
 
-// The refusal of a row from 4 to 8.
-#[tactic(auto, unfolding(crate::specs::Step::refusal))]
-pub fn refuse(n: u32) -> Refusal
-    ensures { result ≡ refusal n }
-{
-    match n {
-        4 => Refusal::NotBuilt,
-        5 => Refusal::Format,
-        6 => Refusal::Host,
-        7 => Refusal::Off,
-        _ => Refusal::Meet,
-    }
-}
-
 impl Engine {
     // A fresh engine for a memory of len bytes.
     #[tactic(auto, unfolding(crate::specs::Step::fresh_engine))]
@@ -149,23 +152,24 @@ impl Engine {
     }
 
     // What becomes of the engine by a command that had these registers: refused, it stays.
-    #[tactic(auto, unfolding(crate::specs::Step::settled))]
-    fn settle(self, regs: Regs, act: Act) -> Outcome
+    fn settle(self, regs: Regs, act: Result<Act, Fault>) -> Outcome
         ensures { result ≡ settled self regs act }
     {
-        if act.number != 0 {
-            return self.answered(Err(refuse(act.number)));
+        match act {
+            Ok(act) => {
+                let bank = Bank {
+                    regs: acts::with_ends(regs, act.ends),
+                    ..self.bank
+                };
+                Engine {
+                    bank,
+                    blit: act.blit,
+                    ..self
+                }
+                .answered(Ok(act.tally))
+            }
+            Err(fault) => self.answered(Err(Refusal::from(fault))),
         }
-        let bank = Bank {
-            regs: acts::with_ends(regs, act.ends),
-            ..self.bank
-        };
-        Engine {
-            bank,
-            blit: act.blit,
-            ..self
-        }
-        .answered(Ok(act.tally))
     }
 
     fn launch(self, mem: &mut [u8], word: u32) -> Outcome

@@ -1,6 +1,6 @@
 -- `engine::Engine::take_command` meets its contract: by bit 8.
 -- Assumes nothing.
-use mathlib.Core.Path.{◌≡◌, ap, ap₂, ◌∙◌}
+use mathlib.Core.Path.{◌≡◌, refl, ap, ap₂, ◌∙◌}
 use borrow.Author.Tests.{eq-eqb, ne_eqb}
 use Rattle.bank.specs.declared.Bank.{Bank}
 use Rattle.bank.specs.Bank.{stored}
@@ -20,7 +20,7 @@ returns-then-word-eq1 c =
     let next = bank_of regs e.bank.pattern in
     let kept : next ≡ stored e.bank 0x70 a.word = ap (λ (b : Bank). bank_of b.regs e.bank.pattern) c.store.ensures in
     rw (eq-eqb _ _ c.if-word-eq1.true)
-    (settled-as e regs c.carry-act.result _ (carrying next resting a.mem.now) next resting a.mem.now c.settle.ensures c.carry-act.ensures
+    (settled-as e regs c.carry-act.result _ (carrying next resting a.mem.now) next resting a.mem.now (λ _. refl) c.settle.ensures c.carry-act.ensures
     ∙ ap₂ (λ (b : Bank) (k : Blit). judging e e a.mem.now (carrying b k a.mem.now)) kept c.no_blit.ensures)
 
 pub returns : goal.returns
