@@ -20,7 +20,8 @@ use Rattle.acts.specs.Fed.{Feeding, touched_by_words, blit_after, feed_ended, re
 use Rattle.acts.proofs.Cases.{picked}
 use Rattle.engine.specs.Step.{Step, making, number_in, refusal, regs, launched}
 use Rattle.words.specs.Words.{Ran, launching, is_taken, further, stopped, ran_from}
-use Rattle.words.proofs.Laws.{Fits, worded, Went, sum-joins, fits-launched, verdict-stops, went-word}
+use Rattle.words.specs.Turn.{Went}
+use Rattle.words.proofs.Laws.{Fits, worded, sum-joins, fits-launched, verdict-stops, went-word}
 
 -- the run after some words of a blit
 abbrev pub fed_to : Ran → Feeding → Ran

@@ -14,11 +14,16 @@ use Rattle.acts.specs.declared.Act.{Act}
 use Rattle.acts.specs.declared.Blit.{Blit}
 use Rattle.acts.specs.Deed.{made, with_ends, Deed, deed, judged, carrying, aimed, starting}
 use Rattle.acts.proofs.Cases.{by-test}
-use Rattle.acts.proofs.Numbers.{aimed-starts}
-use Rattle.engine.specs.declared.Refusal.TheVariants.{Memory}
-use Rattle.std.specs.Prelude.{Err}
+use Rattle.acts.proofs.Numbers.{aimed-starts, aimed-ends}
+use Rattle.engine.specs.declared.Refusal.{Refusal}
+use Rattle.engine.specs.declared.Refusal.TheVariants.{Memory, Offset, Waiting, NotBuilt, Format, Host, Off, Meet}
+use Rattle.std.specs.Prelude.{Result, Ok, Err}
+use Rattle.table.specs.declared.Fault.{Fault}
+use Rattle.table.specs.Fault.{fault_number, verdict_number}
+use Rattle.acts.proofs.Laws.{fault-some}
 use Rattle.engine.specs.Step.{Step, step, making, number_in, refusal, regs, launched, written}
 use Rattle.engine.proofs.Laws.{refused-number}
+use Rattle.words.specs.Turn.{Went}
 use Rattle.words.specs.Words.{Ran, launching, is_taken, further, halted, stopped, ran_from}
 
 -- row 1 refuses no word
@@ -29,12 +34,6 @@ pub record Fits (t : Ran) : Type 0 where
 -- one word
 unfoldable pub worded : Ran → ℕ → Ran
 worded t w = cond (is_taken (launching t w)) (further t (launching t w)) (stopped t (launching t w))
-
--- from s to s' some words of the run were taken, and the words after them give what was left to give; or it is stopped
-pub record Went (ws : List ℕ) (s s' : Ran) : Type 0 where
-  pub more : s'.number ≡ 0 → s.taken < s'.taken
-  pub goes : s'.number ≡ 0 → ran_from s' (drop s'.taken ws) ≡ ran_from s (drop s.taken ws)
-  pub stops : (s'.number ≡ 0 → ⊥) → s' ≡ ran_from s (drop s.taken ws)
 
 -- the offset that stands for them all
 pub launch-80 : place_of 0x80 ≡ Launch
@@ -78,30 +77,36 @@ judged-verdict : (d : Deed) (b : Bank) (k : Blit) (m : List ℕ) → (judged d b
 unfolding judged
 judged-verdict d b k m = by-test (λ u. (cond u d (record { verdict = d.verdict; makes = made b k (state m 0 0) })).verdict ≡ d.verdict) (eqb d.verdict 0) (λ _. refl) (λ _. refl)
 
-module _ (t : Ran) (w : ℕ) (fits : Fits t) (other : number (regs t.engine) ≡ 3 → ⊥) (a : Act) (m' : List ℕ)
-    (p : deed t.engine.bank a m'
+module _ (t : Ran) (w : ℕ) (fits : Fits t) (other : number (regs t.engine) ≡ 3 → ⊥) (x : Result Act Fault) (m' : List ℕ)
+    (p : deed (aimed t.engine.bank w) t.engine.blit x m'
     ≡ judged (carrying (aimed t.engine.bank w) t.engine.blit t.memory) (aimed t.engine.bank w) t.engine.blit t.memory) where
   begun : Deed
   begun = starting t.engine.bank t.engine.blit t.memory w
 
-  begun-judged : deed t.engine.bank a m' ≡ judged begun (aimed t.engine.bank w) t.engine.blit t.memory
+  begun-judged : deed (aimed t.engine.bank w) t.engine.blit x m' ≡ judged begun (aimed t.engine.bank w) t.engine.blit t.memory
   unfolding begun
   begun-judged =
       p ∙ ap (λ (d : Deed). judged d (aimed t.engine.bank w) t.engine.blit t.memory) (aimed-starts t.engine.bank t.engine.blit t.memory w other)
 
-  begun-number : a.number ≡ begun.verdict
-  begun-number = ap (λ (d : Deed). d.verdict) begun-judged ∙ judged-verdict begun (aimed t.engine.bank w) t.engine.blit t.memory
+  begun-verdict : verdict_number x ≡ begun.verdict
+  begun-verdict = sym (deed-verdict x) ∙ ap (λ (d : Deed). d.verdict) begun-judged ∙ judged-verdict begun (aimed t.engine.bank w) t.engine.blit t.memory
+    where
+      deed-verdict : (x : Result Act Fault) → (deed (aimed t.engine.bank w) t.engine.blit x m').verdict ≡ verdict_number x
+      deed-verdict (Ok a) = refl
+      deed-verdict (Err f) = refl
 
-  pub start-stops : (a.number ≡ 0 → ⊥)
-      → record { engine = t.engine; memory = m'; number = number_in (refusal a.number); taken = t.taken; count = t.count; changed = t.changed } ≡ worded t w
-  unfolding begun judged
-  start-stops no' =
-      let undone : (judged begun (aimed t.engine.bank w) t.engine.blit t.memory).makes.left.mem ≡ t.memory = rw (ne_eqb begun.verdict 0 (λ z. no' (begun-number ∙ z))) in
-      let same : m' ≡ t.memory = ap (λ (d : Deed). d.makes.left.mem) begun-judged ∙ undone in
-      ap (λ (m : List ℕ). record { engine = t.engine; memory = m; number = number_in (refusal a.number); taken = t.taken; count = t.count; changed = t.changed }) same
-      ∙ verdict-stops t w fits begun-number no'
+  begun-undone : (begun.verdict ≡ 0 → ⊥) → (judged begun (aimed t.engine.bank w) t.engine.blit t.memory).makes.left.mem ≡ t.memory
+  unfolding judged
+  begun-undone no' = rw (ne_eqb begun.verdict 0 no')
 
-  pub start-goes : a.number ≡ 0
+  pub start-stops : (f : Fault) → x ≡ Err f → halted (record { engine = t.engine; memory = m'; number = 0; taken = t.taken; count = t.count; changed = t.changed }) (number_in (refusal (fault_number f))) ≡ worded t w
+  unfolding begun
+  start-stops f e =
+      let verdict : fault_number f ≡ begun.verdict = rw e at begun-verdict in
+      let same : m' ≡ t.memory = ap (λ (d : Deed). d.makes.left.mem) (rw e at begun-judged) ∙ begun-undone (λ z. fault-some f (verdict ∙ z)) in
+      rw same (verdict-stops t w fits verdict (fault-some f))
+
+  pub start-goes : (a : Act) → x ≡ Ok a
       → record {
         engine = record { bank = with_ends t.engine.bank a.ends; blit = a.blit; opened = t.engine.opened; rooms = t.engine.rooms };
         memory = m';
@@ -111,12 +116,23 @@ module _ (t : Ran) (w : ℕ) (fits : Fits t) (other : number (regs t.engine) ≡
         changed = (t.changed + a.tally.changed) % 2 ^ 64;
       } ≡ worded t w
   unfolding begun worded judged launched
-  start-goes z =
-      let zero' : begun.verdict ≡ 0 = sym begun-number ∙ z in
+  start-goes a e =
+      let zero' : begun.verdict ≡ 0 = sym (rw e at begun-verdict) in
       let taken : judged begun (aimed t.engine.bank w) t.engine.blit t.memory ≡ begun = rw zero' in
-      let made' : begun.makes ≡ made (with_ends t.engine.bank a.ends) a.blit (tallied m' a.tally) = ap (λ (d : Deed). d.makes) (sym (begun-judged ∙ taken)) in
-      let here : launching t w ≡ making t.engine (made (with_ends t.engine.bank a.ends) a.blit (tallied m' a.tally)) = fits-launched t w fits ∙ rw (zero', made') in
+      let made' : begun.makes ≡ made (with_ends (aimed t.engine.bank w) a.ends) a.blit (tallied m' a.tally) = ap (λ (d : Deed). d.makes) (sym ((rw e at begun-judged) ∙ taken)) in
+      let here : launching t w ≡ making t.engine (made (with_ends t.engine.bank a.ends) a.blit (tallied m' a.tally)) = fits-launched t w fits ∙ rw (zero', made', aimed-ends t.engine.bank w a.ends) in
       rw here
+
+-- ---- the number of a refusal is not 0
+pub refusal-some : (r : Refusal) → number_in r ≡ 0 → ⊥
+refusal-some Memory e = omega arith
+refusal-some Offset e = omega arith
+refusal-some Waiting e = omega arith
+refusal-some NotBuilt e = omega arith
+refusal-some Format e = omega arith
+refusal-some Host e = omega arith
+refusal-some Off e = omega arith
+refusal-some Meet e = omega arith
 
 -- ---- a turn of the loop
 module _ (ws : List ℕ) (s : Ran) (some : s.taken < length ws) where

@@ -1,9 +1,11 @@
 // Runs of words for the launch area: launch writes in order, up to the first that is refused.
 #![tactic(auto)]
 
-ghost use Rattle.std.specs.Prelude.{◌≡◌, ◌+◌, ◌%◌, ◌^◌, ◌<◌};
+ghost use Rattle.std.specs.Prelude.{◌≡◌, ◌+◌, ◌%◌, ◌^◌, ◌<◌, length};
 ghost use Rattle.words.specs.Words.{ran, ran_of};
+ghost use Rattle.words.specs.Turn.{sofar, turned, Went};
 
+use acts::Operation;
 use engine::{Engine, Refusal};
 use paint::Tally;
 
@@ -35,7 +37,39 @@ fn add(t: Sums, n: usize, tally: Tally) -> Sums
     }
 }
 
-// The words of a run, each a launch write: those up to the end of a host blit at a time, or one of another command.
+// One turn of a run: those words up to the end of a host blit, or one of another command.
+fn turn(e: &mut Engine, mem: &mut [u8], words: &[u32], sums: &mut Sums) -> Result<(), Refusal>
+    requires { sums.old.taken < length words.now }
+    ensures { Went words.now (sofar e.old mem.old sums.old) (turned result (sofar e.new mem.new sums.new)) }
+{
+    if 0x100_0000 < mem.len() || mem.len() != e.opened {
+        return Err(Refusal::Memory);
+    }
+    match Operation::of(e.bank.regs) {
+        Operation::HostBlit => {
+            let fed = acts::feed_run(e.bank, e.blit, mem, &words[sums.taken..], e.rooms)?;
+            e.bank = acts::end_feed(e.bank, fed.blit);
+            e.blit = fed.blit;
+            *sums = add(*sums, fed.used, fed.tally);
+        }
+        _ => {
+            let act = acts::start(
+                e.bank.regs,
+                &e.bank.pattern,
+                e.blit,
+                mem,
+                words[sums.taken],
+                e.rooms,
+            )?;
+            e.bank.regs = acts::with_ends(e.bank.regs, act.ends);
+            e.blit = act.blit;
+            *sums = add(*sums, 1, act.tally);
+        }
+    }
+    Ok(())
+}
+
+// The words of a run, each a launch write.
 pub fn take_run(mut e: Engine, mem: &mut [u8], words: &[u32]) -> Run
     ensures { ran_of result mem.new ≡ ran e mem.old words.now }
 {
@@ -46,44 +80,15 @@ pub fn take_run(mut e: Engine, mem: &mut [u8], words: &[u32]) -> Run
     };
     // while: a turn takes as many words as the host blit still needs.
     while sums.taken < words.len() {
-        if 0x100_0000 < mem.len() || mem.len() != e.opened {
-            return Run {
-                engine: e,
-                stopped: Some(Refusal::Memory),
-                sums,
-            };
-        }
-        if e.bank.regs.command % 16 == 3 {
-            let fed = acts::feed_run(e.bank, e.blit, mem, &words[sums.taken..], e.rooms);
-            if fed.number != 0 {
+        match turn(&mut e, mem, words, &mut sums) {
+            Ok(()) => {}
+            Err(refusal) => {
                 return Run {
                     engine: e,
-                    stopped: Some(engine::refuse(fed.number)),
+                    stopped: Some(refusal),
                     sums,
                 };
             }
-            e.bank = acts::end_feed(e.bank, fed.blit);
-            e.blit = fed.blit;
-            sums = add(sums, fed.used, fed.tally);
-        } else {
-            let act = acts::start(
-                e.bank.regs,
-                &e.bank.pattern,
-                e.blit,
-                mem,
-                words[sums.taken],
-                e.rooms,
-            );
-            if act.number != 0 {
-                return Run {
-                    engine: e,
-                    stopped: Some(engine::refuse(act.number)),
-                    sums,
-                };
-            }
-            e.bank.regs = acts::with_ends(e.bank.regs, act.ends);
-            e.blit = act.blit;
-            sums = add(sums, 1, act.tally);
         }
     }
     Run {
