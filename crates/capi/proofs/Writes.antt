@@ -8,6 +8,8 @@ use native.Mathlib.Omega.{arith}
 use lib.Dec.{eqb, ltb}
 use lib.ListN.{length, get_or, length-take, length-drop}
 use borrow.Author.Tests.{eq-eqb, ne_eqb, lt-ltb, le-ltb, le-leb, eqb-true, eqb-false, ltb-true, ltb-false}
+use Rattle.std.specs.Prelude.{Ok, Err}
+use Rattle.paint.specs.Tally.{tally}
 use Rattle.registers.specs.declared.Place.TheVariants.{Register, Pattern}
 use Rattle.registers.specs.Regs.{put_reg, get_reg}
 use Rattle.registers.specs.Kept.{kept, one_of}
@@ -19,9 +21,8 @@ use Rattle.registers.proofs.KeptLaws.{kept_word}
 use Rattle.rooms.specs.Room.{worked, of_target, of_source}
 use Rattle.registers.proofs.OffsetLaws.{register-listed, pattern-word}
 use Rattle.engine.specs.declared.Engine.{Engine}
-use Rattle.engine.specs.declared.Answer.{Answer}
-use Rattle.engine.specs.declared.Answer.TheVariants.{Taken, Memory, Waiting}
-use Rattle.engine.specs.Step.{Step, step, changed_of, with_bank, stored_in, to_register, to_pattern, written}
+use Rattle.engine.specs.declared.Refusal.TheVariants.{Memory, Waiting}
+use Rattle.engine.specs.Step.{Answer, Step, step, changed_of, with_bank, stored_in, to_register, to_pattern, written}
 use Rattle.acts.proofs.Cases.{by-test}
 use Rattle.basics.specs.Word.{word_at, with_word}
 use Rattle.state.specs.Layout.{state_size, pattern_at, byte_of, slot, byte_in, encoded, regs_in, opened_in, decoded, is_state, Bytes, with_slots, command_slots, followed}
@@ -71,7 +72,7 @@ abbrev passed : Bool → Bool → Bool → List ℕ → List ℕ → Opening
 passed big right waits s x = cond big (opening s (packed 1 0)) (cond right (cond waits (opening s (packed 3 0)) (opening x 0)) (opening s (packed 1 0)))
 
 by_tests : (big right waits : Bool) (e after : Engine) {s s' : List ℕ} (m : List ℕ) → encoded e ≡ s → (right ≡ true → encoded after ≡ s')
-    → called (cond big (step e m Memory) (cond right (cond waits (step e m Waiting) (step after m (Taken 0 0))) (step e m Memory)))
+    → called (cond big (step e m (Err Memory)) (cond right (cond waits (step e m (Err Waiting)) (step after m (Ok (tally 0 0)))) (step e m (Err Memory))))
     ≡ joined m (passed big right waits s s')
 by_tests true right waits e after m p q = ap (λ x. call x m (packed 1 0) 0) p
 by_tests false true true e after m p q = ap (λ x. call x m (packed 3 0) 0) p
@@ -86,8 +87,8 @@ held-tests s len x = refl
 
 plain-written : (s m : List ℕ) (o d : ℕ) (x : List ℕ) → is_state s ≡ true → Bytes s → (after : Engine)
     → written (decoded s) m o d
-    ≡ cond (ltb (2 ^ 24) (length m)) (step (decoded s) m Memory)
-    (cond (eqb (length m) (decoded s).opened) (cond (decoded s).blit.waiting (step (decoded s) m Waiting) (step after m (Taken 0 0))) (step (decoded s) m Memory))
+    ≡ cond (ltb (2 ^ 24) (length m)) (step (decoded s) m (Err Memory))
+    (cond (eqb (length m) (decoded s).opened) (cond (decoded s).blit.waiting (step (decoded s) m (Err Waiting)) (step after m (Ok (tally 0 0)))) (step (decoded s) m (Err Memory)))
     → (length m ≡ (decoded s).opened → encoded after ≡ x) → {s' : List ℕ} {r : ℕ} → opening s' r ≡ tested s (length m) x → call s' m r 0 ≡ written_to s m o d
 plain-written s m o d x t b after w k p =
     ap (joined m) (p ∙ held-tests s (length m) x)
@@ -202,8 +203,8 @@ module _ (s : List ℕ) (h : Opened s) (d : ℕ) (f : d < 2 ^ 32) where
 
 register-step : (e : Engine) (m : List ℕ) (o d : ℕ) → place_of o ≡ Register → (o ≡ 0x70 → ⊥)
     → written e m o d
-    ≡ cond (ltb (2 ^ 24) (length m)) (step e m Memory)
-    (cond (eqb (length m) e.opened) (cond e.blit.waiting (step e m Waiting) (step (stored_in e o d) m (Taken 0 0))) (step e m Memory))
+    ≡ cond (ltb (2 ^ 24) (length m)) (step e m (Err Memory))
+    (cond (eqb (length m) e.opened) (cond e.blit.waiting (step e m (Err Waiting)) (step (stored_in e o d) m (Ok (tally 0 0)))) (step e m (Err Memory)))
 unfolding written to_register
 register-step e m o d q n = rw (q, ne_eqb o 0x70 n)
 
@@ -218,8 +219,8 @@ register-written s m o d t b f q n p =
 
 pattern-step : (e : Engine) (m : List ℕ) (o d : ℕ) {i : ℕ} → place_of o ≡ Pattern i
     → written e m o d
-    ≡ cond (ltb (2 ^ 24) (length m)) (step e m Memory)
-    (cond (eqb (length m) e.opened) (cond e.blit.waiting (step e m Waiting) (step (with_bank e (patterned e.bank i d)) m (Taken 0 0))) (step e m Memory))
+    ≡ cond (ltb (2 ^ 24) (length m)) (step e m (Err Memory))
+    (cond (eqb (length m) e.opened) (cond e.blit.waiting (step e m (Err Waiting)) (step (with_bank e (patterned e.bank i d)) m (Ok (tally 0 0)))) (step e m (Err Memory)))
 unfolding written to_pattern
 pattern-step e m o d q = rw q
 

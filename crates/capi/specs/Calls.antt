@@ -1,11 +1,9 @@
 -- What each call makes of the bytes that are lent to it, in terms of the engine's definitions.
 -- Assumes nothing.
-use Rattle.std.specs.Prelude.{cond, List, ℕ, ◌+◌, ◌*◌, ◌^◌, eqb, ltb, length}
+use Rattle.std.specs.Prelude.{cond, List, ℕ, ◌+◌, ◌*◌, ◌^◌, eqb, ltb, length, Option}
 use Rattle.views.specs.View.{view_answer, view_start, view_count}
-use Rattle.bank.specs.declared.Reading.{Reading}
 use Rattle.bank.specs.Bank.{read_number, read_value}
-use Rattle.engine.specs.declared.Answer.{Answer}
-use Rattle.engine.specs.Step.{Step, number_of, count_of, changed_of, fresh_engine, written, read_from}
+use Rattle.engine.specs.Step.{Answer, Step, number_of, count_of, changed_of, fresh_engine, written, read_from}
 use Rattle.words.specs.Words.{Ran, ran}
 use Rattle.basics.specs.Word.{word_at, with_word}
 use Rattle.registers.specs.Kept.{kept}
@@ -68,7 +66,7 @@ unfoldable pub opened_to : List ℕ → ℕ → Opening
 opened_to s len = cond (eqb (length s) state_size) (opening (encoded (fresh_engine len)) 0) (opening s not_state)
 
 -- ---- read
-abbrev pub packed_reading : Reading → ℕ
+abbrev pub packed_reading : Option ℕ → ℕ
 packed_reading r = packed (read_number r) (read_value r)
 
 unfoldable pub read_of : List ℕ → ℕ → ℕ

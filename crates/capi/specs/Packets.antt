@@ -9,7 +9,7 @@ use Rattle.packets.specs.Answers as answers
 use Rattle.tail.specs.Layout.{reader_size, is_reader}
 use Rattle.tail.specs.Layout as tail
 use Rattle.state.specs.Layout.{is_state}
-use Rattle.capi.specs.Calls.{not_state, Call, written_to, Opening, opening}
+use Rattle.capi.specs.Calls.{not_state, written_to, Opening, opening}
 
 -- the state and the memory that are lent
 pub record Kept : Type 0 where

@@ -8,7 +8,7 @@ ghost use Rattle.capi.specs.Asked.{Draws};
 ghost use Rattle.capi.specs.Packets.{kept, by_call, piece_call, opened_reader, packet_call, packets_to};
 ghost use Rattle.packets.specs.Answers.{lent, Done, called};
 
-use engine::Answer;
+use engine::{Answer, Outcome, changed_of};
 use packets::{Event, Reader};
 use registers::Place;
 
@@ -16,7 +16,7 @@ use registers::Place;
 fn pack(a: Answer) -> u64
     ensures { result ≡ packed_answer a }
 {
-    (a.number() as u64) * 0x1_0000_0000 + (a.count() as u64)
+    u64::from(engine::number_of(a)) * 0x1_0000_0000 + u64::from(engine::count_of(a))
 }
 
 // A word that draws nothing, stored at its place in the state where the tests let it.
@@ -25,10 +25,7 @@ fn put_plain(s: &mut [u8], len: usize, at: usize, word: u32) -> u64
     requires { (length s.old ≡ state_size) × (at + 4 ≤ state_size) }
     ensures { opening s.new result ≡ plainly s.old len at word }
 {
-    if 0x100_0000 < len {
-        return 0x1_0000_0000;
-    }
-    if len != state::opened_for(s) {
+    if 0x100_0000 < len || len != state::opened_for(s) {
         return 0x1_0000_0000;
     }
     if basics::word_at(s, 4) == 1 {
@@ -57,12 +54,9 @@ fn run(s: &mut [u8], mem: &mut [u8], offset: u32, word: u32, changed: &mut u32) 
     requires { (is_state s.old ≡ true) × (Bytes s.old × Draws offset) }
     ensures { call s.new mem.new result changed.new ≡ written_to s.old mem.old offset word }
 {
-    let e = state::decode(s);
-    let out = e.write(mem, offset, word);
-    let next = out.engine;
-    let answer = out.answer;
-    state::save(s, next);
-    *changed = answer.changed();
+    let Outcome { engine, answer } = state::decode(s).write(mem, offset, word);
+    state::save(s, engine);
+    *changed = changed_of(answer);
     pack(answer)
 }
 
@@ -105,8 +99,7 @@ pub extern "C" fn rimebarrow_write(
     if !state::is_state(state) {
         return 0xff_0000_0000;
     }
-    let place = registers::find_place(offset);
-    match place {
+    match registers::find_place(offset) {
         Place::Register => {
             if offset == 0x70 {
                 return run(state, memory, offset, word, changed);
@@ -114,8 +107,7 @@ pub extern "C" fn rimebarrow_write(
             put_register(state, memory.len(), offset, word)
         }
         Place::Pattern(at) => put_plain(state, memory.len(), 0x8c + at, word),
-        Place::Launch => run(state, memory, offset, word, changed),
-        Place::Nowhere => run(state, memory, offset, word, changed),
+        Place::Launch | Place::Nowhere => run(state, memory, offset, word, changed),
     }
 }
 
@@ -140,12 +132,11 @@ pub extern "C" fn rimebarrow_run(
     }
     let e = state::decode(state);
     let out = words::take_run(e, memory, run);
-    let next = out.engine;
-    state::save(state, next);
+    state::save(state, out.engine);
     *taken = out.sums.taken;
     *count = out.sums.count;
     *changes = out.sums.changed;
-    out.number
+    out.number()
 }
 
 // What became of a piece: the reader, how many bytes were used, and how many answers were given.
@@ -193,30 +184,25 @@ fn feed(
 ) -> Fed
     ensures { piece_call result.reader state.new memory.new answers.new result.used result.answered ≡ called by_call reader (kept state.old memory.old) piece.now answers.old }
 {
-    let mut r = reader;
-    let mut used = 0;
-    let mut answered = 0;
-    while used < piece.len() {
-        let room = packets::has_room(answers.len(), answered);
-        if (2 < r.held) & !room {
-            return Fed {
-                reader: r,
-                used: used,
-                answered: answered,
-            };
+    let mut f = Fed {
+        reader,
+        used: 0,
+        answered: 0,
+    };
+    // while: a turn uses as many bytes as the reader takes at once.
+    while f.used < piece.len() {
+        let room = packets::has_room(answers.len(), f.answered);
+        if (2 < f.reader.held) & !room {
+            return f;
         }
-        let n = r.next(piece, used, room);
-        let event = n.event;
-        answered = tell(state, memory, answers, answered, event);
-        let after = n.reader;
-        r = after;
-        used = n.used;
+        let n = f.reader.next(piece, f.used, room);
+        f = Fed {
+            reader: n.reader,
+            used: n.used,
+            answered: tell(state, memory, answers, f.answered, n.event),
+        };
     }
-    Fed {
-        reader: r,
-        used: used,
-        answered: answered,
-    }
+    f
 }
 
 // An empty reader: 0, or 255 where its bytes have another number.
@@ -248,15 +234,11 @@ pub extern "C" fn rimebarrow_packets(
 {
     *used = 0;
     *answered = 0;
-    if !tail::is_reader(reader) {
-        return 255;
-    }
-    if !state::is_state(state) {
+    if !tail::is_reader(reader) || !state::is_state(state) {
         return 255;
     }
     let fed = feed(tail::decode(reader), state, memory, piece, answers);
-    let after = fed.reader;
-    tail::save(reader, after);
+    tail::save(reader, fed.reader);
     *used = fed.used;
     *answered = fed.answered;
     0
@@ -270,12 +252,10 @@ pub extern "C" fn rimebarrow_read(state: &[u8], offset: u32) -> u64
     if !state::is_state(state) {
         return 0xff_0000_0000;
     }
-    let place = registers::find_place(offset);
-    match place {
-        Place::Register => basics::word_at(state, offset as usize) as u64,
-        Place::Pattern(at) => basics::word_at(state, 0x8c + at) as u64,
-        Place::Launch => 0x2_0000_0000,
-        Place::Nowhere => 0x2_0000_0000,
+    match registers::find_place(offset) {
+        Place::Register => u64::from(basics::word_at(state, offset as usize)),
+        Place::Pattern(at) => u64::from(basics::word_at(state, 0x8c + at)),
+        Place::Launch | Place::Nowhere => 0x2_0000_0000,
     }
 }
 

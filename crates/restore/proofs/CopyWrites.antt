@@ -32,7 +32,9 @@ use Rattle.table.specs.Table.{target_fine, pixels, copy_verdict}
 use Rattle.acts.specs.Deed.{starting}
 use Rattle.acts.proofs.Numbers.{carry-copy}
 use Rattle.engine.specs.declared.Engine.{Engine}
-use Rattle.engine.specs.declared.Answer.TheVariants.{Taken, Waiting}
+use Rattle.std.specs.Prelude.{Ok, Err}
+use Rattle.paint.specs.Tally.{tally}
+use Rattle.engine.specs.declared.Refusal.TheVariants.{Waiting}
 use Rattle.engine.specs.Step.{Step, step, judging, number_of, count_of, regs, idle, stored_in, carried, launched, commanded, to_register, to_place, written}
 use Rattle.engine.specs.Orders.{launching, order_at, order}
 use Rattle.engine.specs.Writes.{Write, by, start_at, starts}
@@ -72,8 +74,8 @@ module _ (e : Engine) (m : List ℕ) (w : Write) (r : Regs) (copy : number r ≡
         next = after;
         holds = h;
         carries =
-            ap (λ t. cond t (commanded e m w.word) (cond e.blit.waiting (step e m Waiting) (step (stored_in e w.offset w.word) m (Taken 0 0)))) (eq-eqb w.offset 0x70 o)
-            ∙ ap (λ t. cond t (carried e after m) (step after m (Taken 0 0))) b
+            ap (λ t. cond t (commanded e m w.word) (cond e.blit.waiting (step e m (Err Waiting)) (step (stored_in e w.offset w.word) m (Ok (tally 0 0))))) (eq-eqb w.offset 0x70 o)
+            ∙ ap (λ t. cond t (carried e after m) (step after m (Ok (tally 0 0)))) b
             ∙ carried-copy e after m (ap (λ (k : Regs). number k) h ∙ copy);
         opened = refl;
         rests = refl;

@@ -21,8 +21,7 @@ use Rattle.cuts.specs.Cut.{bit, number}
 use Rattle.table.specs.Table.{fill_verdict, copy_verdict, stretch_verdict, host_verdict, line_verdict}
 use Rattle.acts.specs.Deed.{Made, Deed, carrying, starting}
 use Rattle.engine.specs.declared.Engine.{Engine}
-use Rattle.engine.specs.declared.Answer.{Answer}
-use Rattle.engine.specs.Step.{Step, step, making, judging, number_of, regs, idle, with_bank, with_blit, stored_in, carried, launched, commanded, to_register, to_pattern, to_place, written}
+use Rattle.engine.specs.Step.{Answer, Step, step, making, judging, number_of, regs, idle, with_bank, with_blit, stored_in, carried, launched, commanded, to_register, to_pattern, to_place, written}
 use Rattle.engine.specs.Writes.{Write, by, start_at, starts}
 use Rattle.engine.proofs.Short.{after_rect, after_line, filled, copied, stretched, lined, begun, fed}
 use Rattle.acts.proofs.Cases.{by-test, picked, by-number}

@@ -10,8 +10,7 @@ use Rattle.command.specs.Decode.{target, origins}
 use Rattle.cuts.specs.Cut.{bit, number, width, height, clip_of}
 use Rattle.table.specs.Table.{both_fine, all_on_at}
 use Rattle.engine.specs.declared.Engine.{Engine}
-use Rattle.engine.specs.declared.Answer.{Answer}
-use Rattle.engine.specs.Step.{number_of, count_of}
+use Rattle.engine.specs.Step.{Answer, number_of, count_of}
 use Rattle.engine.specs.Writes.{Write, by, Run, played, starts}
 use Rattle.restore.specs.Rectangles.{Rectangle, source_rect, target_rect, positions, Has, addresses_in, Apart}
 

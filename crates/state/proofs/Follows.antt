@@ -1,27 +1,18 @@
 -- What is kept of a surface, in a state: put there after a store into one of its registers.
 -- Assumes nothing.
 use mathlib.Core.Path.{◌≡◌, ap, ◌∙◌}
-use mathlib.Core.Logic.{◌⊎◌, ⊎_elim}
 use mathlib.Core.Bool.{false}
 use mathlib.Core.List.{List}
 use Prim.Native.Nat.{ℕ, ◌+◌, ◌%◌, ◌^◌, ◌<◌, ◌≤◌}
 use native.Mathlib.Omega.{arith}
 use lib.ListN.{length, get_or}
 use Rattle.basics.specs.Word.{word_at, with_word}
-use Rattle.rooms.specs.Room.{target_room, source_room, of_target, of_source}
-use Rattle.state.specs.Layout.{byte_of, with_room, followed}
+use Rattle.rooms.specs.Room.{of_target, of_source}
+use Rattle.state.specs.Layout.{byte_of, followed}
 use Rattle.state.proofs.Places.{word-own, word-from, word-other}
 
 -- ---- by the offset
 module _ (s : List ℕ) (len o : ℕ) where
-  pub followed-target : (o ≡ 0x10) ⊎ (o ≡ 0x14) → followed s len o ≡ with_room s 0x84 (target_room len (word_at s 0x10) (word_at s 0x14))
-  unfolding followed
-  followed-target p = ⊎_elim (λ e. rw e) (λ e. rw e) p
-
-  pub followed-source : (o ≡ 0x34) ⊎ (o ≡ 0x54) → followed s len o ≡ with_room s 0x7c (source_room len (word_at s 0x34) (word_at s 0x54))
-  unfolding followed
-  followed-source p = ⊎_elim (λ e. rw e) (λ e. rw e) p
-
   pub followed-none : of_target o ≡ false → of_source o ≡ false → followed s len o ≡ s
   unfolding followed
   followed-none t f = rw (t, f)

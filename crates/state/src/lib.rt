@@ -15,10 +15,7 @@ use rooms::{Room, Rooms};
 pub fn is_state(s: &[u8]) -> bool
     ensures { (result ≡ is_state s.now) × (result ≡ true → Bytes s.now) }
 {
-    if s.len() != 396 {
-        return false;
-    }
-    (basics::word_at(s, 0) == 0x656d_6952) & (basics::word_at(s, 4) < 2)
+    s.len() == 396 && basics::word_at(s, 0) == 0x656d_6952 && basics::word_at(s, 4) < 2
 }
 
 #[tactic(auto, unfolding(crate::specs::Layout::regs_in))]
@@ -59,8 +56,8 @@ fn decode_pattern(s: &[u8]) -> [u8; 256]
     requires { length s.now ≡ state_size }
     ensures { result ≡ pattern_in s.now }
 {
-    let mut p = [0u8; 256];
-    p.copy_from_slice(&s[0x8c..0x8c + 256]);
+    let mut p = [0; 256];
+    p.copy_from_slice(&s[0x8c..]);
     p
 }
 
@@ -105,22 +102,22 @@ pub fn decode(s: &[u8]) -> Engine
 }
 
 // What a command can change: four registers and the host blit.
+#[tactic(auto, unfolding(crate::specs::Layout::slot, registers::specs::Regs::get_reg))]
 pub fn save(s: &mut [u8], e: Engine)
     requires { length s.old ≡ state_size }
     ensures { s.new ≡ with_slots s.old e command_slots }
 {
-    let Engine { bank, blit, .. } = e;
-    let regs = bank.regs;
-    basics::put_word(s, 0x40, regs.line_style);
-    basics::put_word(s, 0x5c, regs.src_xy);
-    basics::put_word(s, 0x6c, regs.dst_xy);
-    basics::put_word(s, 0x70, regs.command);
-    basics::put_word(s, 4, blit.waiting as u32);
-    basics::put_word(s, 0x44, blit.taken);
-    basics::put_word(s, 0x48, blit.last);
+    basics::put_word(s, 0x40, e.bank.regs.line_style);
+    basics::put_word(s, 0x5c, e.bank.regs.src_xy);
+    basics::put_word(s, 0x6c, e.bank.regs.dst_xy);
+    basics::put_word(s, 0x70, e.bank.regs.command);
+    basics::put_word(s, 4, u32::from(e.blit.waiting));
+    basics::put_word(s, 0x44, e.blit.taken);
+    basics::put_word(s, 0x48, e.blit.last);
 }
 
 // What is kept of the surface that a register belongs to, worked out anew after a store into it.
+#[tactic(auto, unfolding(crate::specs::Layout::followed))]
 pub fn follow(s: &mut [u8], len: u32, offset: u32)
     requires { (length s.old ≡ state_size) × (len ≤ 2 ^ 24) }
     ensures { s.new ≡ followed s.old len offset }

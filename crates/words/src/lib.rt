@@ -1,9 +1,8 @@
 // Runs of words for the launch area: launch writes in order, up to the first that is refused.
 #![tactic(auto)]
 
-ghost use Rattle.std.specs.Prelude.{◌≡◌, ◌+◌, ◌%◌, ◌^◌, ◌<◌, length};
-ghost use Rattle.words.specs.Words.{ran, ran_of};
-ghost use Rattle.words.specs.Turn.{sofar, turned, Went};
+ghost use Rattle.std.specs.Prelude.{◌≡◌, ◌+◌, ◌%◌, ◌^◌, ◌<◌};
+ghost use Rattle.words.specs.Words.{ran, ran_of, stop_number};
 
 use acts::Operation;
 use engine::{Engine, Refusal};
@@ -23,6 +22,15 @@ pub struct Run {
     pub engine: Engine,
     pub stopped: Option<Refusal>,
     pub sums: Sums,
+}
+
+impl Run {
+    // The number of the refusal that stopped it, or 0.
+    pub fn number(self) -> u32
+        ensures { result ≡ stop_number self.stopped }
+    {
+        self.stopped.map_or(0, Refusal::number)
+    }
 }
 
 // The sums after n words more.

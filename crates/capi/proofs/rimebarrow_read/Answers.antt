@@ -1,5 +1,6 @@
 -- `rimebarrow_read` meets its contract: by whether the bytes are a state, and by what the offset names.
 -- Assumes nothing.
+use mathlib.Core.Logic.{⊎_elim}
 use mathlib.Core.Path.{sym, ◌∙◌}
 use native.Mathlib.Omega.{arith}
 use Rattle.registers.proofs.OffsetLaws.{pattern-word}
@@ -12,22 +13,21 @@ pub returns-then-not-is_state : goal.returns-then-not-is_state
 returns-then-not-is_state c = not-read _ _ (sym c.is_state.ensures.0 ∙ c.if-not-is_state.true)
 
 pub word_at-requires : goal.word_at-requires
-word_at-requires c = let w = register-word _ (sym c.find_place-place.ensures ∙ c.in-Register.is) in omega (arith, w.0, w.1, (opened c.args.state.now (sym c.is_state.ensures.0 ∙ c.if-not-is_state.false) (c.is_state.ensures.1 c.if-not-is_state.false)).size)
+word_at-requires c = let w = register-word _ (sym c.find_place.ensures ∙ c.in-Register.is) in omega (arith, w.0, w.1, (opened c.args.state.now (sym c.is_state.ensures.0 ∙ c.if-not-is_state.false) (c.is_state.ensures.1 c.if-not-is_state.false)).size)
 
 pub overflow_add-at : goal.overflow_add-at
-overflow_add-at c = let w = pattern-word _ (sym c.find_place-place.ensures ∙ c.in-Pattern.is) in omega (arith, w.1)
+overflow_add-at c = let w = pattern-word _ (sym c.find_place.ensures ∙ c.in-Pattern.is) in omega (arith, w.1)
 
 pub word_at-requires-in-Pattern : goal.word_at-requires-in-Pattern
-word_at-requires-in-Pattern c = let w = pattern-word _ (sym c.find_place-place.ensures ∙ c.in-Pattern.is) in omega (arith, w.1, (opened c.args.state.now (sym c.is_state.ensures.0 ∙ c.if-not-is_state.false) (c.is_state.ensures.1 c.if-not-is_state.false)).size)
+word_at-requires-in-Pattern c = let w = pattern-word _ (sym c.find_place.ensures ∙ c.in-Pattern.is) in omega (arith, w.1, (opened c.args.state.now (sym c.is_state.ensures.0 ∙ c.if-not-is_state.false) (c.is_state.ensures.1 c.if-not-is_state.false)).size)
 
 pub returns-in-Register : goal.returns-in-Register
-returns-in-Register c = c.word_at.ensures ∙ register-read _ _ (sym c.is_state.ensures.0 ∙ c.if-not-is_state.false) (sym c.find_place-place.ensures ∙ c.in-Register.is)
+returns-in-Register c = c.from.ensures ∙ c.word_at.ensures ∙ register-read _ _ (sym c.is_state.ensures.0 ∙ c.if-not-is_state.false) (sym c.find_place.ensures ∙ c.in-Register.is)
 
 pub returns-in-Pattern : goal.returns-in-Pattern
-returns-in-Pattern c = c.word_at-in-Pattern.ensures ∙ pattern-read _ _ (sym c.is_state.ensures.0 ∙ c.if-not-is_state.false) (sym c.find_place-place.ensures ∙ c.in-Pattern.is)
+returns-in-Pattern c = c.from-in-Pattern.ensures ∙ c.word_at-in-Pattern.ensures ∙ pattern-read _ _ (sym c.is_state.ensures.0 ∙ c.if-not-is_state.false) (sym c.find_place.ensures ∙ c.in-Pattern.is)
 
 pub returns-in-Launch : goal.returns-in-Launch
-returns-in-Launch c = launch-read _ _ (sym c.is_state.ensures.0 ∙ c.if-not-is_state.false) (sym c.find_place-place.ensures ∙ c.in-Launch.is)
-
-pub returns-in-Nowhere : goal.returns-in-Nowhere
-returns-in-Nowhere c = nowhere-read _ _ (sym c.is_state.ensures.0 ∙ c.if-not-is_state.false) (sym c.find_place-place.ensures ∙ c.in-Nowhere.is)
+returns-in-Launch c =
+    let state = sym c.is_state.ensures.0 ∙ c.if-not-is_state.false in
+    ⊎_elim (λ e. launch-read _ _ state (sym c.find_place.ensures ∙ e)) (λ e. nowhere-read _ _ state (sym c.find_place.ensures ∙ e)) c.in-Launch.is

@@ -17,4 +17,4 @@ save-requires c = (opened c.args.state.now (sym c.is_state.ensures.0 ∙ c.if-no
 pub returns : goal.returns
 returns c =
     let a = c.args in
-    state-run a.state.now a.memory.now a.run.now (sym c.is_state.ensures.0 ∙ c.if-not-is_state.false) (c.is_state.ensures.1 c.if-not-is_state.false) c.decode-e.ensures c.take_run-out.ensures c.save.ensures
+    rw c.number.ensures (state-run a.state.now a.memory.now a.run.now (sym c.is_state.ensures.0 ∙ c.if-not-is_state.false) (c.is_state.ensures.1 c.if-not-is_state.false) c.decode-e.ensures c.take_run-out.ensures c.save.ensures)
