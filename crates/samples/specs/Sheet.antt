@@ -1,7 +1,7 @@
 -- The lines of the sample sheet of document 01 as a list: what the definitions give beside what the sheet says. The samples of the requests that
 -- followed are the project's own, since their document marks none.
 -- Assumes nothing.
-use Rattle.std.specs.Prelude.{List, [], ◌∷◌, ◌++◌, map, true, false, cond, ℕ, zero, suc, ◌-◌, ◌/◌, ◌%◌, eqb, ℤ, pos, negsuc, length, get_or}
+use Rattle.std.specs.Prelude.{List, [], ◌∷◌, ◌++◌, map, true, false, cond, ℕ, zero, suc, ◌-◌, ◌/◌, ◌%◌, eqb, ℤ, pos, negsuc, length, get_or, Ok}
 use Rattle.colour.specs.Convert.{repeated, narrowed}
 use Rattle.raster.specs.Rop.{rop_bits}
 use Rattle.surface.specs.declared.Surface.{Surface}
@@ -18,7 +18,7 @@ use Rattle.host.specs.Host.{Pixel, by_word}
 use Rattle.positions.specs.Position.{placed, signed_of, stepped_xy}
 use Rattle.scale.specs.declared.Scale.{Scale}
 use Rattle.scale.specs.Scale.{scaled}
-use Rattle.engine.specs.declared.Answer.TheVariants.{Taken}
+use Rattle.paint.specs.Tally.{tally}
 use Rattle.engine.specs.Step.{Step, step, fresh_engine, written, number_of, count_of, changed_of}
 
 -- a line of the sheet: the numbers that the definitions give, and those that the sheet says
@@ -59,7 +59,7 @@ columns_to source_size size = record { to = 0; size = size; from = 0; source_siz
 
 -- a fresh engine, opened for a memory, and that memory
 abbrev pub fresh : List ℕ → Step
-fresh m = step (fresh_engine (length m)) m (Taken 0 0)
+fresh m = step (fresh_engine (length m)) m (Ok (tally 0 0))
 
 -- engine, memory and the last answer after writes, each an offset and a word
 abbrev pub played : Step → List ℕ → Step
