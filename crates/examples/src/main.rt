@@ -16,11 +16,10 @@ fn say_number<W: Write>(out: &mut W, text: &[u8], n: u64) -> io::Result<()> {
 }
 
 fn say_answer<W: Write>(out: &mut W, a: Answer) -> io::Result<()> {
-    let number = a.number();
-    say_number(out, b"", number as u64)?;
-    if number == 0 {
-        say_number(out, b", pixels ", a.count() as u64)?;
-        say_number(out, b", changed ", a.changed() as u64)?;
+    say_number(out, b"", engine::number_of(a) as u64)?;
+    if let Ok(tally) = a {
+        say_number(out, b", pixels ", tally.count as u64)?;
+        say_number(out, b", changed ", tally.changed as u64)?;
     }
     Ok(())
 }

@@ -5,7 +5,7 @@
 
 ghost use Rattle.std.specs.Prelude.{◌≤◌};
 
-use engine::{Answer, Engine};
+use engine::Engine;
 use std::io::{self, BufWriter, Write};
 
 fn say<W: Write>(out: &mut W, text: &[u8]) -> io::Result<()> {
@@ -33,13 +33,12 @@ fn put_aloud<W: Write>(
 ) -> io::Result<Engine> {
     say(out, text)?;
     let done = e.write(mem, offset, word);
-    let answer = done.answer;
-    match answer {
-        Answer::Taken(n, c) => {
-            say_number(out, b"taken, pixels ", n as u64)?;
-            say_number(out, b", changed ", c as u64)?;
+    match done.answer {
+        Ok(tally) => {
+            say_number(out, b"taken, pixels ", tally.count as u64)?;
+            say_number(out, b", changed ", tally.changed as u64)?;
         }
-        _ => say(out, b"refused")?,
+        Err(_) => say(out, b"refused")?,
     }
     say(out, b"\n")?;
     Ok(done.engine)
