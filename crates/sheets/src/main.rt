@@ -2,8 +2,7 @@
 // the sheet of an engine that is wrong in that way. A sheet has 16 by 8 pixels of 8 bits: 0 is shown as a dot, 1 as o, 2 as x.
 #![tactic(auto)]
 
-use bank::Reading;
-use engine::{Answer, Engine};
+use engine::Engine;
 use std::io::{self, BufWriter, Write};
 
 fn say<W: Write>(out: &mut W, text: &[u8]) -> io::Result<()> {
@@ -24,10 +23,9 @@ fn put_aloud<W: Write>(
     word: u32,
 ) -> io::Result<Engine> {
     let done = e.write(mem, offset, word);
-    let answer = done.answer;
-    match answer {
-        Answer::Taken(n, c) => write!(out, "pixels {n}, changed {c}")?,
-        _ => say(out, b"refused")?,
+    match done.answer {
+        Ok(tally) => write!(out, "pixels {}, changed {}", tally.count, tally.changed)?,
+        Err(_) => say(out, b"refused")?,
     }
     say(out, b"\n")?;
     Ok(done.engine)
@@ -35,10 +33,9 @@ fn put_aloud<W: Write>(
 
 fn say_register<W: Write>(out: &mut W, name: &[u8], e: Engine, offset: u32) -> io::Result<()> {
     say(out, name)?;
-    let r = e.read(offset);
-    match r {
-        Reading::Value(v) => write!(out, "{v:08x}")?,
-        Reading::Refused => say(out, b"refused")?,
+    match e.read(offset) {
+        Some(v) => write!(out, "{v:08x}")?,
+        None => say(out, b"refused")?,
     }
     say(out, b"\n")
 }

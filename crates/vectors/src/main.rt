@@ -2,7 +2,6 @@
 // as o, an untouched one as a dot.
 #![tactic(auto)]
 
-use bank::Reading;
 use engine::Engine;
 use std::io::{self, BufWriter, Write};
 
@@ -17,10 +16,9 @@ fn put(e: Engine, mem: &mut [u8; 512], offset: u32, word: u32) -> Engine {
 
 fn say_register<W: Write>(out: &mut W, name: &[u8], e: Engine, offset: u32) -> io::Result<()> {
     say(out, name)?;
-    let r = e.read(offset);
-    match r {
-        Reading::Value(v) => write!(out, "{v:08x}")?,
-        Reading::Refused => say(out, b"refused")?,
+    match e.read(offset) {
+        Some(v) => write!(out, "{v:08x}")?,
+        None => say(out, b"refused")?,
     }
     say(out, b"\n")
 }
