@@ -1,8 +1,10 @@
 -- `rimebarrow_read` meets its contract: by whether the bytes are a state, and by what the offset names.
 -- Assumes nothing.
-use mathlib.Core.Logic.{⊎_elim}
-use mathlib.Core.Path.{sym, ◌∙◌}
+use borrow.Author.Rules.{rules}
+use mathlib.Core.Logic.{◌⊎◌, ⊎_elim}
+use mathlib.Core.Path.{◌≡◌, sym, ◌∙◌}
 use native.Mathlib.Omega.{arith}
+use Rattle.registers.specs.declared.Place.TheVariants.{Launch, Nowhere}
 use Rattle.registers.proofs.OffsetLaws.{pattern-word}
 use Rattle.state.proofs.Back.{opened}
 use Rattle.capi.proofs.Writes.{register-word}
@@ -30,4 +32,5 @@ returns-in-Pattern c = c.from-in-Pattern.ensures ∙ c.word_at-in-Pattern.ensure
 pub returns-in-Launch : goal.returns-in-Launch
 returns-in-Launch c =
     let state = sym c.is_state.ensures.0 ∙ c.if-not-is_state.false in
-    ⊎_elim (λ e. launch-read _ _ state (sym c.find_place.ensures ∙ e)) (λ e. nowhere-read _ _ state (sym c.find_place.ensures ∙ e)) c.in-Launch.is
+    let unread : (c.find_place.result ≡ Launch) ⊎ (c.find_place.result ≡ Nowhere) = search (rules, c.in-Launch.is) in
+    ⊎_elim (λ e. launch-read _ _ state (sym c.find_place.ensures ∙ e)) (λ e. nowhere-read _ _ state (sym c.find_place.ensures ∙ e)) unread
