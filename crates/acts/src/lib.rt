@@ -46,6 +46,7 @@ impl Operation {
 }
 
 // A host blit: how many words it has taken, the last of them, and whether it waits for more.
+// A flag beside numbers: `no_blit` and `feeding` of the definitions hold the three, and so does the state that a caller in C keeps.
 #[derive(Clone, Copy)]
 pub struct Blit {
     pub taken: u32,
@@ -147,6 +148,7 @@ fn unpainted(ends: Ends, blit: Blit) -> Act
     }
 }
 
+// Registers, pattern, blit, memory and rooms one by one, here and below: `carry`, `start` and `launch` are given them so.
 #[tactic(auto, using(crate::proofs::Laws::verdicts), unfolding(command::specs::Decode::fill_task, command::specs::Decode::ink_of))]
 fn fill(
     regs: Regs,
@@ -246,7 +248,7 @@ fn begin(regs: Regs, blit: Blit, mem: &[u8], rooms: Rooms) -> Result<Act, Fault>
     Ok(unpainted(end_rect(regs), no_blit()))
 }
 
-// The pixels that a word of data finishes; the tally of those written.
+// The pixels that a word of data finishes; the tally of those written. Apart from `paint_words`: `plain` and `host` have a function for each.
 fn paint_word(regs: Regs, pattern: [u8; 256], blit: Blit, mem: &mut [u8], word: u32) -> Tally
     requires { Feeds (bank_of regs pattern) blit (length mem.old) 1 }
     ensures { tallied mem.new result ≡ painted_by (bank_of regs pattern) (touched_by_word (bank_of regs pattern) blit word) mem.old }

@@ -45,6 +45,7 @@ pub fn decode_ink(r: Regs) -> Ink
         rop1: r.rop % 0x100,
         rop2: r.rop / 0x100 % 0x100,
         rop3: r.rop / 0x1_0000 % 0x100,
+        // e / 1: bit 0, as the definition says a bit.
         src_key: e / 1 % 2 == 1,
         src_min: r.src_colorkey_min,
         src_max: r.src_colorkey_max,
