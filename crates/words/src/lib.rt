@@ -1,8 +1,9 @@
 // Runs of words for the launch area: launch writes in order, up to the first that is refused.
 #![tactic(auto)]
 
-ghost use Rattle.std.specs.Prelude.{◌≡◌, ◌+◌, ◌%◌, ◌^◌, ◌<◌};
+ghost use Rattle.std.specs.Prelude.{◌≡◌, ◌+◌, ◌%◌, ◌^◌, ◌<◌, length};
 ghost use Rattle.words.specs.Words.{ran, ran_of, stop_number};
+ghost use Rattle.words.specs.Turn.{sofar, turned, Went};
 
 use acts::Operation;
 use engine::{Engine, Refusal};
