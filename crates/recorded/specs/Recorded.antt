@@ -1,7 +1,7 @@
 -- What programs that play recorded streams share: the memory's bytes at the start, how much of it is lent, and checksums of registers and memory. What a
 -- sheet holds does not hang on any of it.
 -- Assumes nothing.
-use Rattle.std.specs.Prelude.{◌≡◌, cond, List, [], ◌∷◌, ℕ, zero, suc, ◌+◌, ◌-◌, ◌*◌, ◌/◌, ◌%◌, ◌^◌, ◌<◌, eqb, ltb, length, get_or}
+use Rattle.std.specs.Prelude.{◌≡◌, cond, List, [], ◌∷◌, ℕ, zero, suc, ◌+◌, ◌-◌, ◌*◌, ◌/◌, ◌%◌, ◌^◌, ◌<◌, eqb, length, get_or}
 use Rattle.std.specs.Int.Bits.{bit_xor}
 use Rattle.basics.specs.Each.{each}
 use Rattle.bank.specs.Bank.{read_value}
@@ -20,9 +20,6 @@ pub record Started (m : List ℕ) (len seed : ℕ) : Type 0 where
 -- how much of it is lent: all, or all but its last byte
 abbrev pub lent_of : ℕ → ℕ → ℕ
 lent_of len kind = cond (eqb kind 1) (len - 1) len
-
-abbrev pub least_of : ℕ → ℕ → ℕ
-least_of a b = cond (ltb a b) a b
 
 -- ---- checksums, FNV-1a in 32 bits: of no bytes, and after one more
 abbrev pub no_bytes : ℕ

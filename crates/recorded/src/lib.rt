@@ -3,7 +3,7 @@
 
 ghost use Rattle.std.specs.Prelude.{◌≡◌, ◌+◌, ◌*◌, ◌/◌, ◌%◌, ◌^◌, ◌≤◌, ◌<◌, length};
 ghost use Rattle.basics.specs.Each.{each};
-ghost use Rattle.recorded.specs.Recorded.{start_byte, Started, lent_of, least_of, mixed, mixed_word, memory_sum, reads_from, room_words, register_sum};
+ghost use Rattle.recorded.specs.Recorded.{start_byte, Started, lent_of, mixed, mixed_word, memory_sum, reads_from, room_words, register_sum};
 
 use engine::Engine;
 use rooms::Rooms;
@@ -33,12 +33,6 @@ pub fn lent(len: usize, kind: u32) -> usize
     } else {
         len
     }
-}
-
-pub fn least(a: usize, b: usize) -> usize
-    ensures { (result ≡ least_of a b) × (result ≤ b) }
-{
-    a.min(b)
 }
 
 // The checksum after one byte more.
