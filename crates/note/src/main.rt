@@ -3,8 +3,6 @@
 // place aside are different at the end.
 #![tactic(auto)]
 
-ghost use Rattle.std.specs.Prelude.{◌<◌};
-
 use engine::Engine;
 use scripts::play;
 use std::io::{self, BufWriter, Write};
@@ -31,19 +29,15 @@ fn put_aloud<W: Write>(
 }
 
 // Whether byte a belongs to the 13 by 9 pixels from byte 1024 on, in rows of so many bytes.
-fn in_aside(a: usize, stride: usize, bytes: usize) -> bool
-    requires { (0 < stride) × (bytes < 8) }
-{
+fn in_aside(a: usize, stride: usize, bytes: usize) -> bool {
     match a.checked_sub(1024) {
-        Some(k) => (k / stride < 9) & (k % stride < 13 * bytes),
-        None => false,
+        Some(k) if stride != 0 => (k / stride < 9) & (k % stride < 13 * (bytes % 8)),
+        _ => false,
     }
 }
 
 // How many bytes differ, those of the place aside left out.
-fn differ(start: &[u8], mem: &[u8], stride: usize, bytes: usize) -> usize
-    requires { (0 < stride) × (bytes < 8) }
-{
+fn differ(start: &[u8], mem: &[u8], stride: usize, bytes: usize) -> usize {
     let mut n = 0usize;
     for (a, (old, new)) in start.iter().zip(mem).enumerate() {
         if (old != new) & !in_aside(a, stride, bytes) {
@@ -117,13 +111,12 @@ fn put_back<W: Write>(out: &mut W, e: Engine, mem: &mut [u8], format: u32) -> io
 
 fn save_and_restore<W: Write>(
     out: &mut W,
+    name: &str,
     format: u32,
     stride: usize,
     bytes: usize,
-) -> io::Result<()>
-    requires { (0 < stride) × (bytes < 8) }
-{
-    writeln!(out, "{} bits a pixel", 8 * bytes)?;
+) -> io::Result<()> {
+    writeln!(out, "{name}")?;
     // a sheet with no two rows alike
     let mut mem = [0u8; 2048];
     for (i, byte) in mem.iter_mut().enumerate() {
@@ -147,7 +140,7 @@ fn save_and_restore<W: Write>(
 
 fn main(rt: HostRuntime) -> io::Result<()> {
     let mut out = BufWriter::new(rt.alloc(), rt.stdout())?;
-    save_and_restore(&mut out, 0x3_0028, 40, 2)?;
-    save_and_restore(&mut out, 0x4_003c, 60, 3)?;
+    save_and_restore(&mut out, "16 bits a pixel", 0x3_0028, 40, 2)?;
+    save_and_restore(&mut out, "24 bits a pixel", 0x4_003c, 60, 3)?;
     out.flush()
 }

@@ -2,6 +2,8 @@
 // formula in reverse Polish over P, S, D, 0 and 1 with a (and), o (or), x (exclusive or) and n (not). Empty lines and lines that begin with # are passed over.
 #![tactic(auto)]
 
+ghost use Rattle.std.specs.Prelude.{◌<◌, IfSome};
+
 use arrayvec::ArrayVec;
 use std::io::{self, BufWriter, Read, Write};
 
@@ -38,7 +40,9 @@ fn evaluate(formula: &[u8]) -> Option<u8> {
     if stack.is_empty() { Some(value) } else { None }
 }
 
-fn digit(c: u8) -> Option<u8> {
+fn digit(c: u8) -> Option<u8>
+    ensures { IfSome result (λ d. d < 16) }
+{
     match c {
         b'0'..=b'9' => Some(c - b'0'),
         b'A'..=b'F' => Some(c - b'A' + 10),
