@@ -8,14 +8,11 @@ use Rattle.surface.specs.Place.{on_surface}
 use Rattle.spans.proofs.Corner.{rect-corner, rect-none}
 use Rattle.spans.proofs.box_on.Goals as goal
 
-pub returns-then-w-eq0 : goal.returns-then-w-eq0
-returns-then-w-eq0 c = sym (rect-none false false c.args.s c.args.len 0 0 c.args.w c.args.h (λ p q. omega (arith, c.if-w-eq0.true)))
-
 pub returns-then-h-eq0 : goal.returns-then-h-eq0
-returns-then-h-eq0 c = sym (rect-none false false c.args.s c.args.len 0 0 c.args.w c.args.h (λ p q. omega (arith, c.if-h-eq0.true)))
+returns-then-h-eq0 c = cc (rect-none false false c.args.s c.args.len 0 0 c.args.w c.args.h (λ p q. omega arith))
 
-pub returns : goal.returns
-returns c = let a = c.args in
+pub returns-else-h-eq0 : goal.returns-else-h-eq0
+returns-else-h-eq0 c = let a = c.args in
     let x : a.w - 1 ≡ 0 + (a.w - 1) = omega arith in
     let y : a.h - 1 ≡ 0 + (a.h - 1) = omega arith in
     c.close_on.ensures ∙ ap₂ (on_surface a.s a.len) x y ∙ sym (rect-corner false false a.s a.len 0 0 a.w a.h (omega arith) (omega arith))

@@ -1,12 +1,8 @@
 -- `spans::on_surface` meets its contract: the last byte decides.
 -- Assumes nothing.
-use native.Mathlib.Omega.{arith}
 use borrow.Author.Tests.{lt-ltb, le-ltb}
 use Rattle.surface.proofs.OnLaws.{on-decided}
 use Rattle.spans.proofs.on_surface.Goals as goal
-
-pub byte_at-requires : goal.byte_at-requires
-byte_at-requires c = record { small = c.requires.0; across = c.last_byte.ensures.1; down = omega arith }
 
 pub returns-then-x-row_pixels : goal.returns-then-x-row_pixels
 returns-then-x-row_pixels c =
