@@ -4,7 +4,7 @@
 
 ghost use Rattle.std.specs.Prelude.{◌≡◌, false, cond, ◌+◌, ◌-◌, ◌^◌, ◌<◌, ◌≤◌, length};
 ghost use Rattle.std.proofs.Math.Option.{none, some};
-ghost use Rattle.surface.specs.Place.{read_px};
+ghost use Rattle.surface.specs.Place.{read_px, one};
 ghost use Rattle.surface.specs.Pixels.{px};
 ghost use Rattle.surface.specs.Asked.{Held, OnColour, OnClose};
 ghost use Rattle.raster.specs.Rop.{rop_bits};
@@ -42,6 +42,7 @@ pub struct Clip {
 }
 
 // Whether a position, counted from 16384, is inside the clip.
+#[tactic(auto, unfolding(crate::specs::Clip::in_clip))]
 pub fn covers(c: Clip, x: u32, y: u32) -> bool
     requires { Bits12 c }
     ensures { result ≡ in_clip c x y }
@@ -61,65 +62,47 @@ pub fn place(down: bool, at: u32, n: u32, i: u32) -> u32
     at + i
 }
 
+#[tactic(auto, unfolding(crate::specs::Mix::colour_source))]
 pub fn colour_source(ink: Ink, bytes: u32, v: u32) -> Source
     ensures { result ≡ colour_source ink bytes v }
 {
-    let to = ink.target.bytes;
-    let value = colour::convert(bytes, to, v);
-    if ink.src_key {
-        return Source {
-            value: value,
-            key: keys::key_match(bytes, ink.src_min, ink.src_max, v),
-            left: false,
-        };
-    }
+    let value = colour::convert(bytes, ink.target.bytes, v);
+    let key = ink.src_key && keys::key_match(bytes, ink.src_min, ink.src_max, v);
     Source {
-        value: value,
-        key: false,
+        value,
+        key,
         left: false,
     }
 }
 
+#[tactic(auto, unfolding(crate::specs::Mix::bit_source))]
 pub fn bit_source(ink: Ink, bit: u32) -> Source
     ensures { result ≡ bit_source ink bit }
 {
-    if bit == 1 {
-        return Source {
-            value: ink.fore,
-            key: false,
-            left: ink.clear & (bit == 0),
-        };
-    }
     Source {
-        value: ink.back,
+        value: if bit == 1 { ink.fore } else { ink.back },
         key: false,
         left: ink.clear & (bit == 0),
     }
 }
 
 // The raster operation for a pixel whose source, and whose target, match their keys or not.
+#[tactic(auto, unfolding(crate::specs::Mix::chosen))]
 fn choose(ink: Ink, by_source: bool, by_target: bool) -> u32
     ensures { result ≡ chosen ink by_source by_target }
 {
-    if by_source {
-        if by_target {
-            return ink.rop3;
-        }
-        return ink.rop2;
+    match (by_source, by_target) {
+        (true, true) => ink.rop3,
+        (true, false) => ink.rop2,
+        (false, true) => ink.rop1,
+        (false, false) => ink.rop0,
     }
-    if by_target {
-        return ink.rop1;
-    }
-    ink.rop0
 }
 
 fn matches_target(ink: Ink, old: u32) -> bool
     ensures { result ≡ target_match ink old }
 {
-    if ink.dst_key {
-        return keys::key_match(ink.target.bytes, ink.dst_min, ink.dst_max, old);
-    }
-    false
+    ink.dst_key && keys::key_match(ink.target.bytes, ink.dst_min, ink.dst_max, old)
 }
 
 // What pattern, source and target make.
@@ -156,6 +139,14 @@ pub fn note(n: Tally, k: u32, c: u32) -> Tally
     }
 }
 
+// The tally after one pixel more was written.
+fn stored(n: Tally, changed: bool) -> Tally
+    requires { Room n 1 }
+    ensures { result ≡ noted 1 (one changed) n }
+{
+    note(n, 1, u32::from(changed))
+}
+
 // The one store: the pixel at (x, y) becomes v and is told, or it is left.
 pub fn put_value(mem: &mut [u8], s: Surface, x: u32, y: u32, left: bool, v: u32, n: Tally) -> Tally
     requires { OnColour s (length mem.old) x y × Room n 1 }
@@ -164,8 +155,7 @@ pub fn put_value(mem: &mut [u8], s: Surface, x: u32, y: u32, left: bool, v: u32,
     if left {
         return n;
     }
-    let changed = surface::put_pixel(mem, s, x, y, v);
-    note(n, 1, surface::one(changed))
+    stored(n, surface::put_pixel(mem, s, x, y, v))
 }
 
 // The same of a pixel close to the origin.
@@ -176,8 +166,7 @@ pub fn put_close(mem: &mut [u8], s: Surface, x: u32, y: u32, left: bool, v: u32,
     if left {
         return n;
     }
-    let changed = surface::put_close(mem, s, x, y, v);
-    note(n, 1, surface::one(changed))
+    stored(n, surface::put_close(mem, s, x, y, v))
 }
 
 // The same of a pixel of so many bytes from an address on.
@@ -188,8 +177,7 @@ pub fn put_value_at(mem: &mut [u8], at: usize, bytes: u32, left: bool, v: u32, n
     if left {
         return n;
     }
-    let changed = surface::store_bytes(mem, at, bytes, v);
-    note(n, 1, surface::one(changed))
+    stored(n, surface::store_bytes(mem, at, bytes, v))
 }
 
 // A pixel by itself: it is given what pattern, source and target make, or it is left.
@@ -205,8 +193,7 @@ pub fn put_source(
     requires { Ready ink (length mem.old) x y n }
     ensures { tallied mem.new result ≡ dab ink.target (px x y) (mixed ink pattern s (read_px mem.old ink.target x y)) (tallied mem.old n) }
 {
-    let target = ink.target;
-    let old = surface::get_pixel(mem, target, x, y);
+    let old = surface::get_pixel(mem, ink.target, x, y);
     let v = mix(ink, pattern, s, old);
-    put_value(mem, target, x, y, s.left, v, n)
+    put_value(mem, ink.target, x, y, s.left, v, n)
 }

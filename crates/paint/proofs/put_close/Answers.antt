@@ -1,5 +1,6 @@
 -- `paint::put_close` meets its contract: the pixel is left, or put and told.
 -- Assumes nothing.
+use mathlib.Core.Path.{refl}
 use Rattle.surface.specs.Pixels.{px}
 use Rattle.paint.specs.Paint.{dab}
 use Rattle.paint.proofs.Turns.{dab-stored}
@@ -10,4 +11,4 @@ unfolding dab
 returns-then-left c = rw c.if-left.true
 
 pub returns : goal.returns
-returns c = let a = c.args in rw c.if-left.false (dab-stored a.mem.now a.n a.s (px a.x a.y) a.v c.put_close-changed.ensures c.one.ensures.0 c.note.ensures)
+returns c = let a = c.args in rw c.if-left.false (dab-stored a.mem.now a.n a.s (px a.x a.y) a.v c.put_close.ensures refl c.stored.ensures)
