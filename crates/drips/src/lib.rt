@@ -19,10 +19,7 @@ use paint::Clip;
 fn is_left(ink: Ink, feed: Feed, v: u32) -> bool
     ensures { result ≡ (host_source ink feed v).left }
 {
-    if feed.bytes == 0 {
-        return ink.clear & (v == 0);
-    }
-    false
+    feed.bytes == 0 && ink.clear & (v == 0)
 }
 
 // The pages of pixel (i, j) of value v.
@@ -45,12 +42,11 @@ fn mark_byte(marks: &mut [bool; 4096], ink: Ink, c: Clip, feed: Feed, last: u32,
     requires { Dripping ink c feed }
     ensures { marks.new ≡ marking ink.target (dripped ink c feed (by_byte feed last word o)) marks.old }
 {
-    let step = feed.step;
-    let j = o / step;
+    let j = o / feed.step;
     if feed.height <= j {
         return;
     }
-    let column = o % step;
+    let column = o % feed.step;
     let start = host::whole_pixels(feed, column);
     let end = host::whole_pixels(feed, column + 1);
     for i in start..end {
@@ -91,45 +87,29 @@ fn mark_each(
     ensures { marks.new ≡ marking ink.target (dripped ink c feed (by_run feed last words.now taken)) marks.old }
 {
     let mut before = last;
-    let mut i = 0;
-    while i < words.len() {
+    for i in 0..words.len() {
         let word = words[i];
         mark_word(marks, ink, c, feed, taken + i as u32, before, word);
         before = word;
-        i += 1;
     }
 }
 
 // The rows of the data that n words from number `taken` on can reach: the first.
+#[tactic(auto, unfolding(crate::specs::Drips::first_row))]
 fn first_row(feed: Feed, taken: u32) -> u32
     requires { (0 < feed.step) × (taken < 2 ^ 29) }
     ensures { result ≡ first_row feed taken }
 {
-    let step = feed.step;
-    4 * taken / step
+    4 * taken / feed.step
 }
 
 // And the one after the last.
+#[tactic(auto, unfolding(crate::specs::Drips::past_row))]
 fn past_row(feed: Feed, taken: u32, n: u32) -> u32
     requires { (0 < feed.step) × ((feed.step < 2 ^ 17) × (taken + n < 2 ^ 29)) }
     ensures { result ≡ past_row feed taken n }
 {
-    let step = feed.step;
-    (4 * (taken + n) + (step - 1)) / step
-}
-
-// The greater of two numbers.
-fn most(a: u32, b: u32) -> u32
-    ensures { result ≡ max a b }
-{
-    if a < b { b } else { a }
-}
-
-// What a number is more than another.
-fn less(a: u32, b: u32) -> u32
-    ensures { result ≡ a - b }
-{
-    if b < a { a - b } else { 0 }
+    (4 * (taken + n) + (feed.step - 1)) / feed.step
 }
 
 // How many pixels of row j are whole with the data's first n bytes.
@@ -137,8 +117,7 @@ fn whole_by(feed: Feed, j: u32, n: u32) -> u32
     requires { Sizes feed × (j < feed.height) }
     ensures { (result ≡ whole_by feed j n) × (result ≤ feed.width) }
 {
-    let step = feed.step;
-    host::whole_pixels(feed, surface::least(less(n, j * step), step))
+    host::whole_pixels(feed, n.saturating_sub(j * feed.step).min(feed.step))
 }
 
 // Where the pixels of row j begin that the bytes from number `from` on finish, as far as the clip's columns reach.
@@ -146,7 +125,7 @@ fn left_of(c: Clip, feed: Feed, from: u32, j: u32) -> u32
     requires { RowOf c feed j }
     ensures { result ≡ left_of c feed from j }
 {
-    most(feed.x + whole_by(feed, j, from), 16384 + c.left)
+    (feed.x + whole_by(feed, j, from)).max(16384 + c.left)
 }
 
 // And where those end that the first `past` bytes finish.
@@ -154,7 +133,7 @@ fn right_of(c: Clip, feed: Feed, past: u32, j: u32) -> u32
     requires { RowOf c feed j }
     ensures { result ≡ right_of c feed past j }
 {
-    surface::least(feed.x + whole_by(feed, j, past), 16384 + c.right)
+    (feed.x + whole_by(feed, j, past)).min(16384 + c.right)
 }
 
 // The pages of the pixels of row j that the bytes from number `from` up to, and without, `past` finish.
@@ -163,10 +142,7 @@ fn mark_row(marks: &mut [bool; 4096], ink: Ink, c: Clip, feed: Feed, from: u32, 
     ensures { marks.new ≡ marking ink.target (row_drips c feed from past j) marks.old }
 {
     let y = feed.y + j;
-    if y < 16384 + c.top {
-        return;
-    }
-    if 16384 + c.bottom <= y {
+    if y < 16384 + c.top || 16384 + c.bottom <= y {
         return;
     }
     let left = left_of(c, feed, from, j);
@@ -183,7 +159,7 @@ fn mark_rows(marks: &mut [bool; 4096], ink: Ink, c: Clip, feed: Feed, taken: u32
 {
     let from = 4 * taken;
     let past = 4 * (taken + n);
-    let end = surface::least(feed.height, past_row(feed, taken, n));
+    let end = feed.height.min(past_row(feed, taken, n));
     for j in first_row(feed, taken)..end {
         mark_row(marks, ink, c, feed, from, past, j);
     }
@@ -203,11 +179,9 @@ pub fn mark_data(
     requires { Drippable ink c feed taken (length words.now) }
     ensures { marks.new ≡ marking ink.target (dripped ink c feed (by_run feed last words.now taken)) marks.old }
 {
-    if feed.bytes == 0 {
-        if ink.clear {
-            mark_each(marks, ink, c, feed, taken, last, words);
-            return;
-        }
+    if feed.bytes == 0 && ink.clear {
+        mark_each(marks, ink, c, feed, taken, last, words);
+        return;
     }
     mark_rows(marks, ink, c, feed, taken, words.len() as u32);
 }
@@ -218,14 +192,16 @@ pub fn data_box(feed: Feed, cut: Cut, taken: u32, n: u32) -> Cut
     ensures { result ≡ data_box feed cut taken n }
 {
     let bottom = cut.y + cut.h;
-    let first = less(feed.y + first_row(feed, taken), 16384);
-    let low = surface::least(most(cut.y, first), bottom);
-    let past = surface::least(less(feed.y + past_row(feed, taken, n), 16384), bottom);
+    let first = (feed.y + first_row(feed, taken)).saturating_sub(16384);
+    let low = cut.y.max(first).min(bottom);
+    let past = (feed.y + past_row(feed, taken, n))
+        .saturating_sub(16384)
+        .min(bottom);
     Cut {
         x: cut.x,
         y: low,
         w: cut.w,
-        h: less(past, low),
+        h: past.saturating_sub(low),
         sx: 0,
         sy: 0,
     }

@@ -17,12 +17,12 @@ pub returns : goal.returns
 unfolding data_box
 returns c =
     rw (
-      c.less-2.ensures,
-      c.least-past.ensures,
-      c.less.ensures,
+      c.saturating_sub-2.ensures,
+      c.min-past.ensures,
+      c.saturating_sub.ensures,
       c.past_row.ensures,
-      c.least-low.ensures,
-      c.most.ensures,
-      c.less-first.ensures,
+      c.min-low.ensures,
+      c.max.ensures,
+      c.saturating_sub-first.ensures,
       c.first_row.ensures,
     )

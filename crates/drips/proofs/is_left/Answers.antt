@@ -9,6 +9,6 @@ pub returns-then-feed-eq0 : goal.returns-then-feed-eq0
 unfolding host_source bit_source
 returns-then-feed-eq0 c = rw (eq-eqb _ _ c.if-feed-eq0.true)
 
-pub returns : goal.returns
+pub returns-else-feed-eq0 : goal.returns-else-feed-eq0
 unfolding host_source colour_source
-returns c = rw (ne_eqb _ _ c.if-feed-eq0.false)
+returns-else-feed-eq0 c = rw (ne_eqb _ _ c.if-feed-eq0.false)

@@ -5,41 +5,21 @@ use mathlib.Core.Path.{ap, ◌∙◌}
 use mathlib.Core.List.{List, [], ◌∷◌}
 use Prim.Native.Nat.{◌+◌, ◌%◌}
 use Rattle.host.specs.Host.{Pixel, pixel, run}
-use Rattle.host.proofs.Places.{whole-width, step-some, column-small}
+use Rattle.host.proofs.Places.{whole-width}
 use Rattle.host.proofs.Drawing.{run-turn, run-done, byte-run, byte-none}
 use Rattle.drips.proofs.Marks.{dripping, none-drips, drip-takes}
 use Rattle.drips.proofs.mark_byte.Goals as goal
-
-pub nonzero_div-j : goal.nonzero_div-j
-nonzero_div-j c = step-some c.args.feed c.requires.opened.rows
 
 pub returns-then-feed-j : goal.returns-then-feed-j
 returns-then-feed-j c =
     let a = c.args in
     none-drips a.ink a.c a.feed a.marks.now (byte-none a.feed a.last a.word a.o c.if-feed-j.true)
 
-pub nonzero_rem-column : goal.nonzero_rem-column
-nonzero_rem-column c = step-some c.args.feed c.requires.opened.rows
-
-pub whole_pixels-start-requires : goal.whole_pixels-start-requires
-whole_pixels-start-requires c =
-    (c.requires.opened.rows.sizes.bytes, omega (arith, column-small c.args.feed c.requires.opened.rows c.args.o))
-
-pub overflow_add-column : goal.overflow_add-column
-overflow_add-column c = omega (arith, column-small c.args.feed c.requires.opened.rows c.args.o)
-
-pub whole_pixels-end-requires : goal.whole_pixels-end-requires
-whole_pixels-end-requires c =
-    (c.requires.opened.rows.sizes.bytes, omega (arith, column-small c.args.feed c.requires.opened.rows c.args.o))
-
 pub loop-i-init : goal.loop-i-init
 loop-i-init c =
     let a = c.args in
     ap (λ (ps : List Pixel). dripping a.ink a.c a.feed ps a.marks.now)
     (byte-run a.feed a.last a.word a.o c.if-feed-j.false c.whole_pixels-start.ensures c.whole_pixels-end.ensures)
-
-pub value_of-v-requires : goal.value_of-v-requires
-value_of-v-requires c = (c.requires.opened.rows.sizes.bytes, omega arith)
 
 pub mark_one-requires : goal.mark_one-requires
 mark_one-requires c =

@@ -1,6 +1,5 @@
 -- `drips::mark_each` meets its contract: each turn marks the pixels that one word finishes.
 -- Assumes nothing.
-use native.Mathlib.Omega.{arith}
 use mathlib.Core.Path.{ap, ◌∙◌}
 use mathlib.Core.List.{List}
 use Prim.Native.Nat.{◌+◌}
@@ -13,34 +12,6 @@ pub loop-i-init : goal.loop-i-init
 loop-i-init c =
     let a = c.args in
     ap (λ (ps : List Pixel). dripping a.ink a.c a.feed ps a.marks.now) (run-start a.feed a.words.now a.last a.taken)
-
-pub offset_bounds-words-i : goal.offset_bounds-words-i
-offset_bounds-words-i c = omega arith
-
-pub bounds-words-i : goal.bounds-words-i
-bounds-words-i c = omega arith
-
-pub overflow_cast-i : goal.overflow_cast-i
-overflow_cast-i c = omega (arith, c.requires.waits.few)
-
-pub overflow_add-taken : goal.overflow_add-taken
-overflow_add-taken c = omega (arith, c.requires.waits.few)
-
-pub mark_word-requires : goal.mark_word-requires
-mark_word-requires c =
-    let p = c.requires in
-    let more = c.loop-i-test.true in
-    record {
-      len = p.len;
-      limit = p.limit;
-      waits = record { opened = p.waits.opened; few = omega (arith, p.waits.few); short = omega arith };
-    }
-
-pub overflow_add-i : goal.overflow_add-i
-overflow_add-i c = omega arith
-
-pub loop-i-smaller : goal.loop-i-smaller
-loop-i-smaller c = omega arith
 
 pub loop-i-preserved : goal.loop-i-preserved
 loop-i-preserved c =

@@ -17,14 +17,6 @@ overflow_sub-x c = omega (arith, (in-clip _ _ _ (sym c.covers.ensures ∙ c.if-c
 pub overflow_sub-y : goal.overflow_sub-y
 overflow_sub-y c = omega (arith, (in-clip _ _ _ (sym c.covers.ensures ∙ c.if-covers.true)))
 
-pub mark_pixel-requires : goal.mark_pixel-requires
-mark_pixel-requires c =
-    record {
-      len = c.requires.0.len;
-      limit = c.requires.0.limit;
-      on = c.requires.0.opened.covered.on c.args.i c.args.j c.requires.1.0 c.requires.1.1 (sym c.covers.ensures ∙ c.if-covers.true);
-    }
-
 pub returns-else-is_left : goal.returns-else-is_left
 returns-else-is_left c =
     let a = c.args in

@@ -2,17 +2,17 @@
 -- Assumes nothing.
 use native.Mathlib.Omega.{arith}
 use Rattle.drips.proofs.RowLaws.{row-outside, row-none, row-marked, row-markable}
+use Rattle.drips.proofs.mark_row.Goals.{then-y-c-via-then-y-c, then-y-c-via-else-y-c+then-c-y}
 use Rattle.drips.proofs.mark_row.Goals as goal
 
 pub returns-then-y-c : goal.returns-then-y-c
 returns-then-y-c c =
     let a = c.args in
-    row-outside a.ink a.c a.feed a.from a.past a.j c.requires.0.opened.rows a.marks.now (λ top bottom. omega (arith, c.if-y-c.true))
-
-pub returns-then-c-y : goal.returns-then-c-y
-returns-then-c-y c =
-    let a = c.args in
-    row-outside a.ink a.c a.feed a.from a.past a.j c.requires.0.opened.rows a.marks.now (λ top bottom. omega (arith, c.if-c-y.true))
+    row-outside a.ink a.c a.feed a.from a.past a.j c.requires.0.opened.rows a.marks.now
+    (λ top bottom. elim c.then-y-c.branch [
+      | then-y-c-via-then-y-c w ↦ omega (arith, w.if-y-c.true)
+      | then-y-c-via-else-y-c+then-c-y w ↦ omega (arith, w.if-c-y.true)
+    ])
 
 pub mark_rect-requires : goal.mark_rect-requires
 mark_rect-requires c =

@@ -1,6 +1,5 @@
 -- `drips::mark_word` meets its contract: each turn takes one of the word's four bytes.
 -- Assumes nothing.
-use native.Mathlib.Omega.{arith}
 use mathlib.Core.Path.{ap, ◌∙◌}
 use mathlib.Core.List.{List}
 use Prim.Native.Nat.{◌+◌, ◌-◌, ◌*◌}
@@ -12,15 +11,6 @@ pub loop-t-init : goal.loop-t-init
 loop-t-init c =
     let a = c.args in
     ap (λ (ps : List Pixel). dripping a.ink a.c a.feed ps a.marks.now) (bytes-start a.feed a.last a.word a.taken)
-
-pub overflow_mul-taken : goal.overflow_mul-taken
-overflow_mul-taken c = omega (arith, c.requires.waits.few)
-
-pub overflow_add-taken : goal.overflow_add-taken
-overflow_add-taken c = omega (arith, c.requires.waits.few)
-
-pub mark_byte-requires : goal.mark_byte-requires
-mark_byte-requires c = let p = c.requires in record { len = p.len; limit = p.limit; opened = p.waits.opened }
 
 pub loop-t-preserved : goal.loop-t-preserved
 loop-t-preserved c =
