@@ -1,7 +1,7 @@
 // The pages of the pixels that a command has written, marked after it.
 #![tactic(auto)]
 
-ghost use Rattle.std.specs.Prelude.{◌≡◌, ◌*◌, length};
+ghost use Rattle.std.specs.Prelude.{◌≡◌, false, ◌*◌, length};
 ghost use Rattle.cuts.specs.Cut.{number, clip_of, fill_cut, covered};
 ghost use Rattle.command.specs.Decode.{target, line_of, feed_of};
 ghost use Rattle.pages.specs.Pages.{marking};
@@ -10,7 +10,7 @@ ghost use Rattle.sift.specs.Asked.{Siftable};
 ghost use Rattle.dots.specs.Dots.{line_box};
 ghost use Rattle.drips.specs.Drips.{data_box};
 ghost use Rattle.acts.specs.Deed.{bank_of};
-ghost use Rattle.trail.specs.Trail.{wet_by, box_by, extent_by, sieve_of};
+ghost use Rattle.trail.specs.Trail.{wet_by, box_by, extent_by, no_scale, sieve_of};
 ghost use Rattle.trail.specs.Asked.{Gone, Went};
 
 use acts::Blit;
@@ -21,14 +21,21 @@ use scale::Scale;
 use sift::Sieve;
 use sweep::Task;
 
-fn no_scale() -> Scale
-    ensures { result ≡ record { to = 0; size = 0; from = 0; source_size = 0 } }
+// The work of a rectangle that is not stretched.
+fn plainly(task: Task) -> Sieve
+    ensures { result ≡ record { task = task; stretched = false; columns = no_scale; rows = no_scale } }
 {
-    Scale {
+    let none = Scale {
         to: 0,
         size: 0,
         from: 0,
         source_size: 0,
+    };
+    Sieve {
+        task,
+        stretched: false,
+        columns: none,
+        rows: none,
     }
 }
 
@@ -36,41 +43,27 @@ fn no_scale() -> Scale
 fn sieve_of(r: Regs) -> Sieve
     ensures { result ≡ sieve_of r }
 {
-    let number = r.command % 16;
-    if number == 1 {
-        return Sieve {
-            task: command::copy_task(r),
-            stretched: false,
-            columns: no_scale(),
-            rows: no_scale(),
-        };
-    }
-    if number == 2 {
-        let t = command::decode_stretch(r);
-        let ink = t.ink;
-        let from = t.from;
-        let columns = t.columns;
-        let rows = t.rows;
-        return Sieve {
-            task: Task {
-                ink: ink,
+    match r.command % 16 {
+        1 => plainly(command::copy_task(r)),
+        2 => {
+            let t = command::decode_stretch(r);
+            let task = Task {
+                ink: t.ink,
                 copies: true,
-                from: from,
+                from: t.from,
                 sx: 0,
                 sy: 0,
                 x: 0,
                 y: 0,
-            },
-            stretched: true,
-            columns: columns,
-            rows: rows,
-        };
-    }
-    Sieve {
-        task: command::fill_task(r),
-        stretched: false,
-        columns: no_scale(),
-        rows: no_scale(),
+            };
+            Sieve {
+                task,
+                stretched: true,
+                columns: t.columns,
+                rows: t.rows,
+            }
+        }
+        _ => plainly(command::fill_task(r)),
     }
 }
 
@@ -113,17 +106,12 @@ fn box_of(r: Regs, taken: u32, n: u32) -> Cut
     requires { Gone r taken n }
     ensures { result ≡ box_by r taken n }
 {
-    let number = r.command % 16;
-    if number == 1 {
-        return cuts::copy_cut(r);
+    match r.command % 16 {
+        1 => cuts::copy_cut(r),
+        3 => data_cut(r, taken, n),
+        6.. => line_cut(r),
+        _ => cuts::fill_cut(r),
     }
-    if number == 3 {
-        return data_cut(r, taken, n);
-    }
-    if 6 <= number {
-        return line_cut(r);
-    }
-    cuts::fill_cut(r)
 }
 
 // The pages that a command may have written, where it wrote `count` pixels, and whether all of them are to be marked.
@@ -148,28 +136,23 @@ pub fn walk(
     requires { Went (bank_of r pattern.now) blit words.now mem.now count }
     ensures { marks.new ≡ marking (target r) (wet_by (bank_of r pattern.now) blit words.now mem.now) marks.old }
 {
-    let number = r.command % 16;
-    if number == 3 {
-        let ink = command::decode_ink(r);
-        let clip = cuts::decode_clip(r);
-        let feed = command::decode_feed(r);
-        drips::mark_data(marks, ink, clip, feed, blit.taken, blit.last, words);
-        return;
+    match r.command % 16 {
+        1 => mark_some(marks, sieve_of(r), pattern, mem, cuts::copy_cut(r), count),
+        3 => {
+            let ink = command::decode_ink(r);
+            let clip = cuts::decode_clip(r);
+            let feed = command::decode_feed(r);
+            drips::mark_data(marks, ink, clip, feed, blit.taken, blit.last, words);
+        }
+        6.. => {
+            let ink = command::decode_ink(r);
+            let clip = cuts::decode_clip(r);
+            let line = command::decode_line(r);
+            let pen = command::decode_pen(r);
+            dots::mark_dots(marks, ink, clip, line, pen, r.line_style);
+        }
+        _ => mark_some(marks, sieve_of(r), pattern, mem, cuts::fill_cut(r), count),
     }
-    if 6 <= number {
-        let ink = command::decode_ink(r);
-        let clip = cuts::decode_clip(r);
-        let line = command::decode_line(r);
-        let pen = command::decode_pen(r);
-        dots::mark_dots(marks, ink, clip, line, pen, r.line_style);
-        return;
-    }
-    let v = sieve_of(r);
-    if number == 1 {
-        mark_some(marks, v, pattern, mem, cuts::copy_cut(r), count);
-        return;
-    }
-    mark_some(marks, v, pattern, mem, cuts::fill_cut(r), count);
 }
 
 // The pages of the pixels that a command has written are marked.

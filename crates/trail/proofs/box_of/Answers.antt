@@ -5,20 +5,17 @@ use native.Mathlib.Omega.{arith}
 use Rattle.trail.proofs.Boxes.{box-copy, box-host, box-line, box-fill}
 use Rattle.trail.proofs.box_of.Goals as goal
 
-pub returns-then-number-eq1 : goal.returns-then-number-eq1
-returns-then-number-eq1 c = c.copy_cut.ensures ∙ box-copy c.args.r c.args.taken c.args.n c.requires.goes c.if-number-eq1.true
+pub returns-in-1 : goal.returns-in-1
+returns-in-1 c = c.copy_cut.ensures ∙ box-copy c.args.r c.args.taken c.args.n c.requires.goes c.in-1.is
 
-pub data_cut-requires : goal.data_cut-requires
-data_cut-requires c = (c.requires, c.if-number-eq3.true)
+pub returns-in-3 : goal.returns-in-3
+returns-in-3 c = c.data_cut.ensures ∙ box-host c.args.r c.args.taken c.args.n c.requires.goes c.in-3.is
 
-pub returns-then-number-eq3 : goal.returns-then-number-eq3
-returns-then-number-eq3 c = c.data_cut.ensures ∙ box-host c.args.r c.args.taken c.args.n c.requires.goes c.if-number-eq3.true
+pub returns-in-6-to-4294967295 : goal.returns-in-6-to-4294967295
+returns-in-6-to-4294967295 c =
+    c.line_cut.ensures ∙ box-line c.args.r c.args.taken c.args.n c.requires.goes (omega (arith, c.in-6-to-4294967295.if-this-lt6-own.false))
 
-pub returns-then-number-ge6 : goal.returns-then-number-ge6
-returns-then-number-ge6 c =
-    c.line_cut.ensures ∙ box-line c.args.r c.args.taken c.args.n c.requires.goes c.if-number-ge6.true
-
-pub returns : goal.returns
-returns c =
+pub returns-in_default : goal.returns-in_default
+returns-in_default c =
     c.fill_cut.ensures
-    ∙ box-fill c.args.r c.args.taken c.args.n c.requires.goes c.if-number-eq1.false c.if-number-eq3.false (omega (arith, c.if-number-ge6.false))
+    ∙ box-fill c.args.r c.args.taken c.args.n c.requires.goes c.in_default.in_default-own.rest.0.1 c.in_default.in_default-own.rest.1 (omega (arith, c.in_default.if-this-lt6-own.true))

@@ -2,7 +2,6 @@
 -- Assumes nothing.
 use mathlib.Core.Path.{sym, ap, ◌∙◌}
 use Prim.Native.Nat.{◌-◌}
-use native.Mathlib.Omega.{arith}
 use lib.ListN.{length}
 use Rattle.command.specs.Decode.{target}
 use Rattle.pages.specs.declared.Extent.{Extent}
@@ -13,12 +12,6 @@ use Rattle.acts.specs.Deed.{bank_of}
 use Rattle.trail.specs.Trail.{box_by}
 use Rattle.trail.proofs.Wets.{lies}
 use Rattle.trail.proofs.mark.Goals as goal
-
-pub overflow_cast-words : goal.overflow_cast-words
-overflow_cast-words c = omega (arith, c.requires.goes.short)
-
-pub extent_of-e-requires : goal.extent_of-e-requires
-extent_of-e-requires c = record { len = length c.args.mem.now; goes = c.requires.goes }
 
 pub mark_pages-requires : goal.mark_pages-requires
 mark_pages-requires c =

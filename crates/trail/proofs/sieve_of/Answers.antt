@@ -1,20 +1,19 @@
 -- `trail::sieve_of` meets its contract: by the command's number.
 -- Assumes nothing.
-use borrow.Author.Tests.{eq-eqb, ne_eqb}
+use borrow.Author.Tests.{ne_eqb}
 use Rattle.command.specs.Decode.{stretch_of}
 use Rattle.trail.specs.Trail.{sieve_of}
 use Rattle.trail.proofs.sieve_of.Goals as goal
 
-pub returns-then-number-eq1 : goal.returns-then-number-eq1
+pub returns-in-1 : goal.returns-in-1
 unfolding sieve_of
-returns-then-number-eq1 c = rw (eq-eqb _ _ c.if-number-eq1.true, c.copy_task.ensures, c.no_scale.ensures, c.no_scale-then-number-eq1.ensures)
+returns-in-1 c = rw (c.in-1.is, c.plainly.ensures, c.copy_task.ensures)
 
-pub returns-then-number-eq2 : goal.returns-then-number-eq2
+pub returns-in-2 : goal.returns-in-2
 unfolding sieve_of stretch_of
-returns-then-number-eq2 c =
-    rw (ne_eqb _ _ c.if-number-eq1.false, eq-eqb _ _ c.if-number-eq2.true, c.decode_stretch-t.ensures)
+returns-in-2 c = rw (c.in-2.is, c.decode_stretch-t.ensures)
 
-pub returns : goal.returns
+pub returns-in_default : goal.returns-in_default
 unfolding sieve_of
-returns c =
-    rw (ne_eqb _ _ c.if-number-eq1.false, ne_eqb _ _ c.if-number-eq2.false, c.fill_task.ensures, c.no_scale-2.ensures, c.no_scale-3.ensures)
+returns-in_default c =
+    rw (ne_eqb _ _ c.in_default.in_default-own.rest.0.1, ne_eqb _ _ c.in_default.in_default-own.rest.1, c.plainly-in_default.ensures, c.fill_task.ensures)

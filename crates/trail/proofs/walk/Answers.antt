@@ -16,58 +16,58 @@ pub mark_data-requires : goal.mark_data-requires
 mark_data-requires c =
     let a = c.args in
     rw (c.decode_ink-ink.ensures, c.decode_clip-clip.ensures, c.decode_feed-feed.ensures)
-    (host-asked (bank_of a.r a.pattern.now) a.blit a.words.now a.mem.now a.count c.requires c.if-number-eq3.true)
+    (host-asked (bank_of a.r a.pattern.now) a.blit a.words.now a.mem.now a.count c.requires c.in-3.is)
 
-pub returns-then-number-eq3 : goal.returns-then-number-eq3
+pub returns-in-3 : goal.returns-in-3
 unfolding ink_of
-returns-then-number-eq3 c =
+returns-in-3 c =
     let a = c.args in
     c.mark_data.ensures
     ∙ rw (c.decode_ink-ink.ensures, c.decode_clip-clip.ensures, c.decode_feed-feed.ensures)
     (ap (λ (ps : List Px). marking (target a.r) ps a.marks.now)
-    (host-wet (bank_of a.r a.pattern.now) a.blit a.words.now a.mem.now a.count c.requires c.if-number-eq3.true))
+    (host-wet (bank_of a.r a.pattern.now) a.blit a.words.now a.mem.now a.count c.requires c.in-3.is))
 
 pub mark_dots-requires : goal.mark_dots-requires
 mark_dots-requires c =
     let a = c.args in
-    rw (c.decode_ink-ink-then-number-ge6.ensures, c.decode_clip-clip-then-number-ge6.ensures, c.decode_line-line.ensures)
-    (line-asked (bank_of a.r a.pattern.now) a.blit a.words.now a.mem.now a.count c.requires c.if-number-ge6.true)
+    rw (c.decode_ink-ink-in-6-to-4294967295.ensures, c.decode_clip-clip-in-6-to-4294967295.ensures, c.decode_line-line.ensures)
+    (line-asked (bank_of a.r a.pattern.now) a.blit a.words.now a.mem.now a.count c.requires (omega (arith, c.in-6-to-4294967295.if-this-lt6-own.false)))
 
-pub returns-then-number-ge6 : goal.returns-then-number-ge6
+pub returns-in-6-to-4294967295 : goal.returns-in-6-to-4294967295
 unfolding ink_of
-returns-then-number-ge6 c =
+returns-in-6-to-4294967295 c =
     let a = c.args in
     c.mark_dots.ensures
-    ∙ rw (c.decode_ink-ink-then-number-ge6.ensures, c.decode_clip-clip-then-number-ge6.ensures, c.decode_line-line.ensures, c.decode_pen-pen.ensures)
+    ∙ rw (c.decode_ink-ink-in-6-to-4294967295.ensures, c.decode_clip-clip-in-6-to-4294967295.ensures, c.decode_line-line.ensures, c.decode_pen-pen.ensures)
     (ap (λ (ps : List Px). marking (target a.r) ps a.marks.now)
-    (line-wet (bank_of a.r a.pattern.now) a.blit a.words.now a.mem.now a.count c.requires c.if-number-ge6.true))
+    (line-wet (bank_of a.r a.pattern.now) a.blit a.words.now a.mem.now a.count c.requires (omega (arith, c.in-6-to-4294967295.if-this-lt6-own.false))))
 
 pub mark_some-requires : goal.mark_some-requires
 mark_some-requires c =
     let a = c.args in
-    let s = copy-one (bank_of a.r a.pattern.now) a.blit a.words.now a.mem.now a.count c.requires c.if-number-eq1.true in
-    rw (c.sieve_of-v.ensures, c.copy_cut.ensures) (s.can, s.full)
+    let s = copy-one (bank_of a.r a.pattern.now) a.blit a.words.now a.mem.now a.count c.requires c.in-1.is in
+    rw (c.sieve_of.ensures, c.copy_cut.ensures) (s.can, s.full)
 
-pub returns-then-number-eq1 : goal.returns-then-number-eq1
+pub returns-in-1 : goal.returns-in-1
 unfolding sieve_of
-returns-then-number-eq1 c =
+returns-in-1 c =
     let a = c.args in
-    let s = copy-one (bank_of a.r a.pattern.now) a.blit a.words.now a.mem.now a.count c.requires c.if-number-eq1.true in
+    let s = copy-one (bank_of a.r a.pattern.now) a.blit a.words.now a.mem.now a.count c.requires c.in-1.is in
     c.mark_some.ensures
-    ∙ rw (c.sieve_of-v.ensures, c.copy_cut.ensures, s.to) (s.same a.marks.now)
+    ∙ rw (c.sieve_of.ensures, c.copy_cut.ensures, s.to) (s.same a.marks.now)
 
-pub mark_some-requires-2 : goal.mark_some-requires-2
-mark_some-requires-2 c =
+pub mark_some-requires-in_default : goal.mark_some-requires-in_default
+mark_some-requires-in_default c =
     let a = c.args in
-    let s = other-one (bank_of a.r a.pattern.now) a.blit a.words.now a.mem.now a.count c.requires c.if-number-eq1.false c.if-number-eq3.false
-    (omega (arith, c.if-number-ge6.false)) in
-    rw (c.sieve_of-v.ensures, c.fill_cut.ensures) (s.can, s.full)
+    let s = other-one (bank_of a.r a.pattern.now) a.blit a.words.now a.mem.now a.count c.requires c.in_default.in_default-own.rest.0.1 c.in_default.in_default-own.rest.1
+    (omega (arith, c.in_default.if-this-lt6-own.true)) in
+    rw (c.sieve_of-in_default.ensures, c.fill_cut.ensures) (s.can, s.full)
 
-pub returns : goal.returns
+pub returns-in_default : goal.returns-in_default
 unfolding sieve_of
-returns c =
+returns-in_default c =
     let a = c.args in
-    let s = other-one (bank_of a.r a.pattern.now) a.blit a.words.now a.mem.now a.count c.requires c.if-number-eq1.false c.if-number-eq3.false
-    (omega (arith, c.if-number-ge6.false)) in
-    c.mark_some-2.ensures
-    ∙ rw (c.sieve_of-v.ensures, c.fill_cut.ensures, s.to) (s.same a.marks.now)
+    let s = other-one (bank_of a.r a.pattern.now) a.blit a.words.now a.mem.now a.count c.requires c.in_default.in_default-own.rest.0.1 c.in_default.in_default-own.rest.1
+    (omega (arith, c.in_default.if-this-lt6-own.true)) in
+    c.mark_some-in_default.ensures
+    ∙ rw (c.sieve_of-in_default.ensures, c.fill_cut.ensures, s.to) (s.same a.marks.now)
