@@ -14,6 +14,7 @@ use surface::Surface;
 use sweep::Task;
 
 // A rectangle's work; and where it is a stretch copy, which source pixel each of its pixels takes.
+// A flag with the scales beside it, no Option: specs/Sift.antt and trail's specs/Trail.antt define `task_at`, `stretch_in` and `sieve_of` by these fields.
 #[derive(Clone, Copy)]
 pub struct Sieve {
     pub task: Task,
@@ -29,9 +30,8 @@ fn is_left(mem: &[u8], t: Task, pattern: &[u8; 256], x: u32, y: u32) -> bool
 {
     let ink = t.ink;
     if t.copies {
-        let from = t.from;
-        if from.bytes == 0 {
-            let bit = surface::get_bit(mem, from, t.sx + (x - t.x), t.sy + (y - t.y));
+        if t.from.bytes == 0 {
+            let bit = surface::get_bit(mem, t.from, t.sx + (x - t.x), t.sy + (y - t.y));
             return ink.clear & (bit == 0);
         }
         return false;
@@ -46,17 +46,17 @@ fn task_at(v: Sieve, x: u32, y: u32) -> Task
     requires { (x < 2 ^ 13) × (y < 2 ^ 13) × (v.stretched ≡ true → Scaled v x y) }
     ensures { result ≡ task_at v (px x y) }
 {
-    let task = v.task;
     if v.stretched {
-        let mut t = task;
-        t.copies = true;
-        t.sx = scale::place_of(v.columns, 16384 + x) - 16384;
-        t.sy = scale::place_of(v.rows, 16384 + y) - 16384;
-        t.x = x;
-        t.y = y;
-        return t;
+        return Task {
+            copies: true,
+            sx: scale::place_of(v.columns, 16384 + x) - 16384,
+            sy: scale::place_of(v.rows, 16384 + y) - 16384,
+            x,
+            y,
+            ..v.task
+        };
     }
-    task
+    v.task
 }
 
 // How many pixels from (x, y) on have all their bytes in the page of its first byte.

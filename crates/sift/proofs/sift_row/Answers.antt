@@ -17,9 +17,6 @@ pub loop-i-init : goal.loop-i-init
 loop-i-init c =
     let a = c.args in (omega arith, row-start a.v.task.ink.target (wet a.v a.pattern.now a.mem.now) a.marks.now a.x a.w a.y)
 
-pub overflow_add-x : goal.overflow_add-x
-overflow_add-x c = omega (arith, c.requires.wide)
-
 pub sift_some-i-requires : goal.sift_some-i-requires
 sift_some-i-requires c =
     let i = c.loop-i.i in (
@@ -27,9 +24,6 @@ sift_some-i-requires c =
           (part-can c.requires i 0 (c.args.w - i) 1 (omega arith) (omega arith)),
       omega (arith, c.loop-i-test.true),
     )
-
-pub overflow_add-i : goal.overflow_add-i
-overflow_add-i c = omega (arith, c.sift_some-i.ensures.1)
 
 pub loop-i-smaller : goal.loop-i-smaller
 loop-i-smaller c = omega (arith, c.sift_some-i.ensures.0, c.sift_some-i.ensures.1)

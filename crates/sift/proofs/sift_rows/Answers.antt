@@ -17,9 +17,6 @@ pub loop-j-init : goal.loop-j-init
 loop-j-init c =
     let a = c.args in rows_start a.v.task.ink.target (wet a.v a.pattern.now a.mem.now) a.marks.now a.x a.y a.w a.h
 
-pub overflow_add-y : goal.overflow_add-y
-overflow_add-y c = omega (arith, c.requires.high)
-
 pub sift_row-requires : goal.sift_row-requires
 sift_row-requires c =
     let j = c.loop-j.j in

@@ -19,9 +19,6 @@ pub bounds-marks-at : goal.bounds-marks-at
 bounds-marks-at c =
     pixel-page (pixel-can c.requires.0 c.requires.1 (omega arith)) 0 c.requires.0.colour.some c.byte_of-at.ensures
 
-pub run_of-requires : goal.run_of-requires
-run_of-requires c = (c.requires.0.colour, omega (arith, c.requires.0.wide, c.requires.1))
-
 pub returns-then-n-gt0 : goal.returns-then-n-gt0
 returns-then-n-gt0 c =
     let marks = c.args.marks.now in (
