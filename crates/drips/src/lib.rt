@@ -22,78 +22,6 @@ fn is_left(ink: Ink, feed: Feed, v: u32) -> bool
     feed.bytes == 0 && ink.clear & (v == 0)
 }
 
-// The pages of pixel (i, j) of value v.
-fn mark_one(marks: &mut [bool; 4096], ink: Ink, c: Clip, feed: Feed, i: u32, j: u32, v: u32)
-    requires { Dripping ink c feed × ((i < feed.width) × (j < feed.height)) }
-    ensures { marks.new ≡ marking ink.target (dripped ink c feed (pixel i j v ∷ [])) marks.old }
-{
-    let x = feed.x + i;
-    let y = feed.y + j;
-    if paint::covers(c, x, y) {
-        if is_left(ink, feed, v) {
-            return;
-        }
-        pages::mark_pixel(marks, ink.target, x - 16384, y - 16384);
-    }
-}
-
-// Those of the pixels that byte o of the data finishes.
-fn mark_byte(marks: &mut [bool; 4096], ink: Ink, c: Clip, feed: Feed, last: u32, word: u32, o: u32)
-    requires { Dripping ink c feed }
-    ensures { marks.new ≡ marking ink.target (dripped ink c feed (by_byte feed last word o)) marks.old }
-{
-    let j = o / feed.step;
-    if feed.height <= j {
-        return;
-    }
-    let column = o % feed.step;
-    let start = host::whole_pixels(feed, column);
-    let end = host::whole_pixels(feed, column + 1);
-    for i in start..end {
-        let v = host::value_of(feed, last, word, o % 4, i);
-        mark_one(marks, ink, c, feed, i, j, v);
-    }
-}
-
-// Those that word number `taken` finishes; `last` is the word before it.
-fn mark_word(
-    marks: &mut [bool; 4096],
-    ink: Ink,
-    c: Clip,
-    feed: Feed,
-    taken: u32,
-    last: u32,
-    word: u32,
-)
-    requires { Drippable ink c feed taken 1 }
-    ensures { marks.new ≡ marking ink.target (dripped ink c feed (by_word feed last word taken)) marks.old }
-{
-    for t in 0..4 {
-        mark_byte(marks, ink, c, feed, last, word, 4 * taken + t);
-    }
-}
-
-// Those that some words finish, pixel by pixel.
-fn mark_each(
-    marks: &mut [bool; 4096],
-    ink: Ink,
-    c: Clip,
-    feed: Feed,
-    taken: u32,
-    last: u32,
-    words: &[u32],
-)
-    requires { Drippable ink c feed taken (length words.now) }
-    ensures { marks.new ≡ marking ink.target (dripped ink c feed (by_run feed last words.now taken)) marks.old }
-{
-    let mut before = last;
-    for i in 0..words.len() {
-        let word = words[i];
-        mark_word(marks, ink, c, feed, taken + i as u32, before, word);
-        before = word;
-    }
-}
-
 // The rows of the data that n words from number `taken` on can reach: the first.
 #[tactic(auto, unfolding(crate::specs::Drips::first_row))]
 fn first_row(feed: Feed, taken: u32) -> u32
@@ -136,32 +64,105 @@ fn right_of(c: Clip, feed: Feed, past: u32, j: u32) -> u32
     (feed.x + whole_by(feed, j, past)).min(16384 + c.right)
 }
 
-// The pages of the pixels of row j that the bytes from number `from` up to, and without, `past` finish.
-fn mark_row(marks: &mut [bool; 4096], ink: Ink, c: Clip, feed: Feed, from: u32, past: u32, j: u32)
-    requires { Dripping ink c feed × (j < feed.height) }
-    ensures { marks.new ≡ marking ink.target (row_drips c feed from past j) marks.old }
-{
-    let y = feed.y + j;
-    if y < 16384 + c.top || 16384 + c.bottom <= y {
-        return;
-    }
-    let left = left_of(c, feed, from, j);
-    let right = right_of(c, feed, past, j);
-    if left < right {
-        pages::mark_rect(marks, ink.target, left - 16384, y - 16384, right - left, 1);
-    }
+// A host blit as it is written: where, with what, and which data it takes.
+#[derive(Clone, Copy)]
+struct Drip {
+    ink: Ink,
+    clip: Clip,
+    feed: Feed,
 }
 
-// Those that n words finish, row by row.
-fn mark_rows(marks: &mut [bool; 4096], ink: Ink, c: Clip, feed: Feed, taken: u32, n: u32)
-    requires { Drippable ink c feed taken n }
-    ensures { marks.new ≡ marking ink.target (rows_drips c feed (4 * taken) (4 * (taken + n)) (first_row feed taken) (min feed.height (past_row feed taken n) - first_row feed taken)) marks.old }
-{
-    let from = 4 * taken;
-    let past = 4 * (taken + n);
-    let end = feed.height.min(past_row(feed, taken, n));
-    for j in first_row(feed, taken)..end {
-        mark_row(marks, ink, c, feed, from, past, j);
+impl Drip {
+    // The pages of pixel (i, j) of value v.
+    fn mark_one(self, marks: &mut [bool; 4096], i: u32, j: u32, v: u32)
+        requires { Dripping self.ink self.clip self.feed × ((i < self.feed.width) × (j < self.feed.height)) }
+        ensures { marks.new ≡ marking self.ink.target (dripped self.ink self.clip self.feed (pixel i j v ∷ [])) marks.old }
+    {
+        let x = self.feed.x + i;
+        let y = self.feed.y + j;
+        if paint::covers(self.clip, x, y) {
+            if is_left(self.ink, self.feed, v) {
+                return;
+            }
+            pages::mark_pixel(marks, self.ink.target, x - 16384, y - 16384);
+        }
+    }
+
+    // Those of the pixels that byte o of the data finishes.
+    fn mark_byte(self, marks: &mut [bool; 4096], last: u32, word: u32, o: u32)
+        requires { Dripping self.ink self.clip self.feed }
+        ensures { marks.new ≡ marking self.ink.target (dripped self.ink self.clip self.feed (by_byte self.feed last word o)) marks.old }
+    {
+        let j = o / self.feed.step;
+        if self.feed.height <= j {
+            return;
+        }
+        let column = o % self.feed.step;
+        let start = host::whole_pixels(self.feed, column);
+        let end = host::whole_pixels(self.feed, column + 1);
+        for i in start..end {
+            let v = host::value_of(self.feed, last, word, o % 4, i);
+            self.mark_one(marks, i, j, v);
+        }
+    }
+
+    // Those that word number `taken` finishes; `last` is the word before it.
+    fn mark_word(self, marks: &mut [bool; 4096], taken: u32, last: u32, word: u32)
+        requires { Drippable self.ink self.clip self.feed taken 1 }
+        ensures { marks.new ≡ marking self.ink.target (dripped self.ink self.clip self.feed (by_word self.feed last word taken)) marks.old }
+    {
+        for t in 0..4 {
+            self.mark_byte(marks, last, word, 4 * taken + t);
+        }
+    }
+
+    // Those that some words finish, pixel by pixel.
+    fn mark_each(self, marks: &mut [bool; 4096], taken: u32, last: u32, words: &[u32])
+        requires { Drippable self.ink self.clip self.feed taken (length words.now) }
+        ensures { marks.new ≡ marking self.ink.target (dripped self.ink self.clip self.feed (by_run self.feed last words.now taken)) marks.old }
+    {
+        let mut before = last;
+        for i in 0..words.len() {
+            let word = words[i];
+            self.mark_word(marks, taken + i as u32, before, word);
+            before = word;
+        }
+    }
+
+    // The pages of the pixels of row j that the bytes from number `from` up to, and without, `past` finish.
+    fn mark_row(self, marks: &mut [bool; 4096], from: u32, past: u32, j: u32)
+        requires { Dripping self.ink self.clip self.feed × (j < self.feed.height) }
+        ensures { marks.new ≡ marking self.ink.target (row_drips self.clip self.feed from past j) marks.old }
+    {
+        let y = self.feed.y + j;
+        if y < 16384 + self.clip.top || 16384 + self.clip.bottom <= y {
+            return;
+        }
+        let left = left_of(self.clip, self.feed, from, j);
+        let right = right_of(self.clip, self.feed, past, j);
+        if left < right {
+            pages::mark_rect(
+                marks,
+                self.ink.target,
+                left - 16384,
+                y - 16384,
+                right - left,
+                1,
+            );
+        }
+    }
+
+    // Those that n words finish, row by row.
+    fn mark_rows(self, marks: &mut [bool; 4096], taken: u32, n: u32)
+        requires { Drippable self.ink self.clip self.feed taken n }
+        ensures { marks.new ≡ marking self.ink.target (rows_drips self.clip self.feed (4 * taken) (4 * (taken + n)) (first_row self.feed taken) (min self.feed.height (past_row self.feed taken n) - first_row self.feed taken)) marks.old }
+    {
+        let from = 4 * taken;
+        let past = 4 * (taken + n);
+        let end = self.feed.height.min(past_row(self.feed, taken, n));
+        for j in first_row(self.feed, taken)..end {
+            self.mark_row(marks, from, past, j);
+        }
     }
 }
 
@@ -179,11 +180,12 @@ pub fn mark_data(
     requires { Drippable ink c feed taken (length words.now) }
     ensures { marks.new ≡ marking ink.target (dripped ink c feed (by_run feed last words.now taken)) marks.old }
 {
+    let drip = Drip { ink, clip: c, feed };
     if feed.bytes == 0 && ink.clear {
-        mark_each(marks, ink, c, feed, taken, last, words);
+        drip.mark_each(marks, taken, last, words);
         return;
     }
-    mark_rows(marks, ink, c, feed, taken, words.len() as u32);
+    drip.mark_rows(marks, taken, words.len() as u32);
 }
 
 // Of a cut, the rows that n words from number `taken` on can reach.
