@@ -1,8 +1,8 @@
 // A surface, and the bytes and bits of its pixels in memory.
 #![tactic(auto)]
 
-ghost use Rattle.std.specs.Prelude.{◌≡◌, ℕ, false, ◌+◌, ◌-◌, ◌/◌, ◌%◌, ◌^◌, ◌<◌, ◌≤◌, min, length, get_or, set};
-ghost use Rattle.surface.specs.Place.{same_surface, one, row_bytes, byte_at, byte_of, read_bytes, write_bytes, read_px, write_px, differ, differs, three, mono_bit};
+ghost use Rattle.std.specs.Prelude.{◌≡◌, ℕ, false, ◌+◌, ◌-◌, ◌/◌, ◌%◌, ◌^◌, ◌<◌, ◌≤◌, length, get_or, set};
+ghost use Rattle.surface.specs.Place.{same_surface, row_bytes, byte_at, byte_of, read_bytes, write_bytes, read_px, write_px, differ, differs, three, mono_bit};
 ghost use Rattle.surface.specs.Asked.{Small, Colour, Near, Close, Held, OnColour, OnClose, OnMono};
 
 #[derive(Clone, Copy, PartialEq, Eq)]
@@ -13,30 +13,11 @@ pub struct Surface {
     pub tiled: bool,
 }
 
+// Equality as the definitions say it.
 pub fn same_surface(a: Surface, b: Surface) -> bool
     ensures { result ≡ same_surface a b }
 {
     a == b
-}
-
-pub fn wide(x: u32) -> usize
-    ensures { result ≡ x }
-{
-    x as usize
-}
-
-// The lesser of two numbers.
-pub fn least(a: u32, b: u32) -> u32
-    ensures { result ≡ min a b }
-{
-    a.min(b)
-}
-
-// 1 for what is so, 0 for what is not.
-pub fn one(b: bool) -> u32
-    ensures { (result ≡ one b) × (result ≤ 1) }
-{
-    u32::from(b)
 }
 
 // The address of byte `column` of row y.
