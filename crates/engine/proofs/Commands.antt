@@ -341,6 +341,26 @@ launched-carried e m d =
     (number (regs e)) (idle-carried (regs e) e m) (copied-carried e to_source m) (stretched-carried e to_source m) (fed-carried e m d) (filled-carried e to_target m)
     (lined-carried e to_target m) (unbuilt-carried (regs e) e m)
 
+-- its number is the verdict's
+pub launched-number : (e : Engine) (m : List ℕ) (d : ℕ) → number_of (launched e m d).answer ≡ (starting e.bank e.blit m d).verdict
+unfolding launched starting copy_verdict stretch_verdict host_verdict fill_verdict line_verdict refusal
+launched-number e m d =
+    let to_source = stored e.bank 0x5c d in
+    let to_target = stored e.bank 0x6c d in
+    let s = to_source.regs in
+    let r = regs e in
+    let t = to_target.regs in
+    let len = length m in
+    by_tests
+    (λ a b c f g h. let started = pick a b c f g h (idling e.bank e.blit m) (copying to_source e.blit m) (stretching to_source e.blit m) (feeding e.bank e.blit m d)
+    (filling to_target e.blit m) (lining to_target e.blit m) (unbuilt e.bank e.blit m) in
+    number_of (judging e e m started).answer ≡ started.verdict)
+    (number r) (λ _. refl) (λ _. first-number (not (both_fine s)) false (not (all_on (target s) len (covered (copy_cut s))) || copy_off s len) (copy_meets s len) e m _ refl)
+    (λ _. first-number (not (both_fine s)) (stretch_fault s) (not (all_on (target s) len (covered (fill_cut s))) || stretch_off s len) (stretch_meets s len) e m _ refl)
+    (λ _. first-number (not (host_fine r)) (host_fault r) (not (all_on (target r) len (covered (fill_cut r)))) false e m _ refl)
+    (λ _. first-number (not (target_fine t)) false (not (all_on (target t) len (covered (fill_cut t)))) false e m _ refl)
+    (λ _ _. first-number (not (target_fine t)) false (line_off (target t) len (clip_of t) (points (line_of t))) false e m _ refl) (λ _. refl)
+
 -- ---- any write: `two` and `three` say whether rows 2 and 3 apply
 abbrev pub PaintingOf : Option Regs → List Touch → List ℕ → Step → Type 0
 PaintingOf none ts m s = (s.memory ≡ m) × (count_of s.answer ≡ 0) × (changed_of s.answer ≡ 0)
