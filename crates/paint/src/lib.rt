@@ -148,6 +148,7 @@ fn stored(n: Tally, changed: bool) -> Tally
 }
 
 // The one store: the pixel at (x, y) becomes v and is told, or it is left.
+#[tactic(auto, unfolding(crate::specs::Paint::dab))]
 pub fn put_value(mem: &mut [u8], s: Surface, x: u32, y: u32, left: bool, v: u32, n: Tally) -> Tally
     requires { OnColour s (length mem.old) x y × Room n 1 }
     ensures { tallied mem.new result ≡ dab s (px x y) (cond left none (some v)) (tallied mem.old n) }
@@ -159,6 +160,7 @@ pub fn put_value(mem: &mut [u8], s: Surface, x: u32, y: u32, left: bool, v: u32,
 }
 
 // The same of a pixel close to the origin.
+#[tactic(auto, unfolding(crate::specs::Paint::dab))]
 pub fn put_close(mem: &mut [u8], s: Surface, x: u32, y: u32, left: bool, v: u32, n: Tally) -> Tally
     requires { OnClose s (length mem.old) x y × Room n 1 }
     ensures { tallied mem.new result ≡ dab s (px x y) (cond left none (some v)) (tallied mem.old n) }
@@ -170,6 +172,7 @@ pub fn put_close(mem: &mut [u8], s: Surface, x: u32, y: u32, left: bool, v: u32,
 }
 
 // The same of a pixel of so many bytes from an address on.
+#[tactic(auto, unfolding(crate::specs::Paint::dab_at))]
 pub fn put_value_at(mem: &mut [u8], at: usize, bytes: u32, left: bool, v: u32, n: Tally) -> Tally
     requires { Held at bytes (length mem.old) × Room n 1 }
     ensures { tallied mem.new result ≡ dab_at at bytes (cond left none (some v)) (tallied mem.old n) }
@@ -181,6 +184,7 @@ pub fn put_value_at(mem: &mut [u8], at: usize, bytes: u32, left: bool, v: u32, n
 }
 
 // A pixel by itself: it is given what pattern, source and target make, or it is left.
+#[tactic(auto, unfolding(crate::specs::Mix::mixed))]
 pub fn put_source(
     mem: &mut [u8],
     ink: Ink,
