@@ -1,18 +1,10 @@
 -- `stamps::stamp` meets its contract: a run of pages, or those that the walk finds.
 -- Assumes nothing.
 use mathlib.Core.Path.{sym, ap, ◌∙◌}
-use native.Mathlib.Omega.{arith}
-use lib.ListN.{length}
 use Rattle.pages.specs.declared.Extent.{Extent}
 use Rattle.acts.specs.Deed.{bank_of}
 use Rattle.stamps.proofs.StampLaws.{past-most, stamped-run, stamped-found}
 use Rattle.stamps.proofs.stamp.Goals as goal
-
-pub overflow_cast-words : goal.overflow_cast-words
-overflow_cast-words c = omega (arith, c.requires.0.goes.short)
-
-pub extent_of-e-requires : goal.extent_of-e-requires
-extent_of-e-requires c = record { len = length c.args.mem.now; goes = c.requires.0.goes }
 
 pub set_bits-requires : goal.set_bits-requires
 set_bits-requires c =
@@ -25,9 +17,6 @@ returns-then-e c =
     let e = c.extent_of-e.ensures in
     stamped-run (bank_of a.r a.pattern.now) a.blit a.words.now a.mem.now a.count c.requires.0 a.s.now a.at c.requires.1
     (sym (ap (λ (x : Extent). x.whole) e) ∙ c.if-e.true) e c.set_bits.ensures
-
-pub walk-requires : goal.walk-requires
-walk-requires c = c.requires.0
 
 pub add_marks-requires : goal.add_marks-requires
 add_marks-requires c =
