@@ -13,7 +13,7 @@ pub struct Bank {
     pub pattern: [u8; 256],
 }
 
-// A word into four bytes of the pattern, low byte first.
+// A word into four bytes of the pattern, low byte first. Of an array by value, and nothing past its end, as the definitions say: so neither is one of basics' two.
 #[tactic(auto, unfolding(crate::specs::Bank::put_word))]
 fn put_word(mut p: [u8; 256], at: usize, word: u32) -> [u8; 256]
     ensures { result ≡ put_word p at word }

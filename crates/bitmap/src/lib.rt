@@ -25,7 +25,7 @@ fn set_bit(s: &mut [u8], at: usize, k: usize)
     }
 }
 
-// The bits of the pages from first up to, and without, past are set.
+// The bits of the pages from first up to, and without, past are set. A place beside the bytes, here and below: the bits lie in a state that C lends, behind other bytes.
 pub fn set_bits(s: &mut [u8], at: usize, first: usize, past: usize)
     requires { (at + 512 ≤ length s.old) × (past ≤ 4096) }
     ensures { s.new ≡ with_bits s.old at first (past - first) }

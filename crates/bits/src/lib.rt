@@ -69,7 +69,7 @@ pub fn put_run(
     r
 }
 
-// The same, with a loop for each number of bytes.
+// The same, with a loop for each number of bytes. Public: its parameters stay as docs/PUBLIC.md has them.
 pub fn put_bits(
     mem: &mut [u8],
     p: Plain,

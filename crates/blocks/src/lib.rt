@@ -146,7 +146,7 @@ impl Buffers {
     }
 }
 
-// Of h rows, each against a row of its own.
+// Of h rows, each against a row of its own. Public: its parameters stay as docs/PUBLIC.md has them.
 pub fn unlike_rows(
     mem: &[u8],
     to: Surface,

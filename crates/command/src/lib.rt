@@ -149,7 +149,7 @@ pub fn decode_line(r: Regs) -> Line
         y0: positions::place13(r.src_xy / 0x1_0000),
         x1: positions::place13(r.dst_xy),
         y1: positions::place13(r.dst_xy / 0x1_0000),
-        poly: r.command % 16 == 7,
+        poly: r.command % 16 == 7, // a polyline's number, as `line_of` reads it
     }
 }
 

@@ -95,6 +95,7 @@ fn step_of(packing: u32, bytes: u32, width: u32, stride: u32) -> u32
     ensures { result ≡ step_of packing bytes width stride }
 {
     let row = row_length(bytes, width);
+    // the packing's number in the register
     match packing {
         0 => stride,
         1 => row,

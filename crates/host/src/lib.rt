@@ -154,7 +154,7 @@ impl Blit {
     }
 }
 
-// The pixels that word number `taken` finishes, after those that n tells of; `last` is the word before it.
+// The pixels that word number `taken` finishes, after those that n tells of; `last` is the word before it. Public: its parameters stay as docs/PUBLIC.md has them.
 pub fn host_word(
     mem: &mut [u8],
     ink: Ink,
@@ -178,7 +178,7 @@ pub fn host_word(
     blit.draw_word(mem, taken, last, word, n)
 }
 
-// Those that some words finish, the first of them number `taken`; `last` is the word before them. The tally of those written.
+// Those that some words finish, the first of them number `taken`; `last` is the word before them. The tally of those written. Public: its parameters stay as docs/PUBLIC.md has them.
 pub fn host_words(
     mem: &mut [u8],
     ink: Ink,

@@ -30,6 +30,7 @@ pub struct Line {
     pub poly: bool,
 }
 
+// A stipple's bits, and whether there is one: the definitions `stipple_bit` and `after` read the bits only where there is, and command::pen_of gives both.
 #[derive(Clone, Copy)]
 pub struct Pen {
     pub stipple: u32,

@@ -240,7 +240,7 @@ pub fn has_room(len: usize, answered: usize) -> bool
     answered < len / 3
 }
 
-// One answer behind those that are there; how many there are then.
+// One answer behind those that are there; how many there are then. A run and its length, and the answer as a number: C lends the one and reads the other.
 #[tactic(auto, unfolding(crate::specs::Answers::put))]
 pub fn put_answer(
     answers: &mut [u32],

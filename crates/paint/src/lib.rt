@@ -24,7 +24,7 @@ pub struct Tally {
     pub changed: u32,
 }
 
-// A pixel's source: its value in the target's format, whether it matches the source key, and whether the pixel is left unwritten.
+// A pixel's source: its value in the target's format, whether it matches the source key, and whether the pixel is left unwritten. Flags beside the value: the definitions `source` and `chosen` read each by itself.
 #[derive(Clone, Copy)]
 pub struct Source {
     pub value: u32,
@@ -159,7 +159,7 @@ pub fn put_value(mem: &mut [u8], s: Surface, x: u32, y: u32, left: bool, v: u32,
     stored(n, surface::put_pixel(mem, s, x, y, v))
 }
 
-// The same of a pixel close to the origin.
+// The same of a pixel close to the origin: apart from the other two, since a closure for their one call would be no plainer.
 #[tactic(auto, unfolding(crate::specs::Paint::dab))]
 pub fn put_close(mem: &mut [u8], s: Surface, x: u32, y: u32, left: bool, v: u32, n: Tally) -> Tally
     requires { OnClose s (length mem.old) x y × Room n 1 }

@@ -30,7 +30,7 @@ fn source_at(mem: &[u8], t: Task, bit: u32, x: u32, y: u32) -> Source
     paint::colour_source(t.ink, from.bytes, surface::get_pixel(mem, from, sx, sy))
 }
 
-// The w pixels of row y, from the left or from the right, after those that n tells of; `values` and `bits` are of the pattern's row there.
+// The w pixels of row y, from the left or from the right, after those that n tells of; `values` and `bits` are of the pattern's row there. A struct for this one call would only say its parameters twice.
 fn paint_across(
     mem: &mut [u8],
     t: Task,

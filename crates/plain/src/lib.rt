@@ -291,7 +291,7 @@ impl Blit {
     }
 }
 
-// What host_word does, for a plain blit.
+// What host_word does, for a plain blit. Public: its parameters stay as docs/PUBLIC.md has them.
 pub fn plain_word(
     mem: &mut [u8],
     p: Plain,

@@ -10,7 +10,7 @@ use ink::Ink;
 use keys::Range;
 use paint::Source;
 
-// Raster operation number i of a command.
+// Raster operation number i of a command. By a match, since the definitions have the four as fields of `Ink`.
 #[tactic(auto, unfolding(crate::specs::Plan::code_of))]
 fn code_of(ink: Ink, i: u32) -> u32
     ensures { result ≡ code_of ink i }

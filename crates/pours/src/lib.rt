@@ -7,7 +7,7 @@ ghost use Rattle.paint.specs.Paint.{state};
 ghost use Rattle.pours.specs.Pours.{word_in, unlike, poured_at};
 ghost use Rattle.pours.specs.Asked.{Pours, WordRead, unlike_word};
 
-// The word in the four bytes from an address on, low byte first.
+// The word in the four bytes from an address on, low byte first: one line, told as the laws of this room read it.
 fn word_at(mem: &[u8], at: usize) -> u32
     requires { Held at 4 (length mem.now) }
     ensures { WordRead mem.now at result }

@@ -24,7 +24,7 @@ pub fn fill(mem: &mut [u8], seed: u32)
     }
 }
 
-// How much of a memory of len bytes a record of this kind is lent.
+// How much of a memory of len bytes a record of this kind is lent; the kind is a number of the recorded input.
 pub fn lent(len: usize, kind: u32) -> usize
     ensures { (result ≡ lent_of len kind) × (result ≤ len) }
 {

@@ -122,7 +122,7 @@ fn sift_row(
     }
 }
 
-// The pages of a rectangle's pixels that are written, row by row.
+// The pages of a rectangle's pixels that are written, row by row. Public: its parameters stay as docs/PUBLIC.md has them.
 pub fn sift_rows(
     marks: &mut [bool; 4096],
     mem: &[u8],

@@ -14,7 +14,7 @@ use acts::Blit;
 use registers::Regs;
 
 // A command that wrote `count` pixels. Where all pages of its rectangle are to be marked, their bits are set; else the pages are found on marks of their own, all clear
-// before, and their bits are added.
+// before, and their bits are added. Public: its parameters stay as docs/PUBLIC.md has them.
 pub fn stamp(
     s: &mut [u8],
     at: usize,

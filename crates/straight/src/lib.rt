@@ -11,7 +11,7 @@ ghost use Rattle.straight.specs.Asked.{CanCopy, RowCopies, Formats, RunAt, Pixel
 use paint::Tally;
 use surface::Surface;
 
-// What a straight copy needs: the two surfaces, the source key if there is one, and the first pixel of the target and of the source.
+// What a straight copy needs: the two surfaces, the source key if there is one (flag and bounds as the definition `straight_of` has them), and the first pixel of the target and of the source.
 #[derive(Clone, Copy)]
 pub struct Straight {
     pub target: Surface,
@@ -57,7 +57,7 @@ pub fn straight_pixel(mem: &mut [u8], t: Straight, from: u32, to: u32, d: usize,
     surface::store_bytes(mem, d, to, colour::convert_by_rule(from, to, v))
 }
 
-// The same of a copy without a key.
+// The same of a copy without a key: apart, so that a stretch without one has no test of it in its loop.
 pub fn plain_pixel(mem: &mut [u8], t: Straight, from: u32, to: u32, d: usize, s: usize) -> bool
     requires { PixelCopies t from to d s (length mem.old) × (t.key ≡ false) }
     ensures { (mem.new ≡ copied t d s mem.old) × (result ≡ differ (λ k. d + k) to mem.old mem.new) }

@@ -139,7 +139,7 @@ pub fn store_bytes(mem: &mut [u8], at: usize, n: u32, v: u32) -> bool
     old != low_bytes(n, v)
 }
 
-// Three bytes, wherever each of them lies.
+// Three bytes, wherever each of them lies: beside the others, whose bytes lie at one address after the other.
 #[tactic(auto, unfolding(crate::specs::Place::read_bytes))]
 fn get_three(mem: &[u8], at0: usize, at1: usize, at2: usize) -> u32
     requires { (at0 < length mem.now) × (at1 < length mem.now) × (at2 < length mem.now) }
@@ -169,7 +169,7 @@ fn store_three(mem: &mut [u8], at0: usize, at1: usize, at2: usize, v: u32) -> bo
     old != get_three(mem, at0, at1, at2)
 }
 
-// A pixel of a surface in rows.
+// A pixel of a surface in rows: for callers that know the layout, and so have no test of it in their loop.
 pub fn get_in_rows(mem: &[u8], s: Surface, x: u32, y: u32) -> u32
     requires { OnColour s (length mem.now) x y × (s.tiled ≡ false) }
     ensures { result ≡ read_px mem.now s x y }

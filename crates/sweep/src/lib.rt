@@ -14,7 +14,7 @@ use keys::Range;
 use paint::{Source, Tally};
 use surface::Surface;
 
-// A rectangle's work: the ink; where it is copied from, if it is; and the first pixel of the source and of the target.
+// A rectangle's work: the ink; where it is copied from, if it is (a flag, as the definitions `fill_task` and `copy_task` have it); and the first pixel of the source and of the target.
 #[derive(Clone, Copy)]
 pub struct Task {
     pub ink: Ink,
@@ -92,7 +92,7 @@ fn source_at(mem: &[u8], t: Task, range: Range, bit: u32, x: u32, y: u32) -> Sou
     )
 }
 
-// The w pixels of row y, from the left or from the right, after those that n tells of; `quads` and `bits` are of the pattern's row there.
+// The w pixels of row y, from the left or from the right, after those that n tells of; `quads` and `bits` are of the pattern's row there. A struct for this one call would only say its parameters twice.
 fn paint_across(
     mem: &mut [u8],
     b: &Brush,

@@ -50,7 +50,7 @@ fn mask_of(ink: Ink, value: u32, bit: u32) -> Mask
     }
 }
 
-// The masks of the first rows, at most eight, of eight pixels from (x, y) on, in the target's format, put at the start of three tables.
+// The masks of the first rows, at most eight, of eight pixels from (x, y) on, in the target's format, put at the start of three tables. Public: its parameters stay as docs/PUBLIC.md has them.
 pub fn masks_at(
     keep: &mut [u8; 256],
     flip: &mut [u8; 256],
@@ -181,7 +181,7 @@ fn tint_part(
     paint::note(n, count, runs::unlike(old, 0, mem, at, bytes, w))
 }
 
-// A row, 256 at a time.
+// A row, 256 at a time. What changes from row to row stays a parameter, here and in tint_part.
 fn tint_row(
     mem: &mut [u8],
     old: &mut [u8],
@@ -202,7 +202,7 @@ fn tint_row(
     tint_part(mem, old, s, masks, x + w / 256 * 256, w % 256, y, r)
 }
 
-// A rectangle by tables of masks, its surface in rows, row by row from the upper left corner; the tally of the pixels written.
+// A rectangle by tables of masks, its surface in rows, row by row from the upper left corner; the tally of the pixels written. Public: its parameters stay as docs/PUBLIC.md has them.
 pub fn tint_rows(
     mem: &mut [u8],
     s: Surface,

@@ -156,7 +156,7 @@ fn count_rows(adds: &[u32; 64], w: u32, h: u32) -> u32
     r
 }
 
-// A rectangle of pixels, by the first rows of masks in two tables; how many change.
+// A rectangle of pixels, by the first rows of masks in two tables; how many change. A struct for this one call would only say its parameters twice.
 fn wash_masks(
     mem: &mut [u8],
     s: Surface,
