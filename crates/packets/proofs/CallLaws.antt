@@ -6,12 +6,10 @@ use Rattle.basics.specs.Each.{each}
 use Rattle.basics.specs.Word.{word_at}
 use Rattle.packets.specs.declared.Rest.{Rest}
 use Rattle.packets.specs.declared.Reader.{Reader}
-use Rattle.packets.specs.declared.Event.{Event}
-use Rattle.packets.specs.declared.Event.TheVariants.{Nothing, Write, Closed}
 use Rattle.packets.specs.declared.Next.{Next}
 use Rattle.packets.specs.Reader.{between, worded, took, is_between, next, next_of}
-use Rattle.packets.specs.Delivery.{Note, nine, Wrote, wrote, Writer}
-use Rattle.packets.specs.Answers.{Lent, room, put, Call, call, Done, noting, is_full, took_one, took_all}
+use Rattle.packets.specs.Delivery.{Writer}
+use Rattle.packets.specs.Answers.{Lent, room, Call, call, Done, noting, is_full, took_one, took_all}
 use Rattle.packets.proofs.NextLaws.{four}
 use Rattle.packets.proofs.Promises.{word, spelling}
 
@@ -40,20 +38,6 @@ between_is r e =
     parts r.word r.held r.rest r.closed (eqb-true r.held 0 both.0) (eqb-true r.word 0 both.1) all.1
 
 module _ {S : Type 0} (write : Writer S) where
-  -- what an event makes, by what it is
-  module _ {e : Event} (s : S) (l : Lent) where
-    pub nothing-done : e ≡ Nothing → Done write e s l s l
-    nothing-done p = record { state = rw p; run = rw p }
-
-    pub write_done : {o w : ℕ} {s' : S} {n : Note} {l' : Lent} → e ≡ Write o w → wrote s' n ≡ write o w s → l' ≡ put n l → Done write e s l s' l'
-    write_done p f g = record { state = rw p (ap (λ (x : Wrote S). x.state) f); run = rw p (g ∙ ap (λ (x : Wrote S). put x.note l) f) }
-
-    pub nine-done : {l' : Lent} → e ≡ Closed → l' ≡ put nine l → Done write e s l s l'
-    nine-done p g = record { state = rw p; run = rw p g }
-
-  pub noting-by : (r : Reader) (u : ℕ) {e : Event} {s : S} {l : Lent} {s' : S} {l' : Lent} → Done write e s l s' l' → call r s' l' u ≡ noting write e r s l u
-  noting-by r u h = rw (h.state, h.run)
-
   four-took : (a b c d u : ℕ) (rest : Rest) (s : S) (l : Lent) → room l ≡ true
       → noting write (worded rest (word a b c d)).event (worded rest (word a b c d)).reader s l (u + 4)
       ≡ took_one write d (took_one write c (took_one write b (took_one write a (call (between rest) s l u))))
@@ -98,20 +82,17 @@ module _ {S : Type 0} (write : Writer S) where
               ∙ sym (ap (λ (t : List ℕ). each (took_one write) t (call r s l u)) (one-first piece u some));
         }
 
-    pub turned : is_full (call r s l u) ≡ false → {n : Next} → n ≡ next_of r piece u (room l) → {c' : Call S} → c' ≡ noting write n.event n.reader s l n.used
-        → Turned piece (call r s l u) c'
+    -- by what the code finds: whether there is room, the next bytes, and what was done of their event
+    pub turned : {t : Bool} → t ≡ room l → (ltb 2 r.held && not t) ≡ false → {n : Next} → n ≡ next_of r piece u t → {s' : S} {l' : Lent} → Done write n.event s l s' l'
+        → Turned piece (call r s l u) (call n.reader s' l' n.used)
     unfolding next_of after
-    turned f {n} g {c'} k = rw (k, g) (by-test (is_between r && room l && leb 4 (length piece - u)) refl)
+    turned p f {n} g d = rw (d.state, d.run, g, p) (by-test (is_between r && room l && leb 4 (length piece - u)) refl)
       where
         by-test : (t : Bool) → (is_between r && room l && leb 4 (length piece - u)) ≡ t
             → Turned piece (call r s l u)
             (after (cond t (next (worded r.rest (word_at piece u)) (u + 4)) (next (took (get_or piece u 0) r) (u + 1))))
         by-test true e = word-turn e
-        by-test false e = byte-turn f
-
-  -- the code's test for it
-  pub tested : {t b : Bool} (r : Reader) (s : S) (l : Lent) (u : ℕ) → t ≡ room l → (ltb 2 r.held && not t) ≡ b → is_full (call r s l u) ≡ b
-  tested r s l u p e = rw p at e
+        by-test false e = byte-turn (rw p at f)
 
   -- a full call takes nothing more
   pub full-stays : (bytes : List ℕ) (c : Call S) → is_full c ≡ true → c ≡ took_all write bytes c

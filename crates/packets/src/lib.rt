@@ -2,11 +2,11 @@
 // caller's.
 #![tactic(auto)]
 
-ghost use Rattle.std.specs.Prelude.{◌≡◌, ◌+◌, ◌*◌, ◌/◌, ◌%◌, ◌^◌, ◌<◌, length};
+ghost use Rattle.std.specs.Prelude.{◌≡◌, ◌+◌, ◌*◌, ◌/◌, ◌%◌, ◌^◌, ◌<◌, ◌≤◌, length};
 ghost use Rattle.packets.specs.Header.{turned_down};
 ghost use Rattle.packets.specs.Reader.{counted, skipped, opened, advanced, between, blank, heard, headed, worded, shifted, took, is_between, next_of};
-ghost use Rattle.packets.specs.Delivery.{note};
-ghost use Rattle.packets.specs.Answers.{spare, lent, put};
+ghost use Rattle.packets.specs.Delivery.{note, wrote, Writer};
+ghost use Rattle.packets.specs.Answers.{spare, lent, put, call, called, Done};
 
 // What is left of the open packet: the offset of its next word, and either the step to the one after it and how many words are left, or the mask's bits that
 // are left, the lowest of them the next word's.
@@ -259,4 +259,90 @@ pub fn put_answer(
         return answered + 1;
     }
     answered
+}
+
+// ---- whatever carries the register writes out
+
+// Its answer to a write: the answer's number, how many pixels it wrote and how many of them changed.
+#[derive(Clone, Copy)]
+pub struct Answer {
+    pub number: u32,
+    pub count: u32,
+    pub changed: u32,
+}
+
+// Of what carries writes out, proofs name what it is seen as, what a write makes of that, and what stays as it is, such as which memory is lent to it.
+pub trait Machine {
+    ghost Seen: { Type 0 };
+
+    ghost Stays: { Type 0 };
+
+    ghost seen: { Self → Self.Seen };
+
+    ghost stays: { Self → Self.Stays };
+
+    ghost by: { Writer Self.Seen };
+
+    fn write(&mut self, offset: u32, word: u32) -> Answer
+        ensures written { wrote (Self.seen self.new) (note result.number result.count result.changed) ≡ Self.by offset word (Self.seen self.old) }
+        ensures stays { Self.stays self.new ≡ Self.stays self.old };
+}
+
+// Bytes brought an event: a register write is carried out, and answered as the 9 is. How many answers there are then.
+fn tell<M: Machine>(machine: &mut M, answers: &mut [u32], answered: usize, event: Event) -> usize
+    ensures done { Done M.by event (M.seen machine.old) (lent answers.old answered) (M.seen machine.new) (lent answers.new result) }
+    ensures stays { M.stays machine.new ≡ M.stays machine.old }
+{
+    match event {
+        Event::Nothing => answered,
+        Event::Write(offset, word) => {
+            let Answer {
+                number,
+                count,
+                changed,
+            } = machine.write(offset, word);
+            put_answer(answers, answered, number, count, changed)
+        }
+        Event::Closed => put_answer(answers, answered, 9, 0, 0),
+    }
+}
+
+// What became of a piece: the reader, how many bytes were used, and how many answers were given.
+#[derive(Clone, Copy)]
+pub struct Fed {
+    pub reader: Reader,
+    pub used: usize,
+    pub answered: usize,
+}
+
+// A piece of bytes, and the answers to the writes that they bring, in the lent run. The call stops before the last byte of a word where the run has no room for
+// one more answer.
+pub fn feed<M: Machine>(reader: Reader, machine: &mut M, piece: &[u8], answers: &mut [u32]) -> Fed
+    ensures answers_after { call result.reader (M.seen machine.new) (lent answers.new result.answered) result.used ≡ called M.by reader (M.seen machine.old) piece.now answers.old }
+    ensures within { (result.used ≤ length piece.now) × (result.answered * 3 ≤ length answers.new) }
+    ensures stays { M.stays machine.new ≡ M.stays machine.old }
+{
+    let mut f = Fed {
+        reader,
+        used: 0,
+        answered: 0,
+    };
+    // while: a turn uses as many bytes as the reader takes at once.
+    while f.used < piece.len() {
+        let room = has_room(answers.len(), f.answered);
+        if (2 < f.reader.held) & !room {
+            return f;
+        }
+        let Next {
+            reader,
+            event,
+            used,
+        } = f.reader.next(piece, f.used, room);
+        f = Fed {
+            reader,
+            used,
+            answered: tell(machine, answers, f.answered, event),
+        };
+    }
+    f
 }
