@@ -2,12 +2,12 @@
 // byte is there.
 #![tactic(auto)]
 
-ghost use Rattle.std.specs.Prelude.{◌≡◌, ◌*◌, ◌≤◌, length};
-ghost use Rattle.packets.specs.Answers.{lent, call, noting, called};
-ghost use Rattle.intake.specs.Intake.{machine, by_engine, fed_of};
+ghost use Rattle.std.specs.Prelude.{◌≡◌, ◌*◌, ◌≤◌, length, ℕ};
+ghost use Rattle.packets.specs.Answers.{called};
+ghost use Rattle.intake.specs.Intake.{Machine, machine, by_engine, fed_of};
 
 use engine::{Engine, Outcome, changed_of, count_of, number_of};
-use packets::{Event, Reader};
+use packets::{Answer, Machine, Reader};
 
 // What a piece left: reader and engine, how many of its bytes were used, and how many answers were given.
 #[derive(Clone, Copy)]
@@ -18,45 +18,32 @@ pub struct Fed {
     pub answered: usize,
 }
 
-// The bytes up to `used` brought an event: a register write is carried out, and answered as the 9 is.
-fn tell(
-    reader: Reader,
+// The engine with the memory that it is lent.
+#[derive(Drop)]
+struct ByEngine<'a> {
     engine: Engine,
-    mem: &mut [u8],
-    answers: &mut [u32],
-    answered: usize,
-    event: Event,
-    used: usize,
-) -> Fed
-    ensures { fed_of result mem.new answers.new ≡ noting by_engine event reader (machine engine mem.old) (lent answers.old answered) used }
-{
-    match event {
-        Event::Nothing => Fed {
-            reader,
-            engine,
-            used,
-            answered,
-        },
-        Event::Write(offset, word) => {
-            let Outcome { engine, answer } = engine.write(mem, offset, word);
-            let (number, count, changed) = (
-                number_of(answer),
-                count_of(answer),
-                changed_of(answer),
-            );
-            Fed {
-                reader,
-                engine,
-                used,
-                answered: packets::put_answer(answers, answered, number, count, changed),
-            }
+    mem: &'a mut [u8],
+}
+
+impl Machine for ByEngine<'_> {
+    ghost Seen = { Machine };
+
+    ghost Stays = { ℕ };
+
+    ghost seen = { λ m. machine m.engine m.mem.now };
+
+    ghost stays = { λ m. m.mem.ghost_name };
+
+    ghost by = { by_engine };
+
+    fn write(&mut self, offset: u32, word: u32) -> Answer {
+        let Outcome { engine, answer } = self.engine.write(self.mem, offset, word);
+        self.engine = engine;
+        Answer {
+            number: number_of(answer),
+            count: count_of(answer),
+            changed: changed_of(answer),
         }
-        Event::Closed => Fed {
-            reader,
-            engine,
-            used,
-            answered: packets::put_answer(answers, answered, 9, 0, 0),
-        },
     }
 }
 
@@ -72,22 +59,16 @@ pub fn feed(
     ensures answers_after { fed_of result mem.new answers.new ≡ called by_engine reader (machine engine mem.old) piece.now answers.old }
     ensures within { (result.used ≤ length piece.now) × (result.answered * 3 ≤ length answers.new) }
 {
-    let mut f = Fed {
+    let mut machine = ByEngine { engine, mem };
+    let packets::Fed {
         reader,
-        engine,
-        used: 0,
-        answered: 0,
-    };
-    // while: a turn uses as many bytes as the reader takes at once.
-    while f.used < piece.len() {
-        let room = packets::has_room(answers.len(), f.answered);
-        if (2 < f.reader.held) & !room {
-            return f;
-        }
-        let n = f.reader.next(piece, f.used, room);
-        f = tell(
-            n.reader, f.engine, mem, answers, f.answered, n.event, n.used,
-        );
+        used,
+        answered,
+    } = packets::feed(reader, &mut machine, piece, answers);
+    Fed {
+        reader,
+        engine: machine.engine,
+        used,
+        answered,
     }
-    f
 }
