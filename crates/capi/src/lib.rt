@@ -1,15 +1,14 @@
 // The engine for callers in C, C++ and Rust. Its state lies in bytes that the caller lends: crate state.
 #![tactic(auto)]
 
-ghost use Rattle.std.specs.Prelude.{◌≡◌, true, ◌+◌, ◌<◌, ◌≤◌, length};
+ghost use Rattle.std.specs.Prelude.{◌≡◌, ℕ, true, ◌+◌, ◌<◌, ◌≤◌, length};
 ghost use Rattle.state.specs.Layout.{state_size, is_state, Bytes};
 ghost use Rattle.capi.specs.Calls.{packed_answer, call, opening, written_to, run_call, ran_to, opened_to, read_of, part, part_of, plainly, registered};
 ghost use Rattle.capi.specs.Asked.{Draws};
-ghost use Rattle.capi.specs.Packets.{kept, by_call, piece_call, opened_reader, packet_call, packets_to};
-ghost use Rattle.packets.specs.Answers.{lent, Done, called};
+ghost use Rattle.capi.specs.Packets.{Kept, kept, by_call, opened_reader, packet_call, packets_to};
 
 use engine::{Answer, Outcome, changed_of};
-use packets::{Event, Reader};
+use packets::{Machine, Reader};
 use registers::Place;
 
 // An answer's number in the high 32 bits, its count in the low 32.
@@ -139,70 +138,33 @@ pub extern "C" fn rimebarrow_run(
     out.number()
 }
 
-// What became of a piece: the reader, how many bytes were used, and how many answers were given.
-#[derive(Clone, Copy)]
-struct Fed {
-    reader: Reader,
-    used: usize,
-    answered: usize,
+// The state and the memory that are lent: `rimebarrow_write` carries a register write out.
+#[derive(Drop)]
+struct ByCall<'a> {
+    state: &'a mut [u8],
+    memory: &'a mut [u8],
 }
 
-// Bytes brought an event: a register write is carried out by `rimebarrow_write`, and answered as the 9 is. How many answers there are then.
-fn tell(
-    state: &mut [u8],
-    memory: &mut [u8],
-    answers: &mut [u32],
-    answered: usize,
-    event: Event,
-) -> usize
-    ensures { Done by_call event (kept state.old memory.old) (lent answers.old answered) (kept state.new memory.new) (lent answers.new result) }
-{
-    match event {
-        Event::Nothing => answered,
-        Event::Write(offset, word) => {
-            let mut changed: u32 = 0;
-            let answer = rimebarrow_write(state, memory, offset, word, &mut changed);
-            packets::put_answer(
-                answers,
-                answered,
-                (answer / 0x1_0000_0000) as u32,
-                (answer % 0x1_0000_0000) as u32,
-                changed,
-            )
-        }
-        Event::Closed => packets::put_answer(answers, answered, 9, 0, 0),
-    }
-}
+impl Machine for ByCall<'_> {
+    ghost Seen = { Kept };
 
-// The bytes of a piece, up to where there is no room for one more answer.
-fn feed(
-    reader: Reader,
-    state: &mut [u8],
-    memory: &mut [u8],
-    piece: &[u8],
-    answers: &mut [u32],
-) -> Fed
-    ensures { piece_call result.reader state.new memory.new answers.new result.used result.answered ≡ called by_call reader (kept state.old memory.old) piece.now answers.old }
-{
-    let mut f = Fed {
-        reader,
-        used: 0,
-        answered: 0,
-    };
-    // while: a turn uses as many bytes as the reader takes at once.
-    while f.used < piece.len() {
-        let room = packets::has_room(answers.len(), f.answered);
-        if (2 < f.reader.held) & !room {
-            return f;
+    ghost Stays = { ℕ × ℕ };
+
+    ghost seen = { λ m. kept m.state.now m.memory.now };
+
+    ghost stays = { λ m. (m.state.ghost_name, m.memory.ghost_name) };
+
+    ghost by = { by_call };
+
+    fn write(&mut self, offset: u32, word: u32) -> packets::Answer {
+        let mut changed: u32 = 0;
+        let answer = rimebarrow_write(self.state, self.memory, offset, word, &mut changed);
+        packets::Answer {
+            number: (answer / 0x1_0000_0000) as u32,
+            count: (answer % 0x1_0000_0000) as u32,
+            changed,
         }
-        let n = f.reader.next(piece, f.used, room);
-        f = Fed {
-            reader: n.reader,
-            used: n.used,
-            answered: tell(state, memory, answers, f.answered, n.event),
-        };
     }
-    f
 }
 
 // An empty reader: 0, or 255 where its bytes have another number.
@@ -237,7 +199,8 @@ pub extern "C" fn rimebarrow_packets(
     if !tail::is_reader(reader) || !state::is_state(state) {
         return 255;
     }
-    let fed = feed(tail::decode(reader), state, memory, piece, answers);
+    let mut machine = ByCall { state, memory };
+    let fed = packets::feed(tail::decode(reader), &mut machine, piece, answers);
     tail::save(reader, fed.reader);
     *used = fed.used;
     *answered = fed.answered;

@@ -1,6 +1,7 @@
 -- `rimebarrow_packets` meets its contract: by whether the bytes are a reader and a state.
 -- Assumes nothing.
 use mathlib.Core.Path.{sym, ◌∙◌}
+use Rattle.std.proofs.Common.{rules}
 use Rattle.tail.proofs.Laws.{valid}
 use Rattle.capi.proofs.Packets.{not-reader, not-state, packets-fed}
 use Rattle.capi.proofs.rimebarrow_packets.Goals.{then-not-is_reader-via-then-not-is_reader, then-not-is_reader-via-else-not-is_reader+then-not-is_state}
@@ -24,6 +25,7 @@ save-requires c = (valid _ (sym c.is_reader.ensures ∙ c.if-not-is_reader.false
 pub returns : goal.returns
 returns c =
     let a = c.args in
+    let e =
     packets-fed a.reader.now a.state.now a.memory.now a.piece.now a.answers.now (sym c.is_reader.ensures ∙ c.if-not-is_reader.false)
-    (sym c.is_state.ensures.0 ∙ c.if-not-is_state.false)
-    c.decode.ensures c.feed-fed.ensures c.save.ensures
+    (sym c.is_state.ensures.0 ∙ c.if-not-is_state.false) c.decode.ensures c.feed-fed.ensures.answers_after c.save.ensures in
+    search (rules, e)
