@@ -4,9 +4,11 @@
 ghost use Rattle.std.specs.Prelude.{◌≡◌, ◌+◌, ◌/◌, ◌%◌, ◌^◌, ◌<◌, ◌≤◌, length};
 ghost use Rattle.engine.specs.Step.{written};
 ghost use Rattle.ppm.specs.Text.{page, said};
+ghost use Rattle.ppm.specs.Says.{Says};
 ghost use Rattle.picture.specs.Player.{sheet, fresh_player, shifted, counted, wrote, arrived, taken, fed, refusal, printed};
 
 use engine::{Engine, Outcome};
+use ppm::Page;
 
 // The engine, the last eight bytes that came and how many of them are of an unfinished pair, the number of pairs taken, and the number of
 // the refusal met, or 0.
@@ -30,13 +32,13 @@ fn count(number: u32, played: u64) -> u64
     }
 }
 
-fn say_refusal(out: &mut [u8], at: usize, number: u32, index: u64) -> usize
-    ensures { page out.new result ≡ said (refusal number index) (page out.old at) }
+fn say_refusal(page: &mut Page, number: u32, index: u64)
+    ensures { Says (refusal number index) page.old page.new }
 {
-    let first = ppm::say(out, at, b"refused ");
-    let second = ppm::say_number(out, first, u64::from(number), b' ');
-    let third = ppm::say(out, second, b"at ");
-    ppm::say_number(out, third, index, b'\n')
+    page.say(b"refused ");
+    page.number(number as u64, b' ');
+    page.say(b"at ");
+    page.number(index, b'\n');
 }
 
 // The number of the last eight bytes, the new one highest.
@@ -116,17 +118,30 @@ impl Player {
         p
     }
 
+    // What is printed at the stream's end.
+    #[tactic(auto, unfolding(crate::specs::Player::printed))]
+    fn print(self, mem: &[u8], page: &mut Page)
+        ensures { Says (printed (sheet self mem.now)) page.old page.new }
+    {
+        if self.refused != 0 {
+            say_refusal(page, self.refused, self.played);
+        } else if self.held != 0 {
+            page.say(b"short write\n");
+        } else {
+            page.picture(mem, self.engine.bank.regs);
+        }
+    }
+
     // The text of what is printed at the stream's end, put at the start of out; how many bytes it has there.
     pub fn text(self, mem: &[u8], out: &mut [u8]) -> usize
         ensures result_after { page out.new result ≡ said (printed (sheet self mem.now)) (page out.old 0) }
         ensures within { result ≤ length out.new }
     {
-        if self.refused != 0 {
-            return say_refusal(out, 0, self.refused, self.played);
-        }
-        if self.held != 0 {
-            return ppm::say(out, 0, b"short write\n");
-        }
-        ppm::say_picture(out, 0, mem, self.engine.bank.regs)
+        let mut page = Page {
+            bytes: out,
+            used: 0,
+        };
+        self.print(mem, &mut page);
+        page.used
     }
 }

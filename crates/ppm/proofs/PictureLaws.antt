@@ -1,12 +1,11 @@
 -- Laws of the picture's lines: what a turn of a loop over a row or over rows leaves to be said.
 -- Assumes nothing.
-use mathlib.Core.Path.{◌≡◌, refl, sym, ap, ◌∙◌}
+use mathlib.Core.Path.{◌≡◌, refl}
 use mathlib.Core.Bool.{true, false, ◌&&◌}
 use mathlib.Core.List.{List, [], ◌∷◌, ◌++◌, append_assoc}
-use Prim.Native.Nat.{ℕ, zero, suc, ◌+◌, ◌-◌, ◌<◌, ◌≤◌}
+use Prim.Native.Nat.{ℕ, zero, suc, ◌+◌, ◌-◌, ◌<◌}
 use native.Mathlib.Omega.{arith}
 use lib.Dec.{ltb}
-use lib.ListN.{length}
 use borrow.Author.Tests.{ltb-true}
 use Rattle.surface.specs.declared.Surface.{Surface}
 use Rattle.surface.specs.Place.{read_px, on_surface}
@@ -17,11 +16,8 @@ use Rattle.formats.specs.Format.{target_named}
 use Rattle.surface.proofs.OnLaws.{and_left, and_right}
 use Rattle.formats.proofs.FormatLaws.{target-colour}
 use Rattle.registers.specs.declared.Regs.{Regs}
-use Rattle.basics.specs.Each.{each}
-use Rattle.ppm.specs.Text.{Page, put, said}
-use Rattle.ppm.specs.Picture.{shade, line, lines, header, no_picture, left, top, right, bottom, target, pixels, shows, picture}
+use Rattle.ppm.specs.Picture.{shade, line, lines, left, top, right, bottom, target, pixels, shows}
 use Rattle.ppm.specs.Asked.{RowOn, RectOn}
-use Rattle.basics.proofs.EachLaws.{each_append}
 
 module _ (s : Surface) where
   -- ---- on the surface
@@ -65,36 +61,20 @@ module _ (s : Surface) where
 
   -- ---- what is said
   module _ (m : List ℕ) where
-    pub lines-append : (ps qs : List Px) → lines s m (ps ++ qs) ≡ lines s m ps ++ lines s m qs
+    lines-append : (ps qs : List Px) → lines s m (ps ++ qs) ≡ lines s m ps ++ lines s m qs
     unfolding lines
     lines-append [] qs = refl
     lines-append (p ∷ ps) qs = rw (lines-append ps qs, append_assoc)
 
-    pub row-again : (x w y : ℕ) (p q : Page) → 0 < w → q ≡ said (line (shade s.bytes (read_px m s x y))) p
-        → said (lines s m (across false (x + 1) (w - 1) y)) q ≡ said (lines s m (across false x w y)) p
+    pub row-lines : (x w y : ℕ) → 0 < w → lines s m (across false x w y) ≡ line (shade s.bytes (read_px m s x y)) ++ lines s m (across false (x + 1) (w - 1) y)
     unfolding across lines
-    row-again x zero y p q h e = absurd (omega arith)
-    row-again x (suc w) y p q h e =
-        let f : suc w - 1 ≡ w = omega arith in
-        rw (f, e) (sym (each_append put (line (shade s.bytes (read_px m s x y))) (lines s m (across false (x + 1) w y)) p))
+    row-lines x zero y h = absurd (omega arith)
+    row-lines x (suc w) y h = let f : suc w - 1 ≡ w = omega arith in rw f
 
-    pub row_ends : (x w y : ℕ) (p : Page) → w ≤ 0 → p ≡ said (lines s m (across false x w y)) p
-    unfolding across lines each
-    row_ends x zero y p h = refl
-    row_ends x (suc w) y p h = absurd (omega arith)
-
-    pub rows-again : (x y w h : ℕ) (p q : Page) → 0 < h → q ≡ said (lines s m (across false x w y)) p
-        → said (lines s m (rect false false x (y + 1) w (h - 1))) q ≡ said (lines s m (rect false false x y w h)) p
+    pub rect-lines : (x y w h : ℕ) → 0 < h → lines s m (rect false false x y w h) ≡ lines s m (across false x w y) ++ lines s m (rect false false x (y + 1) w (h - 1))
     unfolding rect
-    rows-again x y w zero p q g e = absurd (omega arith)
-    rows-again x y w (suc h) p q g e =
-        let f : suc h - 1 ≡ h = omega arith in
-        rw (f, e, lines-append) (sym (each_append put (lines s m (across false x w y)) (lines s m (rect false false x (y + 1) w h)) p))
-
-    pub rows_end : (x y w h : ℕ) (p : Page) → h ≤ 0 → p ≡ said (lines s m (rect false false x y w h)) p
-    unfolding rect lines each
-    rows_end x y w zero p g = refl
-    rows_end x y w (suc h) p g = absurd (omega arith)
+    rect-lines x y w zero g = absurd (omega arith)
+    rect-lines x y w (suc h) g = let f : suc h - 1 ≡ h = omega arith in rw (f, lines-append)
 
 -- ---- what there is where a picture is shown
 pub record Shown (r : Regs) (len : ℕ) : Type 0 where
@@ -123,15 +103,3 @@ pub rect-shown : (r : Regs) (len : ℕ) (s : Surface) → s ≡ target r → sho
 rect-shown r len s e h =
     let k = shown r len h in
     rw e (record { colour = target-colour r.dst_base_addr r.dst_format k.named; on = k.on })
-
-module _ (r : Regs) (m : List ℕ) (p : Page) where
-  pub picture-shown : (s : Surface) {q t : Page} → shows r (length m) ≡ true → s ≡ target r
-      → q ≡ said (header (right r - left r) (bottom r - top r)) p → t ≡ said (lines s m (pixels r)) q → t ≡ said (picture r m) p
-  unfolding picture
-  picture-shown s h e f g =
-      rw h (g ∙ ap (λ (u : Page). said (lines s m (pixels r)) u) f ∙ ap (λ (v : Surface). said (lines v m (pixels r)) (said (header (right r - left r) (bottom r - top r)) p)) e
-      ∙ sym (each_append put (header (right r - left r) (bottom r - top r)) (lines (target r) m (pixels r)) p))
-
-  pub picture-none : {t : Page} → shows r (length m) ≡ false → t ≡ said no_picture p → t ≡ said (picture r m) p
-  unfolding picture
-  picture-none h e = rw h e

@@ -1,3 +1,4 @@
 pub mod Asked
 pub mod Text
 pub mod Picture
+pub mod Says

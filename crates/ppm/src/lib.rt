@@ -1,59 +1,66 @@
 // Text put into a lent buffer, and clip0's rectangle of the target surface as the text of a plain PPM.
 #![tactic(auto)]
 
-ghost use Rattle.std.specs.Prelude.{◌≡◌, false, ◌+◌, ◌/◌, ◌%◌, ◌^◌, ◌<◌, length};
+ghost use Rattle.std.specs.Prelude.{◌≡◌, false, ◌+◌, ◌/◌, ◌%◌, ◌^◌, ◌<◌, length, [], ◌∷◌};
 ghost use Rattle.surface.specs.Place.{read_px};
 ghost use Rattle.surface.specs.Asked.{OnColour};
 ghost use Rattle.surface.specs.Pixels.{across, rect};
-ghost use Rattle.ppm.specs.Text.{page, put as Text·put, said, digit, numeral};
-ghost use Rattle.ppm.specs.Picture.{shade as Picture·shade, line, lines, header, no_picture, shows, picture};
+ghost use Rattle.ppm.specs.Text.{digit, numeral};
+ghost use Rattle.ppm.specs.Says.{Says};
+ghost use Rattle.ppm.specs.Picture.{shade as Picture·shade, line, lines, header, shows, picture};
 ghost use Rattle.ppm.specs.Asked.{RowOn, RectOn};
 
 use registers::Regs;
 use surface::Surface;
 
-// One byte more, where there is room.
-fn put(out: &mut [u8], at: usize, b: u8) -> usize
-    ensures { page out.new result ≡ Text·put b (page out.old at) }
-{
-    if at < out.len() {
-        out[at] = b;
-        return at + 1;
-    }
-    at
+// A lent buffer, and how many of its bytes are used.
+#[derive(Drop)]
+pub struct Page<'a> {
+    pub bytes: &'a mut [u8],
+    pub used: usize,
 }
 
-pub fn say(out: &mut [u8], at: usize, text: &[u8]) -> usize
-    ensures { page out.new result ≡ said text.now (page out.old at) }
-{
-    let mut to = at;
-    for &b in text {
-        to = put(out, to, b);
+impl Page<'_> {
+    // One byte more, where there is room.
+    #[tactic(auto, unfolding(crate::specs::Text::put, basics::specs::Each::each))]
+    fn put(&mut self, b: u8)
+        ensures { Says (b ∷ []) self.old self.new }
+    {
+        if self.used < self.bytes.len() {
+            self.bytes[self.used] = b;
+            self.used += 1;
+        }
     }
-    to
-}
 
-fn say_digit(out: &mut [u8], at: usize, n: u64, power: u64) -> usize
-    requires { 0 < power }
-    ensures { page out.new result ≡ said (digit n power) (page out.old at) }
-{
-    if (n < power) & (1 < power) {
-        return at;
+    pub fn say(&mut self, text: &[u8])
+        ensures { Says text.now self.old self.new }
+    {
+        for &b in text {
+            self.put(b);
+        }
     }
-    put(out, at, 48 + (n / power % 10) as u8)
-}
 
-// A number in decimal, and a byte after it.
-pub fn say_number(out: &mut [u8], at: usize, n: u64, after: u8) -> usize
-    ensures { page out.new result ≡ said (numeral n after) (page out.old at) }
-{
-    let mut to = at;
-    let mut power: u64 = 10_000_000_000_000_000_000;
-    for k in (0..20u32).rev() {
-        to = say_digit(out, to, n, power);
-        power /= 10;
+    #[tactic(auto, using(crate::proofs::TextLaws::says_none), unfolding(crate::specs::Text::digit))]
+    fn digit(&mut self, n: u64, power: u64)
+        requires { 0 < power }
+        ensures { Says (digit n power) self.old self.new }
+    {
+        if (power <= n) | (power <= 1) {
+            self.put(48 + (n / power % 10) as u8);
+        }
     }
-    put(out, to, after)
+
+    // A number in decimal, and a byte after it.
+    pub fn number(&mut self, n: u64, after: u8)
+        ensures { Says (numeral n after) self.old self.new }
+    {
+        let mut power: u64 = 10_000_000_000_000_000_000;
+        for k in (0..20u32).rev() {
+            self.digit(n, power);
+            power /= 10;
+        }
+        self.put(after);
+    }
 }
 
 fn shade(bytes: u32, v: u32) -> u32
@@ -69,75 +76,6 @@ fn channel(rgb: u32) -> u64
     ensures { result ≡ rgb % 2 ^ 8 }
 {
     (rgb % 0x100) as u64
-}
-
-fn say_line(out: &mut [u8], at: usize, rgb: u32) -> usize
-    ensures { page out.new result ≡ said (line rgb) (page out.old at) }
-{
-    let red = say_number(out, at, channel(rgb / 0x1_0000), b' ');
-    let green = say_number(out, red, channel(rgb / 0x100), b' ');
-    say_number(out, green, channel(rgb), b'\n')
-}
-
-fn say_pixel(out: &mut [u8], at: usize, mem: &[u8], s: Surface, x: u32, y: u32) -> usize
-    requires { OnColour s (length mem.now) x y }
-    ensures { page out.new result ≡ said (line (Picture·shade s.bytes (read_px mem.now s x y))) (page out.old at) }
-{
-    let v = surface::get_pixel(mem, s, x, y);
-    let rgb = shade(s.bytes, v);
-    say_line(out, at, rgb)
-}
-
-fn say_row(out: &mut [u8], at: usize, mem: &[u8], s: Surface, x: u32, w: u32, y: u32) -> usize
-    requires { RowOn s (length mem.now) x w y × (x + w < 2 ^ 13) }
-    ensures { page out.new result ≡ said (lines s mem.now (across false x w y)) (page out.old at) }
-{
-    let mut to = at;
-    for column in x..x + w {
-        to = say_pixel(out, to, mem, s, column, y);
-    }
-    to
-}
-
-fn say_rows(
-    out: &mut [u8],
-    at: usize,
-    mem: &[u8],
-    s: Surface,
-    x: u32,
-    y: u32,
-    w: u32,
-    h: u32,
-) -> usize
-    requires { RectOn s (length mem.now) x y w h × ((x + w < 2 ^ 13) × (y + h < 2 ^ 13)) }
-    ensures { page out.new result ≡ said (lines s mem.now (rect false false x y w h)) (page out.old at) }
-{
-    let mut to = at;
-    for row in y..y + h {
-        to = say_row(out, to, mem, s, x, w, row);
-    }
-    to
-}
-
-pub fn wide(x: u32) -> u64
-    ensures { result ≡ x }
-{
-    x as u64
-}
-
-fn say_header(out: &mut [u8], at: usize, w: u32, h: u32) -> usize
-    ensures { page out.new result ≡ said (header w h) (page out.old at) }
-{
-    let width = say(out, at, b"P3\n");
-    let height = say_number(out, width, wide(w), b' ');
-    let most = say_number(out, height, wide(h), b'\n');
-    say(out, most, b"255\n")
-}
-
-fn say_nothing(out: &mut [u8], at: usize) -> usize
-    ensures { page out.new result ≡ said no_picture (page out.old at) }
-{
-    say(out, at, b"no picture\n")
 }
 
 // Whether clip0's rectangle is not empty and on the target surface.
@@ -161,17 +99,62 @@ fn has_picture(len: usize, r: Regs) -> bool
     spans::rect_on(len, s, left, top, right - left, bottom - top)
 }
 
-pub fn say_picture(out: &mut [u8], at: usize, mem: &[u8], r: Regs) -> usize
-    ensures { page out.new result ≡ said (picture r mem.now) (page out.old at) }
-{
-    if !has_picture(mem.len(), r) {
-        return say_nothing(out, at);
+impl Page<'_> {
+    fn line(&mut self, rgb: u32)
+        ensures { Says (line rgb) self.old self.new }
+    {
+        self.number(channel(rgb / 0x1_0000), b' ');
+        self.number(channel(rgb / 0x100), b' ');
+        self.number(channel(rgb), b'\n');
     }
-    let left = r.clip0_min % 0x1000;
-    let top = r.clip0_min / 0x1_0000 % 0x1000;
-    let w = r.clip0_max % 0x1000 - left;
-    let h = r.clip0_max / 0x1_0000 % 0x1000 - top;
-    let s = formats::target_of(r.dst_base_addr, r.dst_format);
-    let body = say_header(out, at, w, h);
-    say_rows(out, body, mem, s, left, top, w, h)
+
+    fn pixel(&mut self, mem: &[u8], s: Surface, x: u32, y: u32)
+        requires { OnColour s (length mem.now) x y }
+        ensures { Says (line (Picture·shade s.bytes (read_px mem.now s x y))) self.old self.new }
+    {
+        self.line(shade(s.bytes, surface::get_pixel(mem, s, x, y)));
+    }
+
+    fn row(&mut self, mem: &[u8], s: Surface, x: u32, w: u32, y: u32)
+        requires { RowOn s (length mem.now) x w y × (x + w < 2 ^ 13) }
+        ensures { Says (lines s mem.now (across false x w y)) self.old self.new }
+    {
+        for column in x..x + w {
+            self.pixel(mem, s, column, y);
+        }
+    }
+
+    fn rows(&mut self, mem: &[u8], s: Surface, x: u32, y: u32, w: u32, h: u32)
+        requires { RectOn s (length mem.now) x y w h × ((x + w < 2 ^ 13) × (y + h < 2 ^ 13)) }
+        ensures { Says (lines s mem.now (rect false false x y w h)) self.old self.new }
+    {
+        for row in y..y + h {
+            self.row(mem, s, x, w, row);
+        }
+    }
+
+    fn header(&mut self, w: u32, h: u32)
+        ensures { Says (header w h) self.old self.new }
+    {
+        self.say(b"P3\n");
+        self.number(w as u64, b' ');
+        self.number(h as u64, b'\n');
+        self.say(b"255\n");
+    }
+
+    pub fn picture(&mut self, mem: &[u8], r: Regs)
+        ensures { Says (picture r mem.now) self.old self.new }
+    {
+        if !has_picture(mem.len(), r) {
+            self.say(b"no picture\n");
+            return;
+        }
+        let left = r.clip0_min % 0x1000;
+        let top = r.clip0_min / 0x1_0000 % 0x1000;
+        let w = r.clip0_max % 0x1000 - left;
+        let h = r.clip0_max / 0x1_0000 % 0x1000 - top;
+        let s = formats::target_of(r.dst_base_addr, r.dst_format);
+        self.header(w, h);
+        self.rows(mem, s, left, top, w, h);
+    }
 }

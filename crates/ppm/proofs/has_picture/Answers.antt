@@ -1,7 +1,7 @@
 -- `ppm::has_picture` meets its contract: by the tests.
 -- Assumes nothing.
 use mathlib.Core.Path.{ap, ◌∙◌}
-use borrow.Author.Tests.{lt-ltb, le-ltb, not-true, not-false}
+use borrow.Author.Tests.{lt-ltb, le-ltb}
 use Rattle.surface.specs.declared.Surface.{Surface}
 use Rattle.spans.specs.Span.{all_on}
 use Rattle.formats.proofs.FormatLaws.{target_small}
