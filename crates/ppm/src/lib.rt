@@ -45,9 +45,11 @@ impl Page<'_> {
         requires { 0 < power }
         ensures { Says (digit n power) self.old self.new }
     {
-        if (power <= n) | (power <= 1) {
-            self.put(48 + (n / power % 10) as u8);
+        // Written so, this is one comparison with the larger of n and 1; as its opposite over the call, a picture's text takes twice as long.
+        if (n < power) & (1 < power) {
+            return;
         }
+        self.put(48 + (n / power % 10) as u8);
     }
 
     // A number in decimal, and a byte after it.
