@@ -71,7 +71,8 @@ module _ (s : Surface) where
     row-lines x zero y h = absurd (omega arith)
     row-lines x (suc w) y h = let f : suc w - 1 ≡ w = omega arith in rw f
 
-    pub rect-lines : (x y w h : ℕ) → 0 < h → lines s m (rect false false x y w h) ≡ lines s m (across false x w y) ++ lines s m (rect false false x (y + 1) w (h - 1))
+    pub rect-lines : (x y w h : ℕ) → 0 < h
+        → lines s m (rect false false x y w h) ≡ lines s m (across false x w y) ++ lines s m (rect false false x (y + 1) w (h - 1))
     unfolding rect
     rect-lines x y w zero g = absurd (omega arith)
     rect-lines x y w (suc h) g = let f : suc h - 1 ≡ h = omega arith in rw (f, lines-append)

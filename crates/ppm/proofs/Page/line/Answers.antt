@@ -7,4 +7,5 @@ use Rattle.ppm.proofs.Page.line.Goals as goal
 pub returns : goal.returns
 unfolding line
 returns c =
-    says_both (rw c.channel.ensures at c.number.ensures) (says_both (rw c.channel-2.ensures at c.number-2.ensures) (rw c.channel-3.ensures at c.number-3.ensures))
+    says_both (rw c.channel.ensures at c.number.ensures)
+    (says_both (rw c.channel-2.ensures at c.number-2.ensures) (rw c.channel-3.ensures at c.number-3.ensures))

@@ -1,4 +1,4 @@
--- `ppm::Page::row` meets its contract: what the lines of the pixels that are left give, said on the page now, the row's lines give, said on the page at the start.
+-- `ppm::Page::row` meets its contract: what the lines of the pixels left give, said on the page now, the row's lines give, said on the page at the start.
 -- Assumes nothing.
 use mathlib.Core.Bool.{false}
 use Prim.Native.Nat.{◌+◌, ◌-◌}

@@ -1,4 +1,4 @@
--- `ppm::Page::rows` meets its contract: what the lines of the rows that are left give, said on the page now, all lines give, said on the page at the start.
+-- `ppm::Page::rows` meets its contract: what the lines of the rows left give, said on the page now, all lines give, said on the page at the start.
 -- Assumes nothing.
 use native.Mathlib.Omega.{arith}
 use mathlib.Core.Path.{◌≡◌}
