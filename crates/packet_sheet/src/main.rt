@@ -7,7 +7,7 @@ use packets::{Reader, Rest};
 use picture::Player;
 use std::io::{self, Read, Write};
 
-// Reader and engine so far, how many answers were 0 before the first that was not, and the number of that one, or 0.
+// Reader and engine so far, how many answers were 0 before the first that was not, and the number of that one, or 0; it may be the reader's 9.
 #[derive(Clone, Copy)]
 struct Course {
     reader: Reader,
@@ -60,6 +60,7 @@ fn unfinished(r: Reader) -> u32 {
     }
 }
 
+// The text, printed. Each program prints by itself: no contract settles what a writer gets, and every public function has one that does.
 fn show<W: Write>(to: &mut W, p: Player, mem: &[u8], out: &mut [u8]) -> io::Result<()> {
     let n = p.text(mem, out);
     to.write_all(&out[..n])

@@ -11,7 +11,7 @@ use engine::{Engine, Outcome};
 use ppm::Page;
 
 // The engine, the last eight bytes that came and how many of them are of an unfinished pair, the number of pairs taken, and the number of
-// the refusal met, or 0.
+// the refusal met, or 0: a number, since the program for packets may put the packet reader's 9 there, which is no refusal of the engine.
 #[derive(Clone, Copy)]
 pub struct Player {
     pub engine: Engine,

@@ -61,3 +61,7 @@ said-within (b ∷ t) p h = said-within t (put b p) (put-within b p h)
 -- the same of a page that a text said from an empty one has become
 pub text-within : (t : List ℕ) (bytes : List ℕ) (q : Text·Page) → q ≡ said t (page bytes 0) → q.used ≤ length q.bytes
 text-within t bytes q e = subst⁻¹ (λ (p : Text·Page). p.used ≤ length p.bytes) e (said-within t (page bytes 0) (omega arith))
+
+-- a text leaves one page: its bytes and how many are used, in the buffer that was lent
+pub says-once : (t : List ℕ) (p q r : Page) → Says t p q → Says t p r → (page q.bytes.now q.used ≡ page r.bytes.now r.used) × (q.bytes.ghost_name ≡ r.bytes.ghost_name)
+says-once t p q r a b = (a.text ∙ sym b.text, a.lent ∙ sym b.lent)

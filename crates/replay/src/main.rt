@@ -24,11 +24,12 @@ impl From<io::Error> for Stop {
     }
 }
 
-// Reads until b is full or the input ends; how many bytes there were.
+// Reads until b is full or the input ends; how many bytes there were. Here and in the other program that reads records: what a reader brings is settled by no contract, and every public function has one that does.
 fn read_full<R: Read>(input: &mut R, b: &mut [u8]) -> io::Result<usize>
     ensures { IfOk result (λ n. n ≤ length b.new) }
 {
     let mut done = 0;
+    // while: a read brings as many bytes as it has
     while done < b.len() {
         let n = input.read(&mut b[done..])?;
         if n == 0 {
