@@ -16,7 +16,7 @@ ROWS = [
     ("1b", "refusals as numbers, handed out or kept", "line",
      r"fn \w+_verdict\(.*-> u32|fn (source|stretch)_rows\(len.*-> u32|fn view_answer\(|fn refuse\(|^    (pub )?(number|refused): u32,$|fn \w+\((.*, )?number: u32"),
     ("1c", "a flag with a value beside it", "line", r"^    (pub )?(more|sound|src_key|dst_key|key|left|waiting|copies|stretched|stippled): bool,$"),
-    ("1d", "a number for a kind, looked at", "line", r"match (number|packing|code|pair|bytes|n|kind|values|i) \{|\b(number|kind) (==|!=) \d|command % 16 == \d"),
+    ("1d", "a number for a kind, looked at", "line", r"match (number|packing|code|pair|bytes|n|kind|values|i|[\w.]+ % 16) \{|\b(number|kind) (==|!=) \d|command % 16 == \d"),
     ("2a", "one-line helpers that std has", "line", r"fn (wide|least|most|larger|smaller|one|one_short|one_byte|one_if|distance|less|same_surface)\("),
     ("2b", "families of functions that differ in a size, a type or a direction", "line",
      r"fn (solid_(few|bytes|short|words)|unlike_(few|bytes|short|words|halves)|put_(ones|twos|threes|fours)|straight_(up|down)|run_(up|down)|(widen|repeat)[56]|widen(_by_rule)?|convert(_by_rule)?|"

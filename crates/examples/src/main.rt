@@ -7,7 +7,7 @@ use engine::Engine;
 use scripts::play;
 use std::io::{self, BufWriter, Write};
 
-// A write that matters. Each program prints by itself: no contract settles what a writer gets, and every public function has one that does.
+// A write that matters. Each program prints by itself: no contract settles what a writer gets, and every public function has a contract that settles it.
 fn put_aloud<W: Write>(
     out: &mut W,
     e: Engine,

@@ -4,7 +4,7 @@
 
 ghost use Rattle.std.specs.Prelude.{◌≡◌, ◌*◌, ◌≤◌, length, ℕ};
 ghost use Rattle.packets.specs.Answers.{called};
-ghost use Rattle.intake.specs.Intake.{Machine, machine, by_engine, fed_of};
+ghost use Rattle.intake.specs.Intake.{Machine as EngineAndMemory, machine, by_engine, fed_of};
 
 use engine::{Engine, Outcome, changed_of, count_of, number_of};
 use packets::{Answer, Machine, Reader};
@@ -26,7 +26,7 @@ struct ByEngine<'a> {
 }
 
 impl Machine for ByEngine<'_> {
-    ghost Seen = { Machine };
+    ghost Seen = { EngineAndMemory };
 
     ghost Stays = { ℕ };
 

@@ -60,7 +60,7 @@ fn unfinished(r: Reader) -> u32 {
     }
 }
 
-// The text, printed. Each program prints by itself: no contract settles what a writer gets, and every public function has one that does.
+// The text, printed. Each program prints by itself: no contract settles what a writer gets, and every public function has a contract that settles it.
 fn show<W: Write>(to: &mut W, p: Player, mem: &[u8], out: &mut [u8]) -> io::Result<()> {
     let n = p.text(mem, out);
     to.write_all(&out[..n])

@@ -32,7 +32,7 @@ struct Pair {
     engine: Engine,
 }
 
-// Reads until b is full or the input ends; how many bytes there were. Here and in the other program that reads records: what a reader brings is settled by no contract, and every public function has one that does.
+// Reads until b is full or the input ends; how many bytes there were. Here and in the other program that reads records: what a reader brings is settled by no contract, and every public function has a contract that settles it.
 fn read_full<R: Read>(input: &mut R, b: &mut [u8]) -> io::Result<usize>
     ensures { IfOk result (λ n. n ≤ length b.new) }
 {

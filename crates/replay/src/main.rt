@@ -7,7 +7,7 @@
 
 ghost use Rattle.std.specs.Prelude.{◌≤◌, length, IfOk};
 
-use engine::{Engine, changed_of, count_of, number_of};
+use engine::{Engine, Outcome, changed_of, count_of, number_of};
 use std::io::{self, BufReader, BufWriter, Read, Write};
 
 // What ends a stream before its time.
@@ -24,7 +24,7 @@ impl From<io::Error> for Stop {
     }
 }
 
-// Reads until b is full or the input ends; how many bytes there were. Here and in the other program that reads records: what a reader brings is settled by no contract, and every public function has one that does.
+// Reads until b is full or the input ends; how many bytes there were. Here and in the other program that reads records: what a reader brings is settled by no contract, and every public function has a contract that settles it.
 fn read_full<R: Read>(input: &mut R, b: &mut [u8]) -> io::Result<usize>
     ensures { IfOk result (λ n. n ≤ length b.new) }
 {
@@ -67,8 +67,7 @@ fn play_write<W: Write>(
 ) -> io::Result<Engine> {
     let [offset, word, kind] = record;
     let len = recorded::lent(mem.len(), kind);
-    let done = e.write(&mut mem[..len], offset, word);
-    let answer = done.answer;
+    let Outcome { engine, answer } = e.write(&mut mem[..len], offset, word);
     writeln!(
         out,
         "{} {} {}",
@@ -76,7 +75,7 @@ fn play_write<W: Write>(
         count_of(answer),
         changed_of(answer)
     )?;
-    Ok(done.engine)
+    Ok(engine)
 }
 
 // The words of a run, three to a record.
@@ -97,12 +96,11 @@ fn play_run<R: Read, W: Write>(
     }
     let len = recorded::lent(mem.len(), record[1]);
     let done = words::take_run(e, &mut mem[..len], &run[..n]);
-    let sums = done.sums;
     let number = done.number();
     writeln!(
         out,
         "run {number} {} {} {}",
-        sums.taken, sums.count, sums.changed
+        done.sums.taken, done.sums.count, done.sums.changed
     )?;
     Ok(done.engine)
 }

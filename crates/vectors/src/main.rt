@@ -8,7 +8,7 @@ use engine::Engine;
 use scripts::play;
 use std::io::{self, BufWriter, Write};
 
-// A register by name. Each program prints by itself: no contract settles what a writer gets, and every public function has one that does.
+// A register by name. Each program prints by itself: no contract settles what a writer gets, and every public function has a contract that settles it.
 fn say_register<W: Write>(out: &mut W, name: &str, e: Engine, offset: u32) -> io::Result<()> {
     match e.read(offset) {
         Some(word) => writeln!(out, "{name} {word:08x}"),
