@@ -1,7 +1,7 @@
 """What crates/sheets must write, by the model: python3 tools/sheets.py > crates/sheets/stdout
 
 The cases and their register writes are read from the program's source. Each runs on the model and, for the sheet of
-the wrong engine, on a model that is wrong in the case's way.
+the wrong engine, on a model that is wrong in the case's way. A source whose writes are not all read stops it.
 """
 
 import ast
@@ -14,8 +14,13 @@ from model import Engine, Surface, key_match
 
 SOURCE = Path(__file__).resolve().parent.parent / "crates/sheets/src/main.rt"
 FUNCTION = re.compile(r"^fn (\w+)(?:<[^>]*>)?\(([^)]*)\)[^{]*\{\n(.*?)^\}", re.M | re.S)
-STATEMENT = re.compile(r'let (\w+) = (b"[^"]*");|(\w+)\(((?:b"[^"]*"|[^()"])*)\)')
-ARGUMENT = re.compile(r'b"[^"]*"|[^,\s][^,]*')
+TEXT = r'"[^"]*"'
+LIST = r"\[[^\]]*\]"
+STATEMENT = re.compile(rf"let (\w+) = ({TEXT}|{LIST});|(\w+!?)\(((?:{TEXT}|{LIST}|\w+::\w+\(\w*\)|[^()\"\[])*)\)")
+ARGUMENT = re.compile(rf"{TEXT}|&{LIST}|[^,\s][^,]*")
+PAIR = re.compile(r"\(\s*(\w+),\s*(\w+)\s*\)")
+OPENED = re.compile(r"Engine::open\((\w+)\)")
+WRITING = re.compile(r"\b(?:play|put_aloud)\(")
 STREAM = ("alloc", "stdout", "flush")  # what the program's output takes, of which the model knows nothing
 LENGTH = 128
 
@@ -75,19 +80,20 @@ class Stage:
     def open(self, length: int) -> None:
         self.sheets = [(Engine(length), bytearray(length)), (self.kind(length), bytearray(length))]
 
-    def put(self, _e, _mem, offset: int, word: int) -> model.Answer:
+    def put(self, offset: int, word: int) -> model.Answer:
         answer, _ = [engine.write(mem, offset, word) for engine, mem in self.sheets]
         return answer
 
-    def put_aloud(self, _out, *write) -> None:
+    def play(self, _e, _mem, writes: list[tuple[int, int]]) -> None:
+        for write in writes:
+            self.put(*write)
+
+    def put_aloud(self, _out, _e, _mem, *write) -> None:
         number, count, changed = self.put(*write)
         print("refused" if number else f"pixels {count}, changed {changed}")
 
-    def say(self, _out, text: str) -> None:
-        print(text, end="")
-
     def say_register(self, _out, name: str, _e, offset: int) -> None:
-        print(f"{name}{self.sheets[0][0].read(offset)[1]:08x}")
+        print(f"{name} {self.sheets[0][0].read(offset)[1]:08x}")
 
     def show(self, _out, _mem, width: int, height: int, which: int = 0) -> None:
         self.size = width, height
@@ -105,20 +111,30 @@ def run(name: str, values: list) -> None:
     stage.kind = WRONG.get(name, stage.kind)
     names, body = FUNCTIONS[name]
     scope = dict(zip(names, values))
+    writing = 0
     for local, text, callee, arguments in STATEMENT.findall(body):
         if local:
             scope[local] = value(text, scope)
             continue
         given = [value(argument.strip(), scope) for argument in ARGUMENT.findall(arguments)]
-        if hasattr(stage, callee):
+        writing += callee in ("play", "put_aloud")
+        if callee == "writeln!":
+            print(given[1].format(**scope))
+        elif hasattr(stage, callee):
             getattr(stage, callee)(*given)
         elif callee not in STREAM:
             run(callee, given)
+    assert writing == len(WRITING.findall(body)), f"not all writes of {name} were read"
 
 
 def value(text: str, scope: dict):
-    if text.startswith('b"'):
-        return ast.literal_eval(text).decode()
+    text = text.removeprefix("&")
+    if text.startswith('"'):
+        return ast.literal_eval(text)
+    if text.startswith("["):
+        return [tuple(value(part, scope) for part in pair) for pair in PAIR.findall(text)]
+    if opened := OPENED.fullmatch(text):
+        return stage.open(value(opened[1], scope))
     return int(text, 0) if text[0].isdigit() else scope.get(text)
 
 

@@ -4,7 +4,8 @@ the strides of packed sources and the order of mono pixels, at the lines that th
 points that the papers leave open, by the readings of docs/DECISIONS.md; and of the change
 requests the stretched copy, what really changed, the smear, runs of words, tiles, command packets and widths, mostly worked
 out by hand, tiles also by the map that source document 002 prints. Then that the recorded streams hold every kind of run
-and of surface that the memory ends in, and the recorded pieces every kind of packet and cut.
+and of surface that the memory ends in, and the recorded pieces every kind of packet and cut; and that what two programs must
+write is what the model says of the writes in their sources.
 Names in quotes in the comments are entries of docs/DECISIONS.md, with the section they stand under where two have one
 heading. Run: python3 test_model.py"""
 
@@ -12,6 +13,7 @@ import contextlib
 import io
 import itertools
 import random
+import runpy
 import struct
 import tempfile
 import unittest
@@ -1385,6 +1387,22 @@ class RecordedRuns(unittest.TestCase):
             "Line 3, stream 0, record 1 (offset 64, word 00000005, kind 0)",
             "Line 6, stream 1, record 0 (a run of 4 words, all of the memory)",
             "Line 7, stream 1, record 1 (offset 64, word 00000005, kind 0)", "Line 8, stream 1, the checksums at its end"])
+
+
+class Printed(unittest.TestCase):
+    """The files stdout of crates/note and crates/sheets are what tools/note.py and tools/sheets.py print."""
+
+    def printed(self, name: str) -> None:
+        tools = Path(__file__).resolve().parent
+        with contextlib.redirect_stdout(io.StringIO()) as said:
+            runpy.run_path(str(tools / f"{name}.py"))
+        self.assertEqual(said.getvalue(), (tools.parent / "crates" / name / "stdout").read_text())
+
+    def test_note(self):
+        self.printed("note")
+
+    def test_sheets(self):
+        self.printed("sheets")
 
 
 if __name__ == "__main__":
