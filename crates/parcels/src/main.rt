@@ -48,22 +48,27 @@ fn read_full<R: Read>(input: &mut R, b: &mut [u8]) -> io::Result<usize>
     Ok(done)
 }
 
-// The next two words; None where the input has ended.
-fn read_head<R: Read>(input: &mut R) -> Result<Option<[u32; 2]>, Stop> {
+// Two words, and how many of their eight bytes the input had.
+fn read_two<R: Read>(input: &mut R) -> io::Result<([u32; 2], usize)> {
     let mut b = [0u8; 8];
-    match read_full(input, &mut b)? {
-        8 => Ok(Some([
-            u32::from_le_bytes([b[0], b[1], b[2], b[3]]),
-            u32::from_le_bytes([b[4], b[5], b[6], b[7]]),
-        ])),
-        0 => Ok(None),
-        _ => Err(Stop::Inside),
-    }
+    let came = read_full(input, &mut b)?;
+    let first = u32::from_le_bytes([b[0], b[1], b[2], b[3]]);
+    let second = u32::from_le_bytes([b[4], b[5], b[6], b[7]]);
+    Ok(([first, second], came))
 }
 
-// The same inside a stream, where they must be there.
+// The first two words of a stream; None where the input has ended. Where it ends among them, so it does before the next two.
+fn read_head<R: Read>(input: &mut R) -> io::Result<Option<[u32; 2]>> {
+    let (head, came) = read_two(input)?;
+    Ok(if came == 0 { None } else { Some(head) })
+}
+
+// Two words inside a stream, where they must be there.
 fn read_words<R: Read>(input: &mut R) -> Result<[u32; 2], Stop> {
-    read_head(input)?.ok_or(Stop::Inside)
+    match read_two(input)? {
+        (words, 8) => Ok(words),
+        _ => Err(Stop::Inside),
+    }
 }
 
 // A piece, its answers sixteen at a time.

@@ -20,16 +20,26 @@ fn play_all<R: Read>(input: &mut R, mem: &mut [u8]) -> io::Result<Player> {
 }
 
 // The text, printed. Each program prints by itself: no contract settles what a writer gets, and every public function has a contract that settles it.
-fn show<W: Write>(to: &mut W, p: Player, mem: &[u8], out: &mut [u8]) -> io::Result<()> {
+fn write_text<W: Write>(to: &mut W, p: Player, mem: &[u8], out: &mut [u8]) -> io::Result<()> {
     let n = p.text(mem, out);
     to.write_all(&out[..n])
 }
 
+// The same in the arrays that hold them: apart, since the check would look at each byte of an array that it sees made.
+fn show<W: Write>(
+    to: &mut W,
+    p: Player,
+    mem: &[u8; 65536],
+    out: &mut [u8; 786449],
+) -> io::Result<()> {
+    write_text(to, p, mem, out)
+}
+
 fn main(rt: HostRuntime) -> io::Result<()> {
-    let alloc = rt.alloc();
-    let mut mem = vec![in alloc; 0u8; 65536]?;
+    // On the stack, so that no run ends for want of heap.
+    let mut mem = [0u8; 65536];
     let player = play_all(&mut rt.stdin(), &mut mem)?;
     // No text is longer than 786,449 bytes, three lines and 65,536 lines of 12: WholeSheet of the crate picture.
-    let mut out = vec![in alloc; 0u8; 786449]?;
+    let mut out = [0u8; 786449];
     show(&mut rt.stdout(), player, &mem, &mut out)
 }
