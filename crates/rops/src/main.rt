@@ -4,7 +4,6 @@
 
 ghost use Rattle.std.specs.Prelude.{◌<◌, IfSome};
 
-use arrayvec::ArrayVec;
 use std::io::{self, BufWriter, Read, Write};
 
 // The eight combinations of a pattern, a source and a target bit lie side by side in one byte: combination 4p + 2s + d at its bit.
@@ -18,9 +17,32 @@ const TARGET: u8 = 0xaa;
 #[derive(Drop)]
 struct Malformed;
 
+// The values that a formula has put aside, at most 16.
+#[derive(Clone, Copy)]
+struct Stack {
+    cells: [u8; 16],
+    depth: usize,
+}
+
+impl Stack {
+    fn push(&mut self, value: u8) -> Option<()> {
+        *self.cells.get_mut(self.depth)? = value;
+        self.depth = self.depth.wrapping_add(1);
+        Some(())
+    }
+
+    fn pop(&mut self) -> Option<u8> {
+        self.depth = self.depth.checked_sub(1)?;
+        self.cells.get(self.depth).copied()
+    }
+}
+
 // The formula, carried out; None where it is none, or puts more than 16 values aside.
 fn evaluate(formula: &[u8]) -> Option<u8> {
-    let mut stack = ArrayVec::<u8, 16>::new();
+    let mut stack = Stack {
+        cells: [0; 16],
+        depth: 0,
+    };
     for &c in formula {
         let value = match c {
             b'P' => PATTERN,
@@ -34,10 +56,10 @@ fn evaluate(formula: &[u8]) -> Option<u8> {
             b'x' => stack.pop()? ^ stack.pop()?,
             _ => return None,
         };
-        stack.try_push(value).ok()?;
+        stack.push(value)?;
     }
     let value = stack.pop()?;
-    if stack.is_empty() { Some(value) } else { None }
+    if stack.depth == 0 { Some(value) } else { None }
 }
 
 fn digit(c: u8) -> Option<u8>
