@@ -5,7 +5,7 @@ use mathlib.Core.Bool.{Bool, true, false, cond, ◌&&◌}
 use Prim.Native.Nat.{ℕ, ◌<◌, ◌≤◌}
 use native.Mathlib.Omega.{arith}
 use lib.Dec.{eqb, leb, ltb}
-use borrow.Author.Tests.{eqb-true, leb-true, ltb-true, ne_eqb, le-leb, le-ltb}
+use borrow.Author.Tests.{eqb-true, leb-true, ltb-true, ne_eqb, lt-leb, le-leb, le-ltb}
 use Rattle.surface.proofs.OnLaws.{and_left, and_right}
 use Rattle.acts.specs.Deed.{by_number}
 
@@ -26,6 +26,9 @@ pub record Unbuilt (n : ℕ) : Type 0 where
   pub not6 : (leb 6 n && ltb n 8) ≡ false
 
 module _ (n : ℕ) (a : n ≡ 0 → ⊥) (b : n ≡ 1 → ⊥) (f : n ≡ 2 → ⊥) (c : n ≡ 3 → ⊥) (d : n ≡ 5 → ⊥) where
+  pub unbuilt-low : n < 5 → Unbuilt n
+  unbuilt-low h = record { not0 = ne_eqb n 0 a; not1 = ne_eqb n 1 b; not2 = ne_eqb n 2 f; not3 = ne_eqb n 3 c; not5 = ne_eqb n 5 d; not6 = rw (lt-leb 6 n (omega arith)) }
+
   pub unbuilt-high : 8 ≤ n → Unbuilt n
   unbuilt-high h = record {
     not0 = ne_eqb n 0 a;

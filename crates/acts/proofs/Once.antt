@@ -6,6 +6,7 @@ use lib.Dec.{eqb}
 use Rattle.std.specs.Prelude.{Result, Ok, Err}
 use Rattle.table.specs.declared.Fault.{Fault}
 use Rattle.table.specs.declared.Fault.TheVariants.{NotBuilt, Format, Host, Off, Meet}
+use Rattle.table.proofs.Once.{fault_of}
 use mathlib.Core.List.{List, []}
 use Prim.Native.Nat.{ℕ}
 use Rattle.registers.specs.declared.Regs.{Regs}
@@ -13,12 +14,11 @@ use Rattle.registers.specs.Regs.{put_reg}
 use Rattle.bank.specs.declared.Bank.{Bank}
 use Rattle.acts.specs.declared.Act.{Act}
 use Rattle.acts.specs.declared.Blit.{Blit}
+use Rattle.acts.specs.declared.Fed.{Fed}
 use Rattle.acts.specs.Deed.{bank_of, with_ends, Made, Deed, deed}
+use Rattle.acts.specs.Fed.{Feeding, fed}
 
 -- what a function handed out, out of its deed
-fault_of : ℕ → Fault
-fault_of n = cond (eqb n 4) NotBuilt (cond (eqb n 5) Format (cond (eqb n 6) Host (cond (eqb n 7) Off Meet)))
-
 abbrev act_of : Made → Act
 act_of x = record {
   ends = record { line_style = x.bank.regs.line_style; src_xy = x.bank.regs.src_xy; dst_xy = x.bank.regs.dst_xy };
@@ -46,6 +46,29 @@ pub act-once : (b : Bank) (k : Blit) (d : Deed) (x y : Result Act Fault) (m n : 
 act-once b k d x y m n p q = (
   sym (handed-deed b k x m) ∙ ap handed (p ∙ sym q) ∙ handed-deed b k y n,
   sym (left-deed b k x m) ∙ ap (λ (d : Deed). d.makes.left.mem) (p ∙ sym q) ∙ left-deed b k y n,
+)
+
+-- the same of a run of data
+abbrev fed_of : Feeding → Result Fed Fault
+fed_of x = cond (eqb x.verdict 0) (Ok (record { blit = x.blit; tally = x.left.tally; used = x.used })) (Err (fault_of x.verdict))
+
+fed-back : (k : Blit) (x : Result Fed Fault) (m : List ℕ) → fed_of (fed k x m) ≡ x
+unfolding fault_of
+fed-back k (Ok f) m = refl
+fed-back k (Err NotBuilt) m = refl
+fed-back k (Err Format) m = refl
+fed-back k (Err Host) m = refl
+fed-back k (Err Off) m = refl
+fed-back k (Err Meet) m = refl
+
+left-fed : (k : Blit) (x : Result Fed Fault) (m : List ℕ) → (fed k x m).left.mem ≡ m
+left-fed k (Ok f) m = refl
+left-fed k (Err e) m = refl
+
+pub feed-once : (k : Blit) (d : Feeding) (x y : Result Fed Fault) (m n : List ℕ) → fed k x m ≡ d → fed k y n ≡ d → (x ≡ y) × (m ≡ n)
+feed-once k d x y m n p q = (
+  sym (fed-back k x m) ∙ ap fed_of (p ∙ sym q) ∙ fed-back k y n,
+  sym (left-fed k x m) ∙ ap (λ (d : Feeding). d.left.mem) (p ∙ sym q) ∙ left-fed k y n,
 )
 
 -- registers that are settled together with every pattern

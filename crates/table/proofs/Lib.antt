@@ -2,3 +2,4 @@ pub mod Sources
 pub mod Rows
 pub mod Verdicts
 pub mod Stretches
+pub mod Once
