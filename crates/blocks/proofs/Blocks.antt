@@ -151,6 +151,19 @@ module _ (b : Way) {n h len : ℕ} (goes : Goes b n h len) {x y sx sy i j k l : 
   part-origin : (p : Px) → Inside x y k l p → origin of p ≡ origin b p
   part-origin p q = ap₂ (λ (c r : ℕ). byte_at b.from c r) (omega arith) (omega arith)
 
+  pub part-goes : Goes of k l len
+  part-goes = record {
+    small = goes.small;
+    small' = goes.small';
+    wide = omega (arith, goes.wide);
+    wide' = omega (arith, goes.wide');
+    high = omega (arith, goes.high);
+    high' = omega (arith, goes.high');
+    to = λ p q. goes.to p (within p q);
+    from = λ p q. rw (part-origin p q) (goes.from p (within p q));
+    apart = λ p q u v e. goes.apart p q (within p u) (within q v) (e ∙ part-origin q v);
+  }
+
   -- what comes after other bytes have come comes from the memory as it was
   pub part-put : (x' y' n' h' : ℕ) {value : Px → ℕ} {m₀ m m₁ : List ℕ} → ((p : Px) → Inside x' y' n' h' p → Inside b.x b.y n h p) → Put b.to value x' y' n' h' m₀ m
       → Put b.to (origin_byte of m) x y k l m m₁ → Put b.to (origin_byte b m₀) x y k l m m₁

@@ -28,6 +28,7 @@ use Rattle.paint.proofs.Changes.{summed_same, summed-append, summed-then}
 use Rattle.runs.specs.Runs.{Given, evenly}
 use Rattle.runs.specs.Asked.{RectOn}
 use Rattle.runs.proofs.Even.{byte_number, even-given, even-counts, even-changes}
+use Rattle.blocks.specs.Asked.{PartOn}
 use Rattle.runs.proofs.Runs.{given-once}
 use Rattle.blocks.specs.Blocks.{others}
 use Rattle.blocks.proofs.Others.{others-most, others-sum}
@@ -165,3 +166,18 @@ module _ (s : Surface) (v x y w h : ℕ) (m : List ℕ) (on : RectOn s (length m
           let count = sym (even-counts s v x y w h m on) in
           let changed = counted ∙ rows-changes ∙ ap (λ (after : List ℕ). summed (changing s m after) (rect false false x y w h)) left ∙ sym (even-changes s v x y w h m on) in
           λ i. state (left i) (count i) (changed i)
+
+  -- a later row and the first can be held to each other
+  pub row-parts : (j : ℕ) → j < h → PartOn s s x (y + j) x y w (length m)
+  row-parts j l = record {
+    format = refl;
+    wide = omega (arith, on.wide);
+    right = on.wide;
+    source_right = omega (arith, on.wide);
+    down = omega (arith, on.high);
+    source_down = omega (arith, on.high);
+    target = on.colour;
+    source = on.colour;
+    on = λ i u. (on.on (x + i) (y + j) (omega arith) (omega arith) (omega arith) (omega arith)).on;
+    source_on = λ i u. (on.on (x + i) y (omega arith) (omega arith) (omega arith) (omega arith)).on;
+  }

@@ -61,7 +61,7 @@ module _ (s : Surface) where
 
   -- ---- what is said
   module _ (m : List ℕ) where
-    lines-append : (ps qs : List Px) → lines s m (ps ++ qs) ≡ lines s m ps ++ lines s m qs
+    pub lines-append : (ps qs : List Px) → lines s m (ps ++ qs) ≡ lines s m ps ++ lines s m qs
     unfolding lines
     lines-append [] qs = refl
     lines-append (p ∷ ps) qs = rw (lines-append ps qs, append_assoc)

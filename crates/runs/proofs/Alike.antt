@@ -19,6 +19,18 @@ use Rattle.runs.specs.Asked.{PixelsOn, Run}
 
 -- ---- pixels from an address on
 module _ {at b w len : ℕ} (on : PixelsOn at b w len) where
+  -- a part of them
+  pub pixels-part : (i k : ℕ) → i + k ≤ w → PixelsOn (at + i * b) b k len
+  pixels-part i k h = record {
+    some = on.some;
+    few = on.few;
+    wide = omega (arith, on.wide);
+    held = λ j l. let p : at + i * b + j * b ≡ at + (i + j) * b = omega (arith, add-mul i j b) in rw p (on.held (i + j) (omega arith));
+  }
+
+  pub bytes-part : (i k : ℕ) → b ≡ 1 → i + k ≤ w → PixelsOn (at + i) b k len
+  bytes-part i k by h = let p : i * b ≡ i = rw by (mul-one i) in subst (λ (n : ℕ). PixelsOn (at + n) b k len) p (pixels-part i k h)
+
   -- each byte is in memory
   pixels-byte : (i : ℕ) → i < w * b → at + i < len
   pixels-byte i l =

@@ -6,13 +6,13 @@ use mathlib.Core.List.{List}
 use Prim.Native.Nat.{ℕ, ◌+◌, ◌-◌, ◌*◌, ◌/◌, ◌%◌, ◌^◌, ◌<◌, ◌≤◌}
 use native.Mathlib.Nat.{add-mul, mul-le-mul, mod-lt, div-add-mod', div-lt_iff_lt-mul}
 use native.Mathlib.Omega.{arith}
-use native.Mathlib.Decide.{dec_lt}
+use native.Mathlib.Decide.{ℕ_discrete, dec_lt}
 use lib.Arith.{digits_lt}
-use lib.ListN.{length, get_or, take, drop}
+use lib.ListN.{length, get_or, set, length-set, take, drop}
 use borrow.Rule.Slice.PartMut.{put_mid}
 use borrow.Author.Rules.{rules}
 use Rattle.std.proofs.lemmas.List.{places}
-use lib.Seq.{ext_get_or}
+use lib.Seq.{get_or-set_same, get_or-set_other, ext_get_or}
 use Rattle.surface.specs.declared.Surface.{Surface}
 use Rattle.surface.specs.Place.{byte_at, byte_of}
 use Rattle.surface.specs.Asked.{Small, OnColour}
@@ -32,6 +32,17 @@ kept-put m out put to at k e room inside = rw e (record {
   after = λ a l. search (rules, places);
   long = search (rules, places);
 })
+
+-- one byte more
+pub kept_next : {m : List ℕ} {to at i : ℕ} {out₀ out : List ℕ} → Kept m to at i out₀ out → to + i < length out → Kept m to at (i + 1) out₀ (set out (to + i) (get_or m (at + i) 0))
+kept_next {m} {to} {at} {i} {out₀} {out} now room = record {
+  came = λ j l. by_cases (ℕ_discrete j i)
+      (λ e. subst (λ (n : ℕ). get_or (set out (to + i) (get_or m (at + i) 0)) (to + n) 0 ≡ get_or m (at + n) 0) (sym e) (get_or-set_same out (to + i) (get_or m (at + i) 0) 0 room))
+      (λ e. get_or-set_other out (to + i) (to + j) (get_or m (at + i) 0) 0 (λ q. e (omega arith)) ∙ now.came j (omega arith));
+  before = λ a l. get_or-set_other out (to + i) a (get_or m (at + i) 0) 0 (λ q. omega arith) ∙ now.before a l;
+  after = λ a l. get_or-set_other out (to + i) a (get_or m (at + i) 0) 0 (λ q. omega arith) ∙ now.after a (omega arith);
+  long = length-set out (to + i) (get_or m (at + i) 0) ∙ now.long;
+}
 
 -- bytes of a row that reach over no edge of a tile follow each other
 pub piece-follows : (s : Surface) (c y k j : ℕ) → (s.tiled ≡ true → c % 128 + k ≤ 128) → j < k → byte_at s c y + j ≡ byte_at s (c + j) y

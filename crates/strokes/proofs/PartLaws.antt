@@ -127,8 +127,12 @@ module _ {c : Clip} {l : Line} {inside : Bool} {n m from i : ℕ} {t : Tread} (s
           by_cases (ℕ_discrete j i) (λ q. ap (λ (o : ℕ). in_clip c (point_at l o).x (point_at l o).y) q ∙ here ∙ e) (λ q. s.passed j g (omega arith));
     }
 
-  pub search-ends : {e : ℕ} → e ≡ point_count l → e ≤ i → Sought c l inside from (record { at = e; tread = t })
-  search-ends f h = record {
+  pub search-ends : point_count l ≤ i → Sought c l inside from (record { at = i; tread = t })
+  search-ends h = record { spot = record { within = s.upto; walk = λ g. absurd (omega arith) }; ahead = s.ahead; passed = s.passed; stops = λ g. absurd (omega arith) }
+
+  -- the same of the count of points by a name of its own
+  pub search-past : {e : ℕ} → e ≡ point_count l → e ≤ i → Sought c l inside from (record { at = e; tread = t })
+  search-past f h = record {
     spot = record { within = omega arith; walk = λ g. absurd (omega arith) };
     ahead = omega (arith, s.ahead, s.upto);
     passed = λ j g k. s.passed j g (omega arith);

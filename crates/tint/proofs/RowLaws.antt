@@ -126,6 +126,23 @@ row-held {s} {len = len} {x = x} {w = w} {y = y} can i h =
     let there : (c : ℕ) → c < w → OnColour s len (x + c) y = (λ c l. can.on.on (x + c) (omega arith) (omega arith)) in
     subst (λ (a : ℕ). a < len) (sym (run-place s colour x y can.flat i)) (colour-byte (there (i / s.bytes) (run-column s colour x y w i h)) (i % s.bytes) (mod-lt i colour)).inside
 
+-- and so can parts of one
+module _ {s : Surface} {keep flip adds : List ℕ} {first len x w y : ℕ} (can : CanTint s keep flip adds first len x w y) where
+  pub can-from : (i k : ℕ) → i + k ≤ w → CanTint s keep flip adds first len (x + i) k y
+  can-from i k fits = record {
+    flat = can.flat;
+    colour = can.colour;
+    on = record { wide = omega (arith, can.on.wide); on = λ j low high. can.on.on j (omega arith) (omega arith) };
+    eight = can.eight;
+    keeps = can.keeps;
+    flips = can.flips;
+    sound = can.sound;
+  }
+
+  -- its first pixels
+  pub can-begin : (k : ℕ) → k ≤ w → CanTint s keep flip adds first len x k y
+  can-begin k fits = let start : x + 0 ≡ x = omega arith in rw start at (can-from 0 k (omega arith))
+
 -- ---- a row in parts: after i pixels of it
 abbrev pub TintLeft : Surface → List ℕ → List ℕ → List ℕ → ℕ → ℕ → ℕ → ℕ → List ℕ → Tally → ℕ → List ℕ → Tally → Type 0
 TintLeft s keep flip adds first x w y m₀ n i m r = RowLeft s (λ p now. tinting s keep flip adds first x now p) false x w y m₀ n i m r
@@ -136,7 +153,11 @@ RunLeft s keep flip adds first x w y m₀ i m r = (c : ℕ) × TintLeft s keep f
 
 module _ {s : Surface} {keep flip adds : List ℕ} {first x w y : ℕ} {m₀ : List ℕ} (can : CanTint s keep flip adds first (length m₀) x w y) where
   module _ {n : Tally} {i : ℕ} {m : List ℕ} {r : Tally} (left : TintLeft s keep flip adds first x w y m₀ n i m r) (k : ℕ) (fits : i + k ≤ w) where
-    -- k more are tinted: eight columns further on the masks are the same
+    -- k more can be tinted
+    pub can-part : CanTint s keep flip adds first (length m) (x + i) k y
+    can-part = rw left.left.long (can-from can i k fits)
+
+    -- and are: eight columns further on the masks are the same
     pub tint-takes : i % 8 ≡ 0 → {m' : List ℕ} {r' : Tally} → tallied m' r' ≡ paint s (tintings s keep flip adds first (x + i) (across false (x + i) k y)) (tallied m r)
         → TintLeft s keep flip adds first x w y m₀ n (i + k) m' r'
     unfolding tinting

@@ -4,7 +4,7 @@ use Rattle.std.proofs.Common.{◌≡◌, Bool, true, false, not, refl, arith}
 use mathlib.Core.Bool.{beq}
 use Rattle.line.proofs.Sides.{count-le}
 use Rattle.line.proofs.TreadLaws.{way-placed, way-small}
-use Rattle.strokes.proofs.PartLaws.{search-finds, search-goes, search-ends}
+use Rattle.strokes.proofs.PartLaws.{search-finds, search-goes, search-past}
 use Rattle.strokes.proofs.seek.Goals as goal
 
 -- the two sides of a test of two flags
@@ -46,4 +46,4 @@ pub loop-at-preserved : goal.loop-at-preserved
 loop-at-preserved g c = search-goes c.loop-at.invariant (omega arith) c.place_point-p.ensures c.covers.ensures c.tread_on-tread.ensures (not-sought _ _ c.if-covers.false)
 
 pub returns : goal.returns
-returns g c = search-ends c.loop-at.invariant c.point_count-total.ensures c.loop-at-test.false
+returns g c = search-past c.loop-at.invariant c.point_count-total.ensures c.loop-at-test.false
