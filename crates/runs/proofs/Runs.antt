@@ -1,7 +1,7 @@
 -- Laws of runs of bytes: a turn of a loop over one, the pixels that a run of a row's bytes is, a rectangle given row by row as runs, and that what is shifted or given is one memory.
 -- Assumes nothing.
 use mathlib.Core.Path.{◌≡◌, refl, sym, ap, subst, ◌∙◌}
-use mathlib.Core.Logic.{◌⊎◌, ⊎_elim}
+use mathlib.Core.Logic.{◌⊎◌, inl, inr, ⊎_elim}
 use mathlib.Core.Bool.{false}
 use mathlib.Core.List.{List}
 use Prim.Native.Nat.{ℕ, ◌+◌, ◌-◌, ◌*◌, ◌/◌, ◌%◌, ◌<◌, ◌≤◌}
@@ -24,6 +24,12 @@ pub same_memory : {a b : List ℕ} → length a ≡ length b → ((i : ℕ) → 
 same_memory {a} {b} long same = ext_get_or 0 a b long (λ i l. by_cases (ℕ_discrete (get_or a i 0) (get_or b i 0)) (λ e. e) (same i))
 
 -- ---- a run
+pub not-shifted : (d s : ℕ) (m : List ℕ) → Shifted d s 0 0 m m
+not-shifted d s m = record { came = λ i l h. absurd (omega arith); below = λ a h. refl; above = λ a h. refl; long = refl }
+
+pub none-shifted : (d s n : ℕ) (m : List ℕ) → Shifted d s n n m m
+none-shifted d s n m = record { came = λ i l h. absurd (omega arith); below = λ a h. refl; above = λ a h. refl; long = refl }
+
 -- an address that is none of the run's
 pub untouched : {d s lo hi : ℕ} {m m' : List ℕ} → Shifted d s lo hi m m' → (a : ℕ) → ((j : ℕ) → lo ≤ j → j < hi → d + j ≡ a → ⊥) → get_or m' a 0 ≡ get_or m a 0
 untouched {d} {s} {lo} {hi} k a out =
@@ -38,17 +44,44 @@ shifted-once {d} {s} {lo} {hi} {m} {a} {b} f g =
     (λ j l h e. n (ap (λ (k : ℕ). get_or a k 0) (sym e) ∙ f.came j l h ∙ sym (g.came j l h) ∙ ap (λ (k : ℕ). get_or b k 0) e)) in
     untouched f i none ∙ sym (untouched g i none))
 
--- one byte more
-pub up_next : {d s i : ℕ} {m₀ m : List ℕ} → Shifted d s 0 i m₀ m → d + i < length m → ((j : ℕ) → j < i → d + j ≡ s + i → ⊥)
+-- one byte more, at the upper end, or at the lower one
+module _ (d s lo hi i : ℕ) {m₀ m : List ℕ} (k : Shifted d s lo hi m₀ m) (room : d + i < length m) (unread : (j : ℕ) → lo ≤ j → j < hi → d + j ≡ s + i → ⊥) where
+  abbrev next : List ℕ
+  next = set m (d + i) (get_or m (s + i) 0)
+
+  here : get_or next (d + i) 0 ≡ get_or m₀ (s + i) 0
+  here = get_or-set_same m (d + i) (get_or m (s + i) 0) 0 room ∙ untouched k (s + i) unread
+
+  there : (a : ℕ) → (a ≡ d + i → ⊥) → get_or next a 0 ≡ get_or m a 0
+  there a n = get_or-set_other m (d + i) a (get_or m (s + i) 0) 0 n
+
+  came-to : (j : ℕ) → ((lo ≤ j) × (j < hi)) ⊎ (j ≡ i) → get_or next (d + j) 0 ≡ get_or m₀ (s + j) 0
+  came-to j =
+      ⊎_elim
+      (λ r. by_cases (ℕ_discrete j i) (λ e. subst (λ (n : ℕ). get_or next (d + n) 0 ≡ get_or m₀ (s + n) 0) (sym e) here)
+      (λ n. there (d + j) (λ e. n (omega arith)) ∙ k.came j r.0 r.1))
+      (λ e. subst (λ (n : ℕ). get_or next (d + n) 0 ≡ get_or m₀ (s + n) 0) (sym e) here)
+
+  pub up_next : hi ≡ i → lo ≤ i → Shifted d s lo (i + 1) m₀ next
+  up_next e l = record {
+    came = λ j lj h. came-to j (by_cases (ℕ_discrete j i) (λ q. inr q) (λ q. inl (omega arith)));
+    below = λ a h. there a (λ q. omega arith) ∙ k.below a h;
+    above = λ a h. there a (λ q. omega arith) ∙ k.above a (omega arith);
+    long = length-set m (d + i) (get_or m (s + i) 0) ∙ k.long;
+  }
+
+  pub down-next : lo ≡ i + 1 → i < hi → Shifted d s i hi m₀ next
+  down-next e l = record {
+    came = λ j lj h. came-to j (by_cases (ℕ_discrete j i) (λ q. inr q) (λ q. inl (omega arith)));
+    below = λ a h. there a (λ q. omega arith) ∙ k.below a (omega arith);
+    above = λ a h. there a (λ q. omega arith) ∙ k.above a h;
+    long = length-set m (d + i) (get_or m (s + i) 0) ∙ k.long;
+  }
+
+-- the same of a run from its first byte on
+pub up_begun : {d s i : ℕ} {m₀ m : List ℕ} → Shifted d s 0 i m₀ m → d + i < length m → ((j : ℕ) → j < i → d + j ≡ s + i → ⊥)
     → Shifted d s 0 (i + 1) m₀ (set m (d + i) (get_or m (s + i) 0))
-up_next {d} {s} {i} {m₀} {m} k room unread = record {
-  came = λ j l h. by_cases (ℕ_discrete j i)
-      (λ e. rw e (get_or-set_same m (d + i) (get_or m (s + i) 0) 0 room ∙ untouched k (s + i) (λ j l. unread j)))
-      (λ n. get_or-set_other m (d + i) (d + j) (get_or m (s + i) 0) 0 (λ q. n (omega arith)) ∙ k.came j l (omega arith));
-  below = λ a h. get_or-set_other m (d + i) a (get_or m (s + i) 0) 0 (λ q. omega arith) ∙ k.below a h;
-  above = λ a h. get_or-set_other m (d + i) a (get_or m (s + i) 0) 0 (λ q. omega arith) ∙ k.above a (omega arith);
-  long = length-set m (d + i) (get_or m (s + i) 0) ∙ k.long;
-}
+up_begun {d} {s} {i} k room unread = up_next d s 0 i i k room (λ j _ l. unread j l) refl (omega arith)
 
 -- ---- the bytes of a row's pixels are a run
 module _ (s : Surface) (colour : 0 < s.bytes) (x y : ℕ) where

@@ -142,6 +142,18 @@ pub fn run_up(mem: &mut [u8], d: usize, s: usize, n: usize)
     }
 }
 
+// The same, the last one first. A `while`: `copy_within` would make the library for C need a name from outside, `memmove`.
+fn run_down(mem: &mut [u8], d: usize, s: usize, n: usize)
+    requires { Run d s n (length mem.old) × Down d s n }
+    ensures { Shifted d s 0 n mem.old mem.new }
+{
+    let mut i = n;
+    while 0 < i {
+        i -= 1;
+        mem[d + i] = mem[s + i];
+    }
+}
+
 // How many of w pixels of B bytes from d on in one memory are not those from s on in another.
 fn unlike_in<C: Count, const B: u32>(a: &[u8], d: usize, b: &[u8], s: usize, w: usize) -> u32
     requires { (PixelsOn d B w (length a.now) × PixelsOn s B w (length b.now)) × (w ≤ C.most) }
@@ -215,11 +227,10 @@ pub fn move_pixels(mem: &mut [u8], d: usize, s: usize, bytes: u32, w: u32, back:
 {
     let changed = unlike(mem, d, mem, s, bytes, w);
     let n = (w * bytes) as usize;
-    if !back {
+    if back {
+        run_down(mem, d, s, n);
+    } else {
         run_up(mem, d, s, n);
-    } else if 0 < n {
-        // Where there are none, the addresses may lie outside memory.
-        mem.copy_within(s..s + n, d);
     }
     changed
 }
