@@ -362,6 +362,7 @@ fn aim(regs: Regs, word: u32) -> Regs
 }
 
 // The command started with a launch write's word. A host blit takes its words by `feed`.
+#[inline(always)]
 pub fn start(
     regs: Regs,
     pattern: &[u8; 256],
@@ -389,7 +390,11 @@ pub fn launch(
 {
     match Operation::of(regs) {
         Operation::HostBlit => feed(regs, pattern, blit, mem, word, rooms),
-        _ => start(regs, &pattern, blit, mem, word, rooms),
+        _ => {
+            // a copy, made past the question for a host blit: words of data need none
+            let lent = pattern;
+            start(regs, &lent, blit, mem, word, rooms)
+        }
     }
 }
 

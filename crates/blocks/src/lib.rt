@@ -128,6 +128,7 @@ impl Buffers {
     }
 
     // Of any number of them, 256 at a time.
+    #[inline(always)]
     fn unlike_row(&mut self, mem: &[u8], p: Pair) -> u32
         requires { PartOn p.to p.from p.x p.y p.sx p.sy p.w (length mem.now) }
         ensures { result ≡ others p.to p.from mem.now p.x p.y p.sx p.sy p.w }

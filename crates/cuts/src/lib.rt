@@ -115,6 +115,7 @@ pub fn from_bottom(r: Regs) -> bool
 }
 
 #[tactic(auto, using(crate::proofs::CutLaws::clips), unfolding(crate::specs::Cut::copy_cut))]
+#[inline(always)]
 pub fn copy_cut(r: Regs) -> Cut
     ensures { result ≡ copy_cut r }
 {

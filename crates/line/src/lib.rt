@@ -82,10 +82,16 @@ pub fn place_point(l: Line, a: u32, b: u32) -> Point
     requires { (a ≤ longer l) × (b ≤ shorter l) }
     ensures { result ≡ place l a b }
 {
-    let (across, down) = if x_major(l) { (a, b) } else { (b, a) };
-    Point {
-        x: moved(l.x0, l.x1, across),
-        y: moved(l.y0, l.y1, down),
+    if x_major(l) {
+        Point {
+            x: moved(l.x0, l.x1, a),
+            y: moved(l.y0, l.y1, b),
+        }
+    } else {
+        Point {
+            x: moved(l.x0, l.x1, b),
+            y: moved(l.y0, l.y1, a),
+        }
     }
 }
 

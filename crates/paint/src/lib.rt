@@ -185,6 +185,7 @@ pub fn put_value_at(mem: &mut [u8], at: usize, bytes: u32, left: bool, v: u32, n
 
 // A pixel by itself: it is given what pattern, source and target make, or it is left.
 #[tactic(auto, unfolding(crate::specs::Mix::mixed))]
+#[inline(always)]
 pub fn put_source(
     mem: &mut [u8],
     ink: Ink,

@@ -323,6 +323,7 @@ fn data_byte(words: &[u32], o: u32) -> u32
 }
 
 // Row j of a mono blit, a byte of its data at a time; n is the target's bytes per pixel.
+#[inline(always)]
 fn mono_line(
     mem: &mut [u8],
     p: Plain,
@@ -350,6 +351,7 @@ fn mono_line(
 }
 
 // A mono blit from all its words, row by row; n is the target's bytes per pixel.
+#[inline(always)]
 fn mono_blit(mem: &mut [u8], p: Plain, n: u32, feed: Feed, words: &[u32]) -> Tally
     requires { Glyph p feed (length mem.old) (length words.now) × (n ≡ p.target.bytes) }
     ensures { tallied mem.new result ≡ paint p.target (mono_touches p feed (rows (word_in words.now) feed feed.height)) (state mem.old 0 0) }

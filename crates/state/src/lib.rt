@@ -57,7 +57,7 @@ fn decode_pattern(s: &[u8]) -> [u8; 256]
     ensures { result ≡ pattern_in s.now }
 {
     let mut p = [0; 256];
-    p.copy_from_slice(&s[0x8c..]);
+    p.copy_from_slice(&s[0x8c..0x18c]);
     p
 }
 

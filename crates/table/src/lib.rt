@@ -101,6 +101,7 @@ fn source_rows(
 
 // Row 7 of a command that paints what the clip leaves of its target rectangle.
 #[tactic(auto, using(formats::proofs::FormatLaws::target_small))]
+#[inline(always)]
 fn target_row(len: usize, r: Regs, k: Rooms) -> Result<(), Fault>
     ensures { verdict_number result ≡ target_row r len }
 {

@@ -100,6 +100,7 @@ pub fn tint_bytes(mem: &mut [u8], at: usize, n: usize, keep: &[u8], flip: &[u8],
 }
 
 // The w pixels, at most eight, of row y from x on, each of B bytes, by their masks; how many are written.
+#[inline(always)]
 fn tint_across<const B: u32>(
     mem: &mut [u8],
     s: Surface,
@@ -129,6 +130,7 @@ fn tint_across<const B: u32>(
 }
 
 // A row of any width: eight pixels at a time, by the same eight masks each time, and then those that are left.
+#[inline(always)]
 fn tint_run<const B: u32>(mem: &mut [u8], s: Surface, masks: Masks, x: u32, w: u32, y: u32) -> u32
     requires { CanBy s masks (length mem.old) x w y × (B ≡ s.bytes) }
     ensures { Painted s (tinted s masks.entry x (across false x w y)) mem.old mem.new result }
@@ -141,6 +143,7 @@ fn tint_run<const B: u32>(mem: &mut [u8], s: Surface, masks: Masks, x: u32, w: u
 }
 
 // The same of pixels of any format, with a loop for each number of bytes.
+#[inline(always)]
 fn tint_pixels(mem: &mut [u8], s: Surface, masks: Masks, x: u32, w: u32, y: u32) -> u32
     requires { CanBy s masks (length mem.old) x w y }
     ensures { Painted s (tinted s masks.entry x (across false x w y)) mem.old mem.new result }
@@ -154,6 +157,7 @@ fn tint_pixels(mem: &mut [u8], s: Surface, masks: Masks, x: u32, w: u32, y: u32)
 }
 
 // At most 256 of them, after those that n tells of. What stood there is kept in a buffer, so that those that change can be counted.
+#[inline(always)]
 fn tint_part(
     mem: &mut [u8],
     old: &mut [u8],
