@@ -45,24 +45,34 @@ impl Refusal {
 }
 
 impl fmt::Display for Refusal {
+    ghost use Rattle.std.specs.Prelude.{Some};
+    ghost use Rattle.engine.specs.Reasons.{reason};
+
+    ghost output = { λ refusal. Some (reason refusal) };
+
     fn fmt<W: fmt::Write>(&self, f: &mut fmt::Formatter<W>) -> fmt::Result {
-        f.write_str(match self {
-            Refusal::Memory =>
+        match self {
+            Refusal::Memory => f.write_str(
                 "the memory is too long, or not of the length that the engine was opened with",
-            Refusal::Offset => "the offset names no register",
-            Refusal::Waiting =>
+            ),
+            Refusal::Offset => f.write_str("the offset names no register"),
+            Refusal::Waiting => f.write_str(
                 "a host blit waits for its data, and this write is neither launch data nor to command",
-            Refusal::NotBuilt => "the command is not built",
-            Refusal::Format =>
-                "a surface it uses has a format that is not listed, or the conversion is not allowed, \
-                 or a source that is mono, packed or a host blit's is tiled",
-            Refusal::Host =>
-                "host blit: swizzle bits, direction bits or srcXY not 0, or a stride below the row's bytes; \
-                 stretch copy: a source of no width or no height, and a target that has both",
-            Refusal::Off => "a covered pixel, or a source pixel that it needs, is off its surface",
-            Refusal::Meet =>
+            ),
+            Refusal::NotBuilt => f.write_str("the command is not built"),
+            Refusal::Format => f.write_str(
+                "a surface it uses has a format that is not listed, or the conversion is not allowed, or a source that is mono, packed or a host blit's is tiled",
+            ),
+            Refusal::Host => f.write_str(
+                "host blit: swizzle bits, direction bits or srcXY not 0, or a stride below the row's bytes; stretch copy: a source of no width or no height, and a target that has both",
+            ),
+            Refusal::Off => f.write_str(
+                "a covered pixel, or a source pixel that it needs, is off its surface",
+            ),
+            Refusal::Meet => f.write_str(
                 "a screen copy between different surfaces, or a stretch copy, whose spans meet",
-        })
+            ),
+        }
     }
 }
 
@@ -142,15 +152,6 @@ impl Engine {
         self.bank.read(offset)
     }
 
-    fn answered(self, answer: Answer) -> Outcome
-        ensures { result ≡ record { engine = self; answer = answer } }
-    {
-        Outcome {
-            engine: self,
-            answer,
-        }
-    }
-
     // What becomes of the engine by a command that had these registers: refused, it stays.
     fn settle(self, regs: Regs, act: Result<Act, Fault>) -> Outcome
         ensures { result ≡ settled self regs act }
@@ -161,14 +162,20 @@ impl Engine {
                     regs: acts::with_ends(regs, act.ends),
                     ..self.bank
                 };
-                Engine {
+                let engine = Engine {
                     bank,
                     blit: act.blit,
                     ..self
+                };
+                Outcome {
+                    engine,
+                    answer: Ok(act.tally),
                 }
-                .answered(Ok(act.tally))
             }
-            Err(fault) => self.answered(Err(Refusal::from(fault))),
+            Err(fault) => Outcome {
+                engine: self,
+                answer: Err(Refusal::from(fault)),
+            },
         }
     }
 
@@ -195,16 +202,15 @@ impl Engine {
             ..self
         };
         if word / 0x100 % 2 == 1 {
-            let act = acts::carry(
-                next.bank.regs,
-                &self.bank.pattern,
-                next.blit,
-                mem,
-                next.rooms,
-            );
+            // a copy, made in this branch alone: a field that is lent keeps the whole engine in memory
+            let pattern = self.bank.pattern;
+            let act = acts::carry(next.bank.regs, &pattern, next.blit, mem, next.rooms);
             return self.settle(next.bank.regs, act);
         }
-        next.answered(Ok(NOTHING))
+        Outcome {
+            engine: next,
+            answer: Ok(NOTHING),
+        }
     }
 
     #[tactic(auto, unfolding(crate::specs::Step::to_register, crate::specs::Step::stored_in))]
@@ -216,16 +222,22 @@ impl Engine {
             return self.take_command(mem, word);
         }
         if self.blit.waiting {
-            return self.answered(Err(Refusal::Waiting));
+            return Outcome {
+                engine: self,
+                answer: Err(Refusal::Waiting),
+            };
         }
         let bank = self.bank.store(offset, word);
         let rooms = rooms::follow(self.opened as u32, offset, bank.regs, self.rooms);
-        Engine {
+        let engine = Engine {
             bank,
             rooms,
             ..self
+        };
+        Outcome {
+            engine,
+            answer: Ok(NOTHING),
         }
-        .answered(Ok(NOTHING))
     }
 
     #[tactic(auto, unfolding(crate::specs::Step::to_pattern))]
@@ -233,10 +245,16 @@ impl Engine {
         ensures { step result.engine mem.now result.answer ≡ to_pattern self mem.now at word }
     {
         if self.blit.waiting {
-            return self.answered(Err(Refusal::Waiting));
+            return Outcome {
+                engine: self,
+                answer: Err(Refusal::Waiting),
+            };
         }
         let bank = self.bank.store_pattern(at, word);
-        Engine { bank, ..self }.answered(Ok(NOTHING))
+        Outcome {
+            engine: Engine { bank, ..self },
+            answer: Ok(NOTHING),
+        }
     }
 
     // One register write: the engine after it, and the answer.
@@ -246,13 +264,19 @@ impl Engine {
     {
         let len = mem.len();
         if 0x100_0000 < len || len != self.opened {
-            return self.answered(Err(Refusal::Memory));
+            return Outcome {
+                engine: self,
+                answer: Err(Refusal::Memory),
+            };
         }
         match registers::find_place(offset) {
             Place::Register => self.take_register(mem, offset, word),
             Place::Pattern(at) => self.take_pattern(mem, at, word),
             Place::Launch => self.launch(mem, word),
-            Place::Nowhere => self.answered(Err(Refusal::Offset)),
+            Place::Nowhere => Outcome {
+                engine: self,
+                answer: Err(Refusal::Offset),
+            },
         }
     }
 }

@@ -25,4 +25,4 @@ returns-then-word-eq1 c =
 
 pub returns : goal.returns
 unfolding commanded stored_in
-returns c = simp (c.answered.ensures, ne_eqb _ _ c.if-word-eq1.false, c.store.ensures, c.no_blit.ensures)
+returns c = simp (ne_eqb _ _ c.if-word-eq1.false, c.store.ensures, c.no_blit.ensures)
