@@ -127,7 +127,7 @@ impl Buffers {
         runs::unlike(&self.old, 0, &self.new, 0, p.to.bytes, p.w)
     }
 
-    // Of any number of them, 256 at a time.
+    // Of any number of them, 256 at a time. Inline: as a call it does not know that what it copies lies apart, and needs `memmove` from outside the library.
     #[inline(always)]
     fn unlike_row(&mut self, mem: &[u8], p: Pair) -> u32
         requires { PartOn p.to p.from p.x p.y p.sx p.sy p.w (length mem.now) }

@@ -114,6 +114,7 @@ pub fn from_bottom(r: Regs) -> bool
     r.command / 0x8000 % 2 == 1
 }
 
+// The rectangle of a copy, cut by its clip. Inline: as a call it makes small commands take longer.
 #[tactic(auto, using(crate::proofs::CutLaws::clips), unfolding(crate::specs::Cut::copy_cut))]
 #[inline(always)]
 pub fn copy_cut(r: Regs) -> Cut

@@ -197,14 +197,19 @@ module _ {p : Plain} {feed : Feed} {s : ℕ → ℕ} {j : ℕ} {m₀ : List ℕ}
     pub line-room : (k : ℕ) → Room n feed.width → i + k ≤ feed.width → Room r k
     line-room k room fits = room-left room (done-upto now.done) (omega (arith, row-length s feed j 0 i))
 
-    -- k pixels of one byte
-    pub line-takes : {len l : ℕ} → Glyph p feed len l → ((a : ℕ) → s a < 2 ^ 32) → (k : ℕ) {i' : ℕ} {m' : List ℕ} {r' : Tally} → i' ≡ i + k → i < feed.width → i + k ≤ feed.width → k ≤ 8 → (i + k < feed.width → k ≡ 8)
-        → tallied m' r' ≡ paint p.target (byte_touches p (data_byte s (j * feed.step + i / 8)) 0 (feed.x + i - origin) (across false (feed.x + i - origin) k (feed.y + j - origin))) (tallied m r)
+    -- the k pixels from column x of the target on are in memory
+    pub line-on : {l x : ℕ} → Glyph p feed (length m₀) l → (k : ℕ) → x ≡ feed.x + i - origin → i + k ≤ feed.width → j < feed.height → (q : ℕ) → x ≤ q → q < x + k → OnColour p.target (length m) q (feed.y + j - origin)
+    line-on g k column fits below q low high = rw (done-long now.done) (glyph-on g j q (omega arith) (omega (arith, column, fits, g.left)) below)
+
+    -- k pixels of one byte: byte o of the data, from column x of the target on
+    pub line-takes : {len l : ℕ} → Glyph p feed len l → ((a : ℕ) → s a < 2 ^ 32) → (k : ℕ) {i' o x : ℕ} {m' : List ℕ} {r' : Tally} → i' ≡ i + k → o ≡ j * feed.step + i / 8 → x ≡ feed.x + i - origin
+        → i < feed.width → i + k ≤ feed.width → k ≤ 8 → (i + k < feed.width → k ≡ 8)
+        → tallied m' r' ≡ paint p.target (byte_touches p (data_byte s o) 0 x (across false x k (feed.y + j - origin))) (tallied m r)
         → LineDone p feed s j m₀ n i' m' r'
-    line-takes g small k next more fits few all put = rw next record {
+    line-takes g small k next byte column more fits few all put = rw next record {
       done = done_more now.done (row_from s feed j i k)
           (ap (λ (a : ℕ). row_from s feed j 0 i ++ row_from s feed j a k) (sym (zero-add i)) ∙ row-append s feed (record { held = g.rows; words = small }) j 0 i k)
-          (put ∙ ap (λ (ts : List Touch). paint p.target ts (tallied m r)) (byte-touched s feed g.mono p j i k (now.starts more) few g.left));
+          (rw (byte, column) at put ∙ ap (λ (ts : List Touch). paint p.target ts (tallied m r)) (byte-touched s feed g.mono p j i k (now.starts more) few g.left));
       within = fits;
       starts = λ l. omega (arith, all l, now.starts more);
     }

@@ -10,14 +10,6 @@ use Rattle.table.specs.Fault.{fault_number, verdict_number}
 unfoldable pub fault_of : ℕ → Fault
 fault_of n = cond (eqb n 4) NotBuilt (cond (eqb n 5) Format (cond (eqb n 6) Host (cond (eqb n 7) Off Meet)))
 
-pub fault-back : (f : Fault) → fault_of (fault_number f) ≡ f
-unfolding fault_of
-fault-back NotBuilt = refl
-fault-back Format = refl
-fault-back Host = refl
-fault-back Off = refl
-fault-back Meet = refl
-
 -- a verdict out of its number
 verdict_of : ℕ → Result (Unit {0}) Fault
 verdict_of n = cond (eqb n 0) (Ok tt) (Err (fault_of n))

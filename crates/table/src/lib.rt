@@ -99,7 +99,7 @@ fn source_rows(
     Ok(())
 }
 
-// Row 7 of a command that paints what the clip leaves of its target rectangle.
+// Row 7 of a command that paints what the clip leaves of its target rectangle. Inline: as a call it makes small commands take longer.
 #[tactic(auto, using(formats::proofs::FormatLaws::target_small))]
 #[inline(always)]
 fn target_row(len: usize, r: Regs, k: Rooms) -> Result<(), Fault>

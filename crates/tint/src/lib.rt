@@ -99,7 +99,7 @@ pub fn tint_bytes(mem: &mut [u8], at: usize, n: usize, keep: &[u8], flip: &[u8],
     }
 }
 
-// The w pixels, at most eight, of row y from x on, each of B bytes, by their masks; how many are written.
+// The w pixels, at most eight, of row y from x on, each of B bytes, by their masks; how many are written. Inline: see `tint_part`.
 #[inline(always)]
 fn tint_across<const B: u32>(
     mem: &mut [u8],
@@ -129,7 +129,7 @@ fn tint_across<const B: u32>(
     more
 }
 
-// A row of any width: eight pixels at a time, by the same eight masks each time, and then those that are left.
+// A row of any width: eight pixels at a time, by the same eight masks each time, and then those that are left. Inline: see `tint_part`.
 #[inline(always)]
 fn tint_run<const B: u32>(mem: &mut [u8], s: Surface, masks: Masks, x: u32, w: u32, y: u32) -> u32
     requires { CanBy s masks (length mem.old) x w y × (B ≡ s.bytes) }
@@ -142,7 +142,7 @@ fn tint_run<const B: u32>(mem: &mut [u8], s: Surface, masks: Masks, x: u32, w: u
     r + tint_across::<B>(mem, s, masks, x + w / 8 * 8, w % 8, y)
 }
 
-// The same of pixels of any format, with a loop for each number of bytes.
+// The same of pixels of any format, with a loop for each number of bytes. Inline: see `tint_part`.
 #[inline(always)]
 fn tint_pixels(mem: &mut [u8], s: Surface, masks: Masks, x: u32, w: u32, y: u32) -> u32
     requires { CanBy s masks (length mem.old) x w y }
@@ -157,6 +157,7 @@ fn tint_pixels(mem: &mut [u8], s: Surface, masks: Masks, x: u32, w: u32, y: u32)
 }
 
 // At most 256 of them, after those that n tells of. What stood there is kept in a buffer, so that those that change can be counted.
+// Inline: as a call it does not know that its masks lie apart from the memory, and fills in rows take 2.2 to 7.2 times as long.
 #[inline(always)]
 fn tint_part(
     mem: &mut [u8],

@@ -9,7 +9,7 @@ use native.Mathlib.Decide.{ℕ_discrete, dec_lt}
 use borrow.Author.Rules.{rules}
 use borrow.Rule.Slice.PartMut.{put_mid}
 use lib.ListN.{length, get_or, take, drop}
-use Rattle.std.proofs.lemmas.List.{places, length-take, length-drop, get_or-take}
+use Rattle.std.proofs.lemmas.List.{places, length-take, length-drop}
 use Rattle.surface.proofs.Lists.{by_cases}
 use Rattle.wash.specs.Wash.{Repeated, Widened}
 
@@ -24,10 +24,9 @@ part-below a k j xs ys l u = search (rules, places)
 part-inside : (a k j : ℕ) (xs ys : List ℕ) → j < length ys → a ≤ length xs → get_or (put_mid a k xs ys) (a + j) 0 ≡ get_or ys j 0
 part-inside a k j xs ys l u = search (rules, places)
 
-pub repeated_more : {masks m ys : List ℕ} {i n d' : ℕ} (k d : ℕ) → Repeated masks i m → ys ≡ take d' masks → i % length masks ≡ 0 → k ≤ length masks → i + k ≡ n → d' ≡ k
+pub repeated_more : {masks m : List ℕ} {i n : ℕ} (k d : ℕ) (ys : List ℕ) → Repeated masks i m → ((q : ℕ) → q < k → get_or ys q 0 ≡ get_or masks q 0) → k ≤ length ys → i % length masks ≡ 0 → k ≤ length masks → i + k ≡ n
     → n ≤ length m → Repeated masks n (put_mid i d m ys)
-repeated_more {masks} {m} {ys} {i} {n} {d'} k d before e whole short end same room =
-    let long = simp length-take at (ap length e) in
+repeated_more {masks} {m} {i} {n} k d ys before part long whole short end room =
     record {
       bytes = λ j l.
           by_cases (dec_lt j i)
@@ -37,7 +36,7 @@ repeated_more {masks} {m} {ys} {i} {n} {d'} k d before e whole short end same ro
           let on : j ≡ i + q = omega arith in
           let place : j % length masks ≡ q =
           ap (λ (x : ℕ). x % length masks) on ∙ sym (mod-add-mod i (length masks) q) ∙ ap (λ (x : ℕ). (x + q) % length masks) whole ∙ rw zero-add (mod-eq_of_lt (omega arith)) in
-          rw place (ap (λ (x : ℕ). get_or (put_mid i d m ys) x 0) on ∙ part-inside i d q m ys (omega (arith, long)) (omega arith) ∙ ap (λ (x : List ℕ). get_or x q 0) e ∙ get_or-take d' masks q 0 (omega arith)));
+          rw place (ap (λ (x : ℕ). get_or (put_mid i d m ys) x 0) on ∙ part-inside i d q m ys (omega arith) (omega arith) ∙ part q (omega arith)));
     }
 
 -- ---- one row more
