@@ -346,7 +346,7 @@ fn mono_line(
         r = bits::put_run(mem, p, n, byte, 0, feed.x + i - 16384, y, 8, r);
         i += 8;
     }
-    // fewer than eight, as the remainder tells the compiler
+    // Fewer than eight: `% 8` changes nothing, and tells the compiler so.
     let rest = (feed.width - i) % 8;
     if rest != 0 {
         let byte = data_byte(words, from + i / 8);
