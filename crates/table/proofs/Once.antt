@@ -4,7 +4,7 @@ use Rattle.std.proofs.Common.{◌≡◌, ℕ, cond, refl, sym, ap, ◌∙◌}
 use Rattle.std.specs.Prelude.{eqb, Result, Ok, Err}
 use Rattle.table.specs.declared.Fault.{Fault}
 use Rattle.table.specs.declared.Fault.TheVariants.{NotBuilt, Format, Host, Off, Meet}
-use Rattle.table.specs.Fault.{fault_number, verdict_number}
+use Rattle.table.specs.Fault.{verdict_number}
 
 -- the fault of a row
 unfoldable pub fault_of : ℕ → Fault
